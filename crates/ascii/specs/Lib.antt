@@ -1,0 +1,2 @@
+-- The definitions that the contracts of ascii cite.
+pub mod Bytes

@@ -1,0 +1,142 @@
+// Classes of bytes, one function for each.
+ghost use mathlib.Core.Path.{_≡_};
+ghost use Rattle.ascii.specs.Bytes.{isLetter, isDigit, isAlnum, isNameStart, isNamePart, isKeyStart, isSpace, isPunct, isQuote, isPlain, isBlank, isIndent, isTail};
+
+// Which bytes part tokens: spaces, or in a line's blocks also CR and LF.
+pub enum Mode {
+    Strict,
+    Loose,
+}
+
+// An ASCII letter.
+pub fn is_letter(b: u8) -> bool
+    ensures { λ r. ⌜ r ≡ isLetter b ⌝ }
+{
+    match b {
+        b'A'..=b'Z' | b'a'..=b'z' => true,
+        _ => false,
+    }
+}
+
+// An ASCII digit.
+pub fn is_digit(b: u8) -> bool
+    ensures { λ r. ⌜ r ≡ isDigit b ⌝ }
+{
+    match b {
+        b'0'..=b'9' => true,
+        _ => false,
+    }
+}
+
+// An ASCII letter or digit: a byte of a subtag.
+pub fn is_alnum(b: u8) -> bool
+    ensures { λ r. ⌜ r ≡ isAlnum b ⌝ }
+{
+    match b {
+        b'0'..=b'9' | b'A'..=b'Z' | b'a'..=b'z' => true,
+        _ => false,
+    }
+}
+
+// The first byte of a name behind `#` or `.`.
+pub fn is_css_ident_start(b: u8) -> bool
+    ensures { λ r. ⌜ r ≡ isNameStart b ⌝ }
+{
+    match b {
+        b'0'..=b'9' | b'A'..=b'Z' | b'_' | b'a'..=b'z' => true,
+        _ => false,
+    }
+}
+
+// A later byte of a name or a key.
+pub fn is_attr_ident_part(b: u8) -> bool
+    ensures { λ r. ⌜ r ≡ isNamePart b ⌝ }
+{
+    match b {
+        b'-' | b'0'..=b'9' | b'A'..=b'Z' | b'_' | b'a'..=b'z' => true,
+        _ => false,
+    }
+}
+
+// The first byte of a key.
+pub fn is_attr_ident_start(b: u8) -> bool
+    ensures { λ r. ⌜ r ≡ isKeyStart b ⌝ }
+{
+    match b {
+        b'A'..=b'Z' | b'_' | b'a'..=b'z' => true,
+        _ => false,
+    }
+}
+
+// One of the five ASCII whitespace bytes: what trimming drops and class values are split at.
+pub fn is_space(b: u8) -> bool
+    ensures { λ r. ⌜ r ≡ isSpace b ⌝ }
+{
+    match b {
+        b'\t' | b'\n' | 12 | b'\r' | b' ' => true,
+        _ => false,
+    }
+}
+
+// ASCII punctuation: what a backslash can escape.
+pub fn is_punct(b: u8) -> bool
+    ensures { λ r. ⌜ r ≡ isPunct b ⌝ }
+{
+    match b {
+        b'!'..=b'/' | b':'..=b'@' | b'['..=b'`' | b'{'..=b'~' => true,
+        _ => false,
+    }
+}
+
+// A quote of either kind.
+pub fn is_quote(b: u8) -> bool
+    ensures { λ r. ⌜ r ≡ isQuote b ⌝ }
+{
+    match b {
+        b'"' | b'\'' => true,
+        _ => false,
+    }
+}
+
+// A byte of an unquoted value.
+pub fn is_plain(b: u8) -> bool
+    ensures { λ r. ⌜ r ≡ isPlain b ⌝ }
+{
+    match b {
+        b'\t' | b'\n' | b'\r' | b' ' | b'"' | b'\'' | b'\\' | b'|' | b'}' => false,
+        _ => true,
+    }
+}
+
+// A byte that parts tokens.
+pub fn is_blank(mode: Mode, b: u8) -> bool
+    ensures { λ r. ⌜ r ≡ isBlank mode b ⌝ }
+{
+    match mode {
+        Mode::Strict => b == b' ',
+        Mode::Loose => match b {
+            b'\n' | b'\r' | b' ' => true,
+            _ => false,
+        },
+    }
+}
+
+// A byte that indents a line.
+pub fn is_indent(b: u8) -> bool
+    ensures { λ r. ⌜ r ≡ isIndent b ⌝ }
+{
+    match b {
+        b'\t' | b' ' => true,
+        _ => false,
+    }
+}
+
+// A byte that goes on a character of UTF-8.
+pub fn is_tail(b: u8) -> bool
+    ensures { λ r. ⌜ r ≡ isTail b ⌝ }
+{
+    match b {
+        0x80..=0xBF => true,
+        _ => false,
+    }
+}

@@ -1,0 +1,22 @@
+// The two checks with which every entry begins that reads a whole text.
+ghost use mathlib.Core.Path.{_≡_};
+ghost use Rattle.checks.specs.Check.{checkOf};
+use refusals::Refusal;
+
+pub enum Check {
+    Passed,
+    Refused(Refusal),
+}
+
+// Whether the text is short enough and well-formed UTF-8.
+pub fn check_text(text: &[u8]) -> Check
+    ensures { λ r. ⌜ r ≡ checkOf (now (text .entry)) ⌝ }
+{
+    if refusals::MAX_TEXT < text.len() {
+        return Check::Refused(Refusal::TextTooLong);
+    }
+    if !utf8::is_utf8(text) {
+        return Check::Refused(Refusal::NotUtf8);
+    }
+    Check::Passed
+}

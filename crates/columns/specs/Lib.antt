@@ -1,0 +1,2 @@
+-- The definitions that the contracts of columns cite.
+pub mod Columns

@@ -1,0 +1,3 @@
+-- The definitions that the contracts of escapes cite.
+pub mod Unescape
+pub mod Rules

@@ -1,0 +1,4 @@
+-- The laws about trimming and lines that later crates cite.
+pub mod Trim
+pub mod First
+pub mod Lines

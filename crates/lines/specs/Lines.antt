@@ -1,0 +1,89 @@
+-- "Lines end at LF; a CR just before that LF is dropped. Text after the last LF is a line if it isn't empty. A line number counts from 1."
+use Prim.Native.Nat.{ℕ, zero, suc, _+_, _-_, min}
+use mathlib.Core.Bool.{Bool, true, false, cond, _&&_}
+use mathlib.Core.List.{List, [], _∷_}
+use lib.Dec.{eqb, ltb}
+use lib.ListN.{length, drop}
+use lib.Seq.{slice}
+use Rattle.refusals.specs.Numbers.{numberOf}
+use Rattle.refusals.specs.declared.Refusal.the-variants.{NothingThere}
+use Rattle.lines.specs.declared.Range.{Range}
+use Rattle.lines.specs.declared.Line.{Line}
+use Rattle.lines.specs.declared.Line.the-variants.{Missing, At}
+use Rattle.lines.specs.declared.LineEnd.{LineEnd}
+
+-- ---- the lines of a text, as bytes
+
+-- s begins with an LF
+abbrev pub beforeLf : List ℕ → Bool
+beforeLf [] = false
+beforeLf (b ∷ s) = eqb b 10
+
+-- A byte in front of the first line. Where none follows it begins one: "Text after the last LF is a line if it isn't empty."
+abbrev pub onto : ℕ → List (List ℕ) → List (List ℕ)
+onto b [] = (b ∷ []) ∷ []
+onto b (l ∷ ls) = (b ∷ l) ∷ ls
+
+abbrev pub onLine : Bool → Bool → ℕ → List (List ℕ) → List (List ℕ)
+-- an LF: a line ends here, to which the bytes before are yet to come
+onLine true cr b rest = [] ∷ rest
+-- a CR just before an LF is dropped
+onLine false true b rest = rest
+onLine false false b rest = onto b rest
+
+-- is this byte a CR, with an LF behind it
+abbrev pub isDropped : ℕ → List ℕ → Bool
+isDropped b s = eqb b 13 && beforeLf s
+
+unfoldable pub lines : List ℕ → List (List ℕ)
+lines [] = []
+lines (b ∷ s) = onLine (eqb b 10) (isDropped b s) b (lines s)
+
+-- ---- the same by places
+
+-- how many bytes stand before the first LF
+unfoldable pub eol : List ℕ → ℕ
+eol [] = 0
+eol (b ∷ s) = cond (eqb b 10) 0 (suc (eol s))
+
+abbrev pub firstOf : List (List ℕ) → List ℕ
+firstOf [] = []
+firstOf (l ∷ ls) = l
+
+-- The line that begins at `at`: it is as long as the first line of the text from there on, and the next begins behind its LF, or at the
+-- text's end. Both are `at` where the text has no byte there.
+unfoldable pub lineFrom : List ℕ → ℕ → LineEnd
+lineFrom t at = record { to = at + length (firstOf (lines (drop at t))); next = at + min (suc (eol (drop at t))) (length (drop at t)) }
+
+-- The lines from the one that begins at `from` on, where the text goes on with the list at place `at`; cr: a CR of the line stands just
+-- before that place, which at a line's start there is not. A line's bytes lie from its start up to its LF, or its CR LF, or the text's end.
+unfoldable pub rangesFrom : ℕ → Bool → ℕ → List ℕ → List Range
+rangesFrom from cr at [] = cond (ltb from at) (record { from = from; to = at } ∷ []) []
+rangesFrom from cr at (b ∷ s) =
+    cond (eqb b 10) (record { from = from; to = cond cr (at - 1) at } ∷ rangesFrom (suc at) false (suc at) s)
+    (rangesFrom from (eqb b 13) (suc at) s)
+
+-- where the lines of a text lie
+unfoldable pub ranges : List ℕ → List Range
+ranges t = rangesFrom 0 false 0 t
+
+-- the bytes of a range of a text
+abbrev pub bytesOf : List ℕ → Range → List ℕ
+bytesOf t r = slice (r .from) (r .to) t
+
+-- "A line number counts from 1.": line 0 and a line past the last are missing
+abbrev pub pickOr : ℕ → Range → (ℕ → Line) → Line
+pickOr zero l rest = Missing
+pickOr (suc n) l rest = cond (eqb n 0) (At l) (rest n)
+
+unfoldable pub pick : ℕ → List Range → Line
+pick n [] = Missing
+pick n (l ∷ ls) = pickOr n l (λ k. pick k ls)
+
+unfoldable pub lineOf : ℕ → List ℕ → Line
+lineOf n t = pick n (ranges t)
+
+-- "no such line": the number of the refusal where a line is missing, 0 where it is there
+abbrev pub lineNo : Line → ℕ
+lineNo Missing = numberOf NothingThere
+lineNo (At r) = 0

@@ -1,0 +1,6 @@
+-- The laws about lists that every crate cites.
+pub mod Steady
+pub mod Single
+pub mod Scan
+pub mod Same
+pub mod Parts

@@ -1,0 +1,2 @@
+-- The definitions that the contracts of lists cite.
+pub mod Lists

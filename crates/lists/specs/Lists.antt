@@ -1,0 +1,32 @@
+-- Lists of bytes: the few words that the other definitions are written in.
+use Prim.Native.Nat.{ℕ, suc}
+use mathlib.Core.Bool.{Bool, true, false, cond, _&&_, _||_}
+use mathlib.Core.List.{List, [], _∷_}
+use lib.Dec.{eqb}
+
+-- the test passes at each byte
+unfoldable pub all : (ℕ → Bool) → List ℕ → Bool
+all f [] = true
+all f (a ∷ s) = f a && all f s
+
+-- the first test passes at the first byte, which is there, and the second at each later one
+unfoldable pub headed : (ℕ → Bool) → (ℕ → Bool) → List ℕ → Bool
+headed f g [] = false
+headed f g (a ∷ s) = f a && all g s
+
+-- how many bytes at the front pass the test
+unfoldable pub run : (ℕ → Bool) → List ℕ → ℕ
+run f [] = 0
+run f (a ∷ s) = cond (f a) (suc (run f s)) 0
+
+-- b is one of the bytes s
+unfoldable pub isIn : List ℕ → ℕ → Bool
+isIn [] b = false
+isIn (a ∷ s) b = eqb b a || isIn s b
+
+-- two byte strings are the same, byte for byte
+unfoldable pub same : List ℕ → List ℕ → Bool
+same [] [] = true
+same [] (b ∷ t) = false
+same (a ∷ s) [] = false
+same (a ∷ s) (b ∷ t) = eqb a b && same s t

@@ -1,0 +1,1216 @@
+//! Prints request lines, the same ones for the same words on the command line.
+//!
+//!     generate random FAMILIES SEED FROM COUNT      requests FROM to FROM + COUNT of an endless list
+//!     generate exhaustive FAMILY LENGTH FROM COUNT  all strings of up to LENGTH atoms, in every request of the family
+//!     generate size FAMILY LENGTH                   how many requests that is
+//!
+//! FAMILIES are names parted by commas: leaves, brace, lines, refused, merge, sheet; `all` stands for these six. The
+//! family `errors`, which is in no `all`, damages the request lines themselves.
+//! Each request is made from the seed and its own number, so any part of the list can be made again.
+
+use std::io::{self, BufWriter, Write};
+
+const FAMILIES: [&str; 6] = ["leaves", "brace", "lines", "refused", "merge", "sheet"];
+const TEXT_LIMIT: usize = 65_535;
+
+// ---- Chance ----
+
+/// xorshift64*, started from a mixed seed.
+struct Rng(u64);
+
+impl Rng {
+    fn new(seed: u64, number: u64) -> Rng {
+        // splitmix64 spreads neighbouring seeds and numbers apart.
+        let mut z = seed.wrapping_mul(0x9E37_79B9_7F4A_7C15) ^ number.wrapping_add(1).wrapping_mul(0xD1B5_4A32_D192_ED03);
+        z = (z ^ (z >> 30)).wrapping_mul(0xBF58_476D_1CE4_E5B9);
+        z = (z ^ (z >> 27)).wrapping_mul(0x94D0_49BB_1331_11EB);
+        Rng((z ^ (z >> 31)) | 1)
+    }
+    fn next(&mut self) -> u64 {
+        self.0 ^= self.0 >> 12;
+        self.0 ^= self.0 << 25;
+        self.0 ^= self.0 >> 27;
+        self.0.wrapping_mul(0x2545_F491_4F6C_DD1D)
+    }
+    fn below(&mut self, n: usize) -> usize {
+        ((self.next() >> 33) % n as u64) as usize
+    }
+    fn between(&mut self, low: usize, high: usize) -> usize {
+        low + self.below(high - low + 1)
+    }
+    /// True once in `n` times.
+    fn once_in(&mut self, n: usize) -> bool {
+        self.below(n) == 0
+    }
+    fn percent(&mut self, n: usize) -> bool {
+        self.below(100) < n
+    }
+    fn pick<'a, T: ?Sized>(&mut self, list: &[&'a T]) -> &'a T {
+        list[self.below(list.len())]
+    }
+    /// One of the entries, each as often as its weight says.
+    fn weighted(&mut self, weights: &[usize]) -> usize {
+        let mut at = self.below(weights.iter().sum());
+        for (n, &weight) in weights.iter().enumerate() {
+            if at < weight {
+                return n;
+            }
+            at -= weight;
+        }
+        unreachable!()
+    }
+}
+
+// ---- Pieces of blocks ----
+
+const NAMES: &[&str] = &[
+    "a", "b", "c", "k", "x", "y", "id", "class", "lang", "side", "wheel", "k1", "k2", "A", "Z9", "a-b", "data-x", "_a", "__",
+    "a_", "a-", "Id", "CLASS", "ids", "clas", "lan",
+];
+const ODD_NAMES: &[&str] = &["", "-a", "1a", "9", "-", "é", "aé", "a.b", "a#b", "a:b", "a{", "a%", "\u{a0}", "K", "ſ", "a\u{b}"];
+const TAGS: &[&str] = &["", "en", "de-DE", "abcdefgh", "zh-Hant-TW", "1", "x-12345678-9", "A1b2-c", "a-b-c-d"];
+const ODD_TAGS: &[&str] = &["abcdefghi", "a-", "-a", "-", "a--b", "de_DE", "a.b", "é", "en=x", "abcdefgh-123456789", "a=\"b\""];
+const QUOTED: &[&str] = &[
+    "a", "b", "1", " ", "  ", "b c", "}", "{", "}{", "{}", "\\\\", "\\\"", "\\'", "\\a", "\\}", "\\ ", "\t", "\r", "\u{c}",
+    "\u{b}", "é", "€", "😀", "=", "|", "#", ".", "\\é", "\\\t", "\u{a0}", "\u{85}", "\u{3000}", "\u{feff}", "%", "%}", "\\_",
+    "\\\\_", "\u{7f}", "\0",
+];
+const UNQUOTED: &[&str] = &[
+    "a", "b", "1", "x1", "é", "€", "😀", "{", "=", "==", "#", ".", ":", "\u{c}", "\u{b}", "\u{a0}", "\u{85}", "\u{3000}", "-",
+    "%", "[", "/", "&", "<", "\0", "\u{7f}", "\u{feff}", "_", "a\u{c}b",
+];
+const ODD_UNQUOTED: &[&str] = &["|", "'", "\"", "\\", "}", "\\\"", "a\"b\"", "\\}"];
+/// Bytes that mean something somewhere, for damage.
+const SPECIAL: &[&str] = &[
+    "{", "}", "}{", "\"", "'", "\\", " ", "\t", "\n", "\r", "\r\n", "\u{c}", "\u{b}", "#", ".", ":", "=", "|", "-", "_", "%", "%}",
+    "{%", "a", "1", "é", "😀", "\0", "\u{a0}", "\u{85}", "\u{feff}",
+];
+const PROSE: &[&str] = &["text", "a b", "", " ", "\t", "x}", "x{", "%}", "a %}", "it's", "\"q", "- item", "é€", "# h", "{", "}", "{%", "\u{c}", "\r"];
+
+/// Every kind of broken UTF-8, and the good sequences that stand next to them.
+const BROKEN: &[&[u8]] = &[
+    b"\xC0\x80", b"\xC1\xBF", b"\xE0\x80\x80", b"\xE0\x9F\xBF", b"\xF0\x80\x80\x80", b"\xF0\x8F\xBF\xBF", // overlong
+    b"\xED\xA0\x80", b"\xED\xBF\xBF", b"\xED\xA0\xBD\xED\xB8\x80", // surrogates
+    b"\xC2", b"\xDF", b"\xE2\x82", b"\xE2", b"\xF0\x9F\x98", b"\xF0\x9F", b"\xF0", // cut short
+    b"\xC2 ", b"\xE2\x82 ", b"\xF0\x9F\x98 ", b"\xE2\xC2\x80", b"\xF0\x9F\xC2\x80", b"\xC2}", b"\xE2\x82\"", b"\xC2\\", // cut by a character
+    b"\x80", b"\xBF", b"\xC2\x80\x80", b"a\x80", // stray continuation
+    b"\xF4\x90\x80\x80", b"\xF4\xBF\xBF\xBF", b"\xF5\x80\x80\x80", b"\xF7\xBF\xBF\xBF", // above 10FFFF
+    b"\xF8\x88\x80\x80\x80", b"\xFC\x84\x80\x80\x80\x80", b"\xFE", b"\xFF", b"\xFD",
+];
+const GOOD_EDGES: &[&[u8]] = &[
+    b"\xC2\x80", b"\xDF\xBF", b"\xE0\xA0\x80", b"\xED\x9F\xBF", b"\xEE\x80\x80", b"\xEF\xBF\xBF", b"\xF0\x90\x80\x80", b"\xF4\x8F\xBF\xBF",
+    b"\xF3\xBF\xBF\xBF", b"\xE1\x80\x80", b"\xEC\xBF\xBF",
+];
+
+fn name(rng: &mut Rng) -> String {
+    match rng.weighted(&[70, 20, 3]) {
+        0 => rng.pick(NAMES).to_string(),
+        1 => {
+            let first = b"abcxyzABCXYZ_";
+            let later = b"abcxyzABCXYZ_-0189";
+            let mut out = String::new();
+            out.push(first[rng.below(first.len())] as char);
+            for _ in 0..rng.below(6) {
+                out.push(later[rng.below(later.len())] as char);
+            }
+            out
+        }
+        _ => rng.pick(ODD_NAMES).to_string(),
+    }
+}
+
+fn tag(rng: &mut Rng) -> String {
+    match rng.weighted(&[70, 20, 10]) {
+        0 => rng.pick(TAGS).to_string(),
+        1 => {
+            let subtags: Vec<String> = (0..rng.between(1, 3))
+                .map(|_| (0..rng.between(1, 9)).map(|_| b"abzABZ019"[rng.below(9)] as char).collect())
+                .collect();
+            subtags.join("-")
+        }
+        _ => rng.pick(ODD_TAGS).to_string(),
+    }
+}
+
+fn quoted(rng: &mut Rng) -> String {
+    let quote = rng.pick(&["\"", "\"", "'"]);
+    let mut out = quote.to_string();
+    for _ in 0..rng.weighted(&[15, 40, 25, 12, 8]) {
+        let piece = rng.pick(QUOTED);
+        out.push_str(piece);
+        if rng.once_in(12) {
+            // The other kind of quote needs no backslash.
+            out.push_str(if quote == "'" { "\"" } else { "'" });
+        }
+    }
+    match rng.weighted(&[96, 2, 1, 1]) {
+        0 => out.push_str(quote),
+        1 => {}
+        2 => out.push_str(&format!("{quote}b")),
+        _ => out.push_str(&format!("{quote}{quote}")),
+    }
+    out
+}
+
+fn unquoted(rng: &mut Rng) -> String {
+    let mut out = String::new();
+    for _ in 0..rng.weighted(&[2, 60, 25, 13]) {
+        out.push_str(if rng.once_in(60) { rng.pick(ODD_UNQUOTED) } else { rng.pick(UNQUOTED) });
+    }
+    out
+}
+
+fn value(rng: &mut Rng) -> String {
+    if rng.percent(55) {
+        quoted(rng)
+    } else {
+        unquoted(rng)
+    }
+}
+
+fn token(rng: &mut Rng) -> String {
+    match rng.weighted(&[20, 9, 34, 12, 7, 8, 4, 3, 2, 1]) {
+        0 => format!(".{}", name(rng)),
+        1 => format!("#{}", name(rng)),
+        2 => format!("{}={}", name(rng), value(rng)),
+        3 => name(rng),
+        4 => format!(":{}", tag(rng)),
+        5 => format!("class={}", value(rng)),
+        6 => format!("id={}", value(rng)),
+        7 => format!("lang={}", value(rng)),
+        8 => rng.pick(&["id", "class", "lang", "class=\"a b\"", "class=\" \"", "class=''", "class=a\u{c}b", "class=\"\\\"a\\ \\b\""]).to_string(),
+        _ => rng.pick(SPECIAL).to_string(),
+    }
+}
+
+fn separator(rng: &mut Rng) -> &'static str {
+    match rng.weighted(&[180, 8, 3, 2, 2, 2, 1, 1, 1]) {
+        0 => " ",
+        1 => "  ",
+        2 => "\r",
+        3 => "\n",
+        4 => "\t",
+        5 => "",
+        6 => "\u{c}",
+        7 => "\u{b}",
+        _ => "\u{a0}",
+    }
+}
+
+/// The tokens of a block's inside; now and then as many classes or keys as stand around a limit.
+fn tokens(rng: &mut Rng) -> Vec<String> {
+    if rng.once_in(60) {
+        return crowd(rng);
+    }
+    (0..rng.weighted(&[2, 35, 30, 18, 10, 5])).map(|_| token(rng)).collect()
+}
+
+/// 31 to 34 classes or keys, spelled in several ways.
+fn crowd(rng: &mut Rng) -> Vec<String> {
+    let count = rng.between(31, 34);
+    let mut out: Vec<String> = match rng.below(6) {
+        0 => (0..count).map(|n| format!(".c{n}")).collect(),
+        1 => (0..count).map(|n| format!("k{n}=v")).collect(),
+        2 => (0..count).map(|n| format!("k{n}")).collect(),
+        3 => vec![format!("class=\"{}\"", (0..count).map(|n| format!("c{n}")).collect::<Vec<_>>().join(rng.pick(&[" ", "\t", "\u{c}", "  "])))],
+        4 => {
+            // Both at once.
+            let keys = rng.between(31, 34);
+            (0..count).map(|n| format!(".c{n}")).chain((0..keys).map(|n| format!("k{n}=\"v\""))).collect()
+        }
+        // Repeated classes count each time, repeated keys once.
+        _ => (0..count).map(|_| ".a".to_string()).chain((0..count).map(|n| format!("k{}=1", n % 31))).collect(),
+    };
+    if rng.once_in(3) {
+        out.push(":en".to_string());
+    }
+    if rng.once_in(3) {
+        out.push("lang=x".to_string());
+    }
+    if rng.once_in(3) {
+        out.insert(0, "#i".to_string());
+    }
+    if rng.once_in(6) {
+        out.push(token(rng));
+    }
+    out
+}
+
+fn payload(rng: &mut Rng) -> String {
+    let mut out = String::new();
+    if rng.once_in(15) {
+        out.push_str(separator(rng));
+    }
+    for (n, token) in tokens(rng).iter().enumerate() {
+        if n > 0 {
+            out.push_str(separator(rng));
+        }
+        out.push_str(token);
+    }
+    if rng.once_in(15) {
+        out.push_str(separator(rng));
+    }
+    out
+}
+
+fn block(rng: &mut Rng) -> String {
+    format!("{{{}}}", payload(rng))
+}
+
+/// Blocks back to back.
+fn chain(rng: &mut Rng) -> String {
+    if rng.once_in(200) {
+        // An overflow in the first block and a fault in the last.
+        return format!("{{{}}}{}", crowd(rng).join(" "), block(rng));
+    }
+    let mut out = block(rng);
+    for _ in 0..rng.weighted(&[60, 28, 12]) {
+        if rng.once_in(40) {
+            out.push_str(rng.pick(SPECIAL));
+        }
+        out.push_str(&block(rng));
+    }
+    out
+}
+
+/// Damages a text in one or two places, about once in `n` times.
+fn damage(rng: &mut Rng, text: &mut Vec<u8>, n: usize) {
+    if !rng.once_in(n) {
+        return;
+    }
+    for _ in 0..rng.between(1, 2) {
+        let at = rng.below(text.len() + 1);
+        let end = (at + rng.between(1, 3)).min(text.len());
+        match rng.weighted(&[25, 30, 20, 8, 8, 4, 5]) {
+            0 => drop(text.drain(at..end.min(at + 1))),
+            1 => drop(text.splice(at..at, rng.pick(SPECIAL).bytes())),
+            2 => drop(text.splice(at..end.min(at + 1), rng.pick(SPECIAL).bytes())),
+            3 => {
+                let copy = text[at..end].to_vec();
+                drop(text.splice(at..at, copy));
+            }
+            4 => {
+                if at + 1 < text.len() {
+                    text.swap(at, at + 1);
+                }
+            }
+            5 => text.truncate(at),
+            _ => {
+                let list = if rng.percent(75) { BROKEN } else { GOOD_EDGES };
+                drop(text.splice(at..at, rng.pick(list).iter().copied()));
+            }
+        }
+    }
+}
+
+// ---- Numbers ----
+
+/// A number that is mostly `good`, else near it, or one that a narrower type would cut to it, or huge.
+fn number(rng: &mut Rng, good: usize, percent_good: usize) -> u64 {
+    let good = good as u64;
+    if rng.percent(percent_good) {
+        return good;
+    }
+    match rng.below(10) {
+        0 => 0,
+        1 => good + 1,
+        2 => good.saturating_sub(1),
+        3 => rng.below(8) as u64,
+        4 => (1 << 32) + good,
+        5 => (1 << 16) + good,
+        6 => u64::MAX,
+        7 => u64::MAX - rng.below(5) as u64,
+        8 => (1 << 63) + good,
+        _ => (1u64 << rng.below(64)) + rng.below(3) as u64 - 1,
+    }
+}
+
+// ---- Texts with lines ----
+
+/// Appends white space that reaches the column from the line's start, with tabs now and then.
+fn indent(rng: &mut Rng, column: usize, out: &mut String) {
+    let mut at = 0;
+    let tabs = rng.once_in(5);
+    while at < column {
+        let next = at + 4 - at % 4;
+        if tabs && next <= column && rng.percent(70) {
+            out.push('\t');
+            at = next;
+        } else {
+            out.push(' ');
+            at += 1;
+        }
+    }
+}
+
+/// The column behind the last character, and that of the last brace that opens, as a person would count them.
+fn columns(line: &str) -> (usize, usize) {
+    let (mut column, mut brace) = (0, 0);
+    for ch in line.chars() {
+        if ch == '{' {
+            brace = column;
+        }
+        column = if ch == '\t' { column + 4 - column % 4 } else { column + 1 };
+    }
+    (column, brace)
+}
+
+/// A chain of blocks broken over several lines. `shallow` is how many of a hundred later lines stand at or before the
+/// last open brace.
+fn wrapped(rng: &mut Rng, opener_column: usize, shallow: usize) -> String {
+    let mut line = String::new();
+    indent(rng, opener_column, &mut line);
+    if rng.once_in(40) {
+        line.push_str(rng.pick(&["\u{c}", "\r", "\u{b}", "\u{a0}", " \u{c} "]));
+    }
+    let mut out = String::new();
+    let blocks = rng.weighted(&[0, 60, 28, 12]);
+    for n in 0..blocks {
+        line.push('{');
+        let list = tokens(rng);
+        for (at, token) in list.iter().enumerate() {
+            // Breaks stand at the front, between tokens and before the close.
+            let breaks = if at == 0 { rng.once_in(8) } else { rng.percent(45) };
+            if breaks {
+                break_line(rng, &mut out, &mut line, shallow);
+            } else if at > 0 {
+                line.push_str(separator(rng));
+            }
+            line.push_str(token);
+        }
+        if rng.once_in(if n + 1 == blocks { 6 } else { 10 }) {
+            break_line(rng, &mut out, &mut line, shallow);
+        }
+        line.push('}');
+        if rng.once_in(50) {
+            line.push_str(rng.pick(SPECIAL));
+        }
+    }
+    if rng.once_in(10) {
+        line.push_str(rng.pick(&[" ", "  ", "\t", "\r", "\u{c}"]));
+    }
+    out + &line
+}
+
+fn break_line(rng: &mut Rng, out: &mut String, line: &mut String, shallow: usize) {
+    let (_, brace) = columns(line);
+    if rng.once_in(10) {
+        line.push_str(rng.pick(&[" ", "  ", "\t", "\r", "\u{c}", " x"]));
+    }
+    out.push_str(line);
+    out.push_str(if rng.once_in(15) { "\r\n" } else { "\n" });
+    line.clear();
+    let column = if rng.percent(shallow) {
+        match rng.below(4) {
+            0 => 0,
+            1 => brace.saturating_sub(1),
+            2 => brace,
+            _ => rng.below(brace + 1),
+        }
+    } else {
+        match rng.below(5) {
+            0..=2 => brace + 1,
+            3 => brace + rng.between(1, 6),
+            _ => brace / 4 * 4 + 4,
+        }
+    };
+    indent(rng, column, line);
+    if rng.once_in(60) {
+        line.push_str(rng.pick(&["\u{c}", "\r", "\u{b}", "\u{a0}"]));
+    }
+}
+
+fn prose(rng: &mut Rng) -> String {
+    let mut out = rng.pick(PROSE).to_string();
+    if rng.once_in(3) {
+        out.push_str(rng.pick(PROSE));
+    }
+    out
+}
+
+fn opener_column(rng: &mut Rng) -> usize {
+    match rng.weighted(&[60, 20, 20]) {
+        0 => 0,
+        1 => rng.between(1, 3),
+        _ => rng.between(1, 9),
+    }
+}
+
+/// A comment run: `{%`, lines of anything, `%}`.
+fn comment(rng: &mut Rng) -> String {
+    let mut out = String::new();
+    let column = opener_column(rng);
+    indent(rng, column, &mut out);
+    out.push_str(rng.pick(&["{%", "{% a", "{% \"x", "{%}", "{ %", "{%%"]));
+    for _ in 0..rng.below(4) {
+        out.push('\n');
+        let at = if rng.percent(60) { column + 1 } else { rng.below(column + 2) };
+        indent(rng, at, &mut out);
+        out.push_str(rng.pick(&["x", "{a", "{%", "}", "\"", "a b", "%", "y}", "{", "", "{b}"]));
+    }
+    if rng.percent(85) {
+        if rng.percent(60) {
+            out.push('\n');
+            let at = rng.below(column + 3);
+            indent(rng, at, &mut out);
+        }
+        out.push_str(rng.pick(&["%}", "a %}", "%} b", "%}}", "%}{a}"]));
+    }
+    out
+}
+
+/// A text of some lines and the number of the line that its main block starts at.
+fn text_of_lines(rng: &mut Rng, shallow: usize, comments: usize) -> (Vec<u8>, usize) {
+    let mut out = String::new();
+    let mut before = 0;
+    for _ in 0..rng.weighted(&[70, 18, 12]) {
+        let part = if rng.percent(70) { prose(rng) } else { wrapped(rng, 0, shallow) };
+        before += part.matches('\n').count() + 1;
+        out.push_str(&part);
+        out.push('\n');
+    }
+    let column = opener_column(rng);
+    let main = if rng.percent(comments) { comment(rng) } else { wrapped(rng, column, shallow) };
+    out.push_str(&main);
+    for _ in 0..rng.weighted(&[55, 25, 20]) {
+        out.push('\n');
+        let part = match rng.below(4) {
+            0 => wrapped(rng, 0, shallow),
+            1 => format!(" {}", token(rng)),
+            _ => prose(rng),
+        };
+        out.push_str(&part);
+    }
+    if rng.once_in(4) {
+        out.push_str(rng.pick(&["\n", "\r\n", "\r", "\n\n", " "]));
+    }
+    let mut bytes = out.into_bytes();
+    damage(rng, &mut bytes, 4);
+    (bytes, before + 1)
+}
+
+/// A join buffer's length that stands at one of the places where another line begins or stops to fit.
+fn cap(rng: &mut Rng, text: &[u8], line: usize) -> String {
+    if !rng.once_in(4) {
+        return String::new();
+    }
+    let mut lengths = Vec::new();
+    let mut total = 0;
+    for line in text.split(|&b| b == b'\n').skip(line - 1).take(8) {
+        let blank = |b: &u8| b" \t\n\x0C\r".contains(b);
+        let from = line.iter().position(|b| !blank(b)).unwrap_or(line.len());
+        let to = line.iter().rposition(|b| !blank(b)).map_or(from, |at| at + 1);
+        total += to - from + usize::from(!lengths.is_empty());
+        lengths.push(total);
+    }
+    let exact = if lengths.is_empty() { 0 } else { lengths[rng.below(lengths.len())] };
+    let cap = match rng.below(6) {
+        0 | 1 => exact,
+        2 | 3 => exact.saturating_sub(1),
+        4 => exact + 1,
+        _ => rng.below(12),
+    };
+    format!(" cap={}", cap.min(TEXT_LIMIT))
+}
+
+// ---- Long texts ----
+
+/// A size at or near the limit; the requests carry at most 65,600 bytes.
+fn long_size(rng: &mut Rng) -> usize {
+    match rng.below(6) {
+        0 => TEXT_LIMIT - 1,
+        1 | 2 => TEXT_LIMIT,
+        3 => TEXT_LIMIT + 1,
+        4 => rng.between(TEXT_LIMIT - 20, TEXT_LIMIT + 65),
+        _ => rng.between(30_000, TEXT_LIMIT),
+    }
+}
+
+/// `head`, as many copies of `filler` as fit, plain letters up to the size, and `tail`.
+fn filled(size: usize, head: &str, filler: &str, tail: &str) -> String {
+    let room = size.saturating_sub(head.len() + tail.len());
+    let mut out = head.to_string();
+    out.push_str(&filler.repeat(room / filler.len()));
+    out.push_str(&"z".repeat(room % filler.len()));
+    out + tail
+}
+
+/// A long text that is one line, or starts with one long line.
+fn long_line(rng: &mut Rng) -> String {
+    let size = long_size(rng);
+    match rng.below(9) {
+        0 => filled(size, "{k=", "x", "}"),
+        1 => filled(size, "{k=\"", "é", "\"}"),
+        2 => filled(size, "{", " ", "a}"),
+        3 => filled(size, "{k=", "😀", ""),
+        4 => filled(size, "{k='", "\\\"", "'}"),
+        5 => filled(size, "{.a}{", ".b ", "}"),
+        6 => filled(size, "{.a}", "{b}", "{.c}"),
+        7 => {
+            // Each quote takes two bytes in the canonical text: its limit is met with half as many.
+            let extra = rng.between(0, 4);
+            format!("{{k='{}{}'}}", "\"".repeat(32_763), "x".repeat(extra))
+        }
+        _ => {
+            let mut keys = String::from("{");
+            let mut n = 0;
+            while keys.len() < size - 12 {
+                keys.push_str(&format!("k{n} "));
+                n += 1;
+            }
+            filled(size, &keys, "x", "}")
+        }
+    }
+}
+
+/// A long text of many lines.
+fn long_lines(rng: &mut Rng) -> String {
+    let size = long_size(rng);
+    match rng.below(8) {
+        0 => filled(size, "{a\n", " b\n", " c}"),
+        1 => filled(size, "{a=\"1\"", "\n b=2", "}"),
+        2 => filled(size, "", "x\n", "\n{a\n b}"),
+        3 => filled(size, "", "{.a}\n", ""),
+        4 => filled(size, "{a\n b}\n", "t\r\n", "{c}"),
+        5 => filled(size, "{a\n", " b=xxxxxxxxxxxxxxxxxxxxxxxxxxxxxxxxxxxxxxxxxxxxxxxxxxxxxxxxxxxxxxxx\n", " c}\nend"),
+        6 => filled(size, "   {a\n", "b\n", "c}"),
+        _ => filled(size, "{% a\n", "x\n", "%}"),
+    }
+}
+
+// ---- Requests ----
+
+struct Out {
+    line: Vec<u8>,
+}
+
+impl Out {
+    fn words(&mut self, words: &str) {
+        self.line.extend_from_slice(words.as_bytes());
+    }
+    fn hex(&mut self, bytes: &[u8]) {
+        if bytes.is_empty() {
+            self.line.push(b'-');
+        }
+        for &byte in bytes {
+            self.line.push(b"0123456789abcdef"[usize::from(byte >> 4)]);
+            self.line.push(b"0123456789abcdef"[usize::from(byte & 15)]);
+        }
+    }
+    fn request(&mut self, words: &str, bytes: &[u8], behind: &str) {
+        self.words(words);
+        self.line.push(b' ');
+        self.hex(bytes);
+        self.words(behind);
+    }
+}
+
+fn random(family: &str, rng: &mut Rng, out: &mut Out) {
+    match family {
+        "leaves" => leaf(rng, out),
+        "brace" => brace(rng, out),
+        "lines" => lines(rng, out),
+        "refused" => refused(rng, out),
+        "merge" => merge(rng, out),
+        "errors" => errors(rng, out),
+        _ => sheet(rng, out),
+    }
+}
+
+/// Characters of all lengths with broken ones among them.
+fn utf8_mix(rng: &mut Rng) -> Vec<u8> {
+    let mut out = Vec::new();
+    let broken = rng.percent(60);
+    for _ in 0..rng.below(6) {
+        match rng.below(5) {
+            0 => out.extend_from_slice(rng.pick(GOOD_EDGES)),
+            1 if broken => out.extend_from_slice(rng.pick(BROKEN)),
+            2 if broken => out.push(rng.below(256) as u8),
+            3 => {
+                let code = rng.below(0x11_0000) as u32;
+                out.extend(char::from_u32(code).unwrap_or('x').to_string().bytes());
+            }
+            _ => out.extend_from_slice(rng.pick(SPECIAL).as_bytes()),
+        }
+    }
+    if rng.once_in(6) {
+        out.truncate(rng.below(out.len() + 1));
+    }
+    out
+}
+
+fn leaf(rng: &mut Rng, out: &mut Out) {
+    if rng.once_in(4000) {
+        let text = if rng.percent(50) { long_line(rng) } else { long_lines(rng) };
+        let mut text = text.into_bytes();
+        damage(rng, &mut text, 2);
+        text.truncate(65_600);
+        let words = rng.pick(&["is_utf8", "char_count", "columns", "trim_ascii", "unescape_title", "line 3", "is_char_boundary 65535"]);
+        return out.request(&format!("leaf {words}"), &text, "");
+    }
+    match rng.below(20) {
+        0 | 1 => {
+            let mut text = utf8_mix(rng);
+            damage(rng, &mut text, 6);
+            out.request("leaf is_utf8", &text, "");
+        }
+        2 | 3 => {
+            let text = utf8_mix(rng);
+            let inside = rng.below(text.len() + 2);
+            let place = number(rng, inside, 90);
+            out.request(&format!("leaf is_char_boundary {place}"), &text, "");
+        }
+        4 => out.request("leaf char_count", &utf8_mix(rng), ""),
+        5..=7 => {
+            let mut text = name(rng).into_bytes();
+            damage(rng, &mut text, 4);
+            let words = rng.pick(&["is_identifier", "is_css_identifier", "is_boolean_attr_name"]);
+            out.request(&format!("leaf {words}"), &text, "");
+        }
+        8 | 9 => {
+            let mut text = tag(rng).into_bytes();
+            damage(rng, &mut text, 4);
+            out.request("leaf is_language_tag", &text, "");
+        }
+        10..=12 => {
+            let mut text = Vec::new();
+            for _ in 0..rng.below(7) {
+                let blank = rng.percent(65);
+                let piece = if blank { rng.pick(&[" ", "\t", "\n", "\u{c}", "\r"]) } else { rng.pick(&["a", "é", "\u{b}", "\u{a0}", "\u{85}", "\0", "{"]) };
+                text.extend_from_slice(piece.as_bytes());
+            }
+            damage(rng, &mut text, 8);
+            let words = rng.pick(&["trim_ascii", "trim_ascii_start", "trim_ascii_end", "is_blank_line", "indent_columns"]);
+            out.request(&format!("leaf {words}"), &text, "");
+        }
+        13 | 14 => {
+            let mut text = Vec::new();
+            for _ in 0..rng.below(9) {
+                text.extend_from_slice(rng.pick(&["a", "\n", "\n", "\r", "\r\n", "b c", "", "\u{c}"]).as_bytes());
+            }
+            damage(rng, &mut text, 10);
+            let line = rng.between(0, 5);
+            let line = number(rng, line, 90);
+            out.request(&format!("leaf line {line}"), &text, "");
+        }
+        15 => {
+            let text = if rng.percent(50) { utf8_mix(rng) } else { text_of_lines(rng, 20, 10).0 };
+            out.request("leaf columns", &text, "");
+        }
+        16 => {
+            let mut text = Vec::new();
+            for _ in 0..rng.below(7) {
+                text.extend_from_slice(rng.pick(&["\\", "\\", "a", "\"", "_", "é", " ", "1", "\\~", "\\\u{7f}", "\t"]).as_bytes());
+            }
+            damage(rng, &mut text, 8);
+            out.request("leaf unescape_title", &text, "");
+        }
+        17 | 18 => {
+            let mut a = Vec::new();
+            for _ in 0..rng.below(6) {
+                a.extend_from_slice(rng.pick(&["\\", "a", "\"", "_", "é", "b", "\\a", "\\_"]).as_bytes());
+            }
+            // Mostly the true answer, else nearly.
+            let mut b = Vec::new();
+            let mut at = 0;
+            while at < a.len() {
+                if a[at] == b'\\' && a.get(at + 1).is_some_and(u8::is_ascii_punctuation) {
+                    at += 1;
+                }
+                b.push(a[at]);
+                at += 1;
+            }
+            if rng.once_in(10) {
+                b = a.clone();
+            }
+            damage(rng, &mut b, 3);
+            out.request("leaf same_unescaped", &a, " ");
+            out.hex(&b);
+        }
+        _ => out.words(&format!("leaf is_class {}", rng.below(256))),
+    }
+}
+
+fn brace(rng: &mut Rng, out: &mut Out) {
+    if rng.once_in(3000) {
+        let mut text = if rng.percent(75) { long_line(rng) } else { long_lines(rng) }.into_bytes();
+        damage(rng, &mut text, 6);
+        text.truncate(65_600);
+        let end = text.len();
+        let words = match rng.below(8) {
+            0..=2 => "read_attrs_at 0 strict".to_string(),
+            3 => "read_attrs_at 0 loose".to_string(),
+            4 => "payload_at 0".to_string(),
+            5 => format!("payload_at {}", end - rng.below(3)),
+            6 => rng.pick(&["parse_attrs", "is_valid_attr_payload"]).to_string(),
+            _ => "valid_wrapped_attr_continuation".to_string(),
+        };
+        return out.request(&words, &text, "");
+    }
+    match rng.weighted(&[55, 8, 12, 12, 13]) {
+        0 | 1 => {
+            let mut text = Vec::new();
+            match rng.weighted(&[75, 15, 4, 6]) {
+                0 => {}
+                1 => text.extend_from_slice(prose(rng).as_bytes()),
+                2 => text.extend_from_slice(rng.pick(BROKEN)),
+                _ => text.extend_from_slice(block(rng).as_bytes()),
+            }
+            let place = text.len();
+            text.extend_from_slice(block(rng).as_bytes());
+            match rng.weighted(&[70, 12, 4, 14]) {
+                0 => {}
+                1 => text.extend_from_slice(prose(rng).as_bytes()),
+                2 => text.extend_from_slice(rng.pick(BROKEN)),
+                _ => text.extend_from_slice(block(rng).as_bytes()),
+            }
+            damage(rng, &mut text, 3);
+            let place = if rng.once_in(15) { rng.below(text.len() + 2) } else { place };
+            let place = number(rng, place, 97);
+            let words = if rng.once_in(8) {
+                format!("payload_at {place}")
+            } else {
+                format!("read_attrs_at {place} {}", rng.pick(&["strict", "strict", "loose"]))
+            };
+            out.request(&words, &text, "");
+        }
+        2 | 3 => {
+            let mut text = payload(rng).into_bytes();
+            damage(rng, &mut text, 4);
+            out.request(rng.pick(&["parse_attrs", "is_valid_attr_payload"]), &text, "");
+        }
+        _ => {
+            let mut text = String::new();
+            indent_some(rng, &mut text);
+            match rng.below(5) {
+                0 | 1 => text.push_str(&payload(rng)),
+                2 => text.push_str(&format!("{}}}", payload(rng))),
+                3 => text.push_str(&format!("{}}}{{{}", payload(rng), payload(rng))),
+                _ => text.push_str(&format!("{}}}{{{}}}{{{}", payload(rng), payload(rng), payload(rng))),
+            }
+            indent_some(rng, &mut text);
+            let mut text = text.into_bytes();
+            damage(rng, &mut text, 4);
+            out.request("valid_wrapped_attr_continuation", &text, "");
+        }
+    }
+}
+
+fn indent_some(rng: &mut Rng, out: &mut String) {
+    for _ in 0..rng.weighted(&[60, 25, 15]) {
+        out.push_str(rng.pick(&[" ", " ", "\t", "\r", "\u{c}", "\n"]));
+    }
+}
+
+fn lines(rng: &mut Rng, out: &mut Out) {
+    let long = rng.once_in(3000);
+    let (text, line) = if long {
+        let mut text = if rng.percent(35) { long_line(rng) } else { long_lines(rng) }.into_bytes();
+        damage(rng, &mut text, 8);
+        text.truncate(65_600);
+        let last = text.iter().filter(|&&b| b == b'\n').count();
+        let line = *[1, 1, 1, last.max(1), last + 1].get(rng.below(5)).unwrap();
+        (text, line)
+    } else if rng.once_in(4) {
+        // One line with a chain on it.
+        let mut text = String::new();
+        indent_some(rng, &mut text);
+        text.push_str(&chain(rng));
+        indent_some(rng, &mut text);
+        let mut text = text.into_bytes();
+        damage(rng, &mut text, 4);
+        (text, 1)
+    } else {
+        text_of_lines(rng, 12, 2)
+    };
+    let cap = if long && rng.percent(50) { format!(" cap={}", TEXT_LIMIT - rng.below(4)) } else { cap(rng, &text, line) };
+    let line = number(rng, line, 96);
+    let column = if rng.percent(60) { rng.below(6) } else { 0 };
+    let column = number(rng, column, 85);
+    let words = match rng.weighted(&[15, 35, 15, 10, 10, 15]) {
+        0 => return out.request(&format!("parse_standalone_attrs {line}"), &text, ""),
+        1 => format!("parse_standalone_attrs_block {line}"),
+        2 => format!("standalone_attrs_block_len {line}"),
+        3 => format!("indented_wrapped_attrs_block_len {line}"),
+        4 => format!("attrs_block_len_at {column} {line}"),
+        _ => format!("wrapped_attrs_run_at {column} {line}"),
+    };
+    out.request(&words, &text, &cap);
+}
+
+/// Several runs one after the other, with a last line that makes both of the last two candidates count.
+fn runs_in_a_row(rng: &mut Rng) -> Vec<u8> {
+    let mut out = String::new();
+    for _ in 0..rng.between(1, 3) {
+        let column = opener_column(rng);
+        let part = match rng.below(8) {
+            0 => comment(rng),
+            1 => "    {a\nb}{c\nd}".to_string(),
+            2 | 3 => format!("{{{}\n{}}}", name(rng), name(rng)),
+            _ => wrapped(rng, column, 60),
+        };
+        out.push_str(&part);
+        out.push('\n');
+        if rng.once_in(5) {
+            out.push_str(&prose(rng));
+            out.push('\n');
+        }
+    }
+    match rng.below(5) {
+        0 | 1 => out.push_str(rng.pick(&["t %}", "%}", "x} %}", "a=\"}\" %}", " %}\r"])),
+        2 => out.push_str(rng.pick(&["}", "t}", "b}", "{a}", " c} "])),
+        _ => drop(out.pop()),
+    }
+    if rng.once_in(3) {
+        out.push('\n');
+    }
+    let mut bytes = out.into_bytes();
+    damage(rng, &mut bytes, 4);
+    bytes
+}
+
+fn refused(rng: &mut Rng, out: &mut Out) {
+    if rng.once_in(4000) {
+        let mut text = long_lines(rng).into_bytes();
+        damage(rng, &mut text, 8);
+        text.truncate(65_600);
+        let cap = if rng.percent(50) { format!(" cap={}", TEXT_LIMIT - rng.below(6)) } else { String::new() };
+        return out.request(rng.pick(&["refused_brace_run 1", "ends_in_refused_brace_run"]), &text, &cap);
+    }
+    if rng.percent(55) {
+        let (text, line) = text_of_lines(rng, 55, 15);
+        let cap = cap(rng, &text, line);
+        let line = number(rng, line, 96);
+        out.request(&format!("refused_brace_run {line}"), &text, &cap);
+    } else {
+        let text = if rng.percent(60) { runs_in_a_row(rng) } else { text_of_lines(rng, 55, 15).0 };
+        let count = text.iter().filter(|&&b| b == b'\n').count() + 1;
+        let line = rng.between(1, count);
+        let cap = cap(rng, &text, line);
+        out.request("ends_in_refused_brace_run", &text, &cap);
+    }
+}
+
+fn merge(rng: &mut Rng, out: &mut Out) {
+    let words = rng.pick(&["merge", "merge_leading"]);
+    let mut pair = match rng.weighted(&[9690, 300, 10]) {
+        0 => [chain(rng), chain(rng)],
+        1 => {
+            // Together around a limit, with some keys on both sides.
+            let total = rng.between(31, 34);
+            let half = rng.between(1, total - 1);
+            let shared = rng.below(3);
+            let classes = rng.percent(50);
+            let list = |range: std::ops::Range<usize>| -> String {
+                let items: Vec<String> = range.map(|n| if classes { format!(".c{n}") } else { format!("k{n}={n}") }).collect();
+                format!("{{{}}}", items.join(" "))
+            };
+            [list(0..half), list(half.saturating_sub(shared)..total)]
+        }
+        _ => {
+            // The two texts with the LF between them stand around the text limit, at most 65,600 bytes together.
+            let size = long_size(rng);
+            let first = rng.between(10, size - 12);
+            [filled(first, "{k='", "\"", "'}"), filled(size - 1 - first, "{m='", "\"", "'}")]
+        }
+    }
+    .map(String::into_bytes);
+    for text in &mut pair {
+        if rng.once_in(20) {
+            text.extend_from_slice(rng.pick(&[" ", "\r", "\t", "\u{c}"]).as_bytes());
+        }
+        if text.len() < 1000 {
+            damage(rng, text, 5);
+        }
+        // An LF has no place here; one request in many keeps it, to be answered as an error.
+        if !rng.once_in(200) {
+            text.retain(|&b| b != b'\n');
+        }
+    }
+    out.request(words, &pair[0], " ");
+    out.hex(&pair[1]);
+}
+
+fn sheet(rng: &mut Rng, out: &mut Out) {
+    let mut text = if rng.once_in(4000) {
+        if rng.percent(40) { long_line(rng) } else { long_lines(rng) }
+    } else {
+        let mut text = String::new();
+        for _ in 0..rng.between(0, 7) {
+            let part = match rng.weighted(&[30, 30, 25, 8, 5, 2]) {
+                0 => chain(rng),
+                1 => {
+                    let column = if rng.percent(90) { 0 } else { opener_column(rng) };
+                    wrapped(rng, column, 10)
+                }
+                2 => prose(rng),
+                3 => wrapped(rng, 0, 60),
+                4 => comment(rng),
+                _ => format!("{{{}}}", crowd(rng).join(" ")),
+            };
+            text.push_str(&part);
+            text.push_str(if rng.once_in(10) { "\r\n" } else { "\n" });
+        }
+        if rng.once_in(3) {
+            text.pop();
+        }
+        text
+    }
+    .into_bytes();
+    damage(rng, &mut text, 5);
+    text.truncate(65_600);
+    out.request("sheet", &text, "");
+}
+
+/// A request with one fault in its line, or, now and then, none.
+fn errors(rng: &mut Rng, out: &mut Out) {
+    random(FAMILIES[rng.below(FAMILIES.len())], rng, out);
+    let mut fields: Vec<Vec<u8>> = out.line.split(|&b| b == b' ').map(<[u8]>::to_vec).collect();
+    let at = rng.below(fields.len());
+    match rng.below(12) {
+        0 => drop(fields.remove(at)),
+        1 => fields.insert(at, b"".to_vec()),
+        2 => fields.push(b"".to_vec()),
+        3 => fields.push(rng.pick(&["cap=65536", "cap=", "cap=-1", "cap=18446744073709551616", "cap=5", "cap=5 cap=5", "cap=5 -", "x"]).as_bytes().to_vec()),
+        4 => fields[at].make_ascii_uppercase(),
+        5 => drop(fields[at].pop()),
+        6 => fields[at].push(b"0a-gG.\t\r"[rng.below(8)]),
+        7 => fields[at] = rng.pick(&["18446744073709551616", "99999999999999999999999", "-1", "+1", "1.0", "0x1", "", "a"]).as_bytes().to_vec(),
+        8 => fields[at] = b"-".to_vec(),
+        9 => fields.swap(0, at),
+        10 => fields[0] = rng.pick(&["", "leaf", "Sheet", "read_attrs", "parse_attrs_with", "\u{e9}", "sheets"]).as_bytes().to_vec(),
+        _ => {}
+    }
+    out.line = fields.join(&b' ');
+}
+
+// ---- Exhaustive lists ----
+
+/// All strings over these atoms, in each of these requests: the words before and behind the string's hex, with the bytes
+/// that stand before and behind the string itself.
+struct Section {
+    atoms: &'static [&'static [u8]],
+    forms: &'static [(&'static str, &'static [u8], &'static [u8])],
+}
+
+const BRACE_FORMS: &[(&str, &[u8], &[u8])] = &[
+    ("read_attrs_at 0 strict", b"{", b"}"),
+    ("read_attrs_at 0 loose", b"{", b"}"),
+    ("read_attrs_at 0 strict", b"{", b""),
+    ("read_attrs_at 1 loose", b"", b""),
+    ("payload_at 0", b"{", b"}"),
+    ("parse_attrs", b"", b""),
+    ("is_valid_attr_payload", b"", b""),
+    ("valid_wrapped_attr_continuation", b"", b""),
+];
+const LINE_FORMS: &[(&str, &[u8], &[u8])] = &[
+    ("parse_standalone_attrs 1", b"{", b""),
+    ("parse_standalone_attrs_block 1", b"{", b""),
+    ("parse_standalone_attrs_block 1", b"{a\n", b"}"),
+    ("standalone_attrs_block_len 1", b"", b""),
+    ("indented_wrapped_attrs_block_len 1", b" {a", b"}"),
+    ("attrs_block_len_at 1 1", b"{a", b""),
+    ("wrapped_attrs_run_at 0 1", b"{", b"}"),
+    ("wrapped_attrs_run_at 2 1", b"{a", b"\n    b}"),
+];
+const REFUSED_FORMS: &[(&str, &[u8], &[u8])] = &[
+    ("refused_brace_run 1", b"", b""),
+    ("refused_brace_run 1", b"  {a\n", b"}"),
+    ("refused_brace_run 1", b"{", b"\nb}"),
+    ("ends_in_refused_brace_run", b"", b""),
+    ("ends_in_refused_brace_run", b"{a\n", b"}"),
+    ("ends_in_refused_brace_run", b"{a\nb}\n{", b"\n%}"),
+];
+
+fn sections(family: &str) -> &'static [Section] {
+    match family {
+        "leaves" => &[
+            Section {
+                atoms: &[
+                    b"\x00", b"a", b"\x7F", b"\x80", b"\x8F", b"\x90", b"\x9F", b"\xA0", b"\xBF", b"\xC0", b"\xC1", b"\xC2", b"\xDF", b"\xE0", b"\xE1",
+                    b"\xED", b"\xEE", b"\xEF", b"\xF0", b"\xF1", b"\xF3", b"\xF4", b"\xF5", b"\xFF",
+                ],
+                forms: &[("leaf is_utf8", b"", b""), ("leaf char_count", b"", b""), ("leaf is_char_boundary 1", b"", b""), ("leaf is_char_boundary 2", b"", b"")],
+            },
+            Section {
+                atoms: &[b"a", b" ", b"\t", b"\n", b"\r", b"\x0C", b"\x0B", b"\xC2\xA0"],
+                forms: &[
+                    ("leaf trim_ascii", b"", b""),
+                    ("leaf trim_ascii_start", b"", b""),
+                    ("leaf trim_ascii_end", b"", b""),
+                    ("leaf is_blank_line", b"", b""),
+                    ("leaf indent_columns", b"", b""),
+                    ("leaf columns", b"", b""),
+                    ("leaf line 0", b"", b""),
+                    ("leaf line 1", b"", b""),
+                    ("leaf line 2", b"", b""),
+                    ("leaf line 3", b"", b""),
+                ],
+            },
+            Section {
+                atoms: &[b"a", b"z", b"A", b"Z", b"0", b"9", b"_", b"-", b".", b"@", b"[", b"`", b"{", b"/", b":", b"\xC3\xA9", b"\x80"],
+                forms: &[
+                    ("leaf is_identifier", b"", b""),
+                    ("leaf is_css_identifier", b"", b""),
+                    ("leaf is_boolean_attr_name", b"", b""),
+                    ("leaf is_language_tag", b"", b""),
+                    ("leaf is_language_tag", b"abcdef", b""),
+                    ("leaf is_language_tag", b"a-", b"-1"),
+                ],
+            },
+            Section {
+                atoms: &[b"\\", b"a", b"\"", b"_", b" ", b"\xC3\xA9", b"~", b"\x7F", b"\x80"],
+                forms: &[("leaf unescape_title", b"", b"")],
+            },
+        ],
+        "brace" => &[
+            Section {
+                atoms: &[
+                    b"a", b"1", b"_", b"-", b".", b"#", b":", b"=", b"\"", b"'", b"\\", b" ", b"\t", b"\r", b"\n", b"}", b"{", b"|", b"\xC3\xA9", b"\x0C",
+                ],
+                forms: BRACE_FORMS,
+            },
+            Section {
+                atoms: &[b".a", b"#b", b"k=", b"k=1", b"k=\"", b"\"", b"'", b"\\", b"id", b"class", b"=", b":en", b" ", b"}", b"\x80"],
+                forms: BRACE_FORMS,
+            },
+        ],
+        "lines" => &[
+            Section { atoms: &[b"{", b"}", b"a", b" ", b"\n", b"\"", b"\\", b"=", b"\t", b"\r"], forms: LINE_FORMS },
+            Section {
+                atoms: &[b"{a", b"}{b", b"}", b"c=\"", b"\"", b"'", b"\\", b"\n", b"\n ", b"\n\t", b" ", b"\n   ", b"\xC3\xA9", b"k=v"],
+                forms: LINE_FORMS,
+            },
+        ],
+        "refused" => &[
+            Section { atoms: &[b"{", b"}", b"a", b" ", b"\n", b"\"", b"%", b"\\", b"\t"], forms: REFUSED_FORMS },
+            Section {
+                atoms: &[b"{a", b"}{b", b"}", b"%}", b"c=\"", b"\"", b"\\", b"\n", b"\n ", b"\n\t", b"\n\n", b" ", b"{%", b"d"],
+                forms: REFUSED_FORMS,
+            },
+        ],
+        "merge" => &[Section {
+            atoms: &[b".a ", b".b ", b"#x ", b"#y ", b"k=1 ", b"k=2 ", b"m ", b"id ", b":en ", b"lang=\"\\\"\" ", b"class=\"c d\" ", b"}{"],
+            forms: &[("merge", b"{", b"}"), ("merge_leading", b"{", b"}")],
+        }],
+        _ => &[
+            Section { atoms: &[b"{", b"}", b"a", b" ", b"\n", b"\r", b"\"", b"="], forms: &[("sheet", b"", b""), ("sheet", b"{", b"}\n{b}")] },
+            Section { atoms: &[b"{a", b"}", b"}{.b", b"\n", b"\n ", b" ", b"c=\"", b"\"", b"{#d}", b"text", b"\r\n"], forms: &[("sheet", b"", b"")] },
+        ],
+    }
+}
+
+/// How many strings of at most that many atoms there are.
+fn strings(atoms: usize, length: usize) -> u64 {
+    (0..=length as u32).map(|n| (atoms as u64).pow(n)).sum()
+}
+
+fn section_size(section: &Section, length: usize) -> u64 {
+    section.forms.len() as u64 * strings(section.atoms.len(), length)
+}
+
+/// The leaves begin with all 256 byte classes.
+fn extra(family: &str) -> u64 {
+    if family == "leaves" {
+        256
+    } else {
+        0
+    }
+}
+
+fn exhaustive_size(family: &str, length: usize) -> u64 {
+    extra(family) + sections(family).iter().map(|section| section_size(section, length)).sum::<u64>()
+}
+
+fn exhaustive(family: &str, length: usize, mut number: u64, out: &mut Out) {
+    if number < extra(family) {
+        return out.words(&format!("leaf is_class {number}"));
+    }
+    number -= extra(family);
+    for section in sections(family) {
+        let size = section_size(section, length);
+        if number >= size {
+            number -= size;
+            continue;
+        }
+        let forms = section.forms.len() as u64;
+        let (words, before, behind) = section.forms[(number % forms) as usize];
+        let mut rest = number / forms;
+        let atoms = section.atoms.len() as u64;
+        // First the length, then the atoms as digits.
+        let mut count = 0;
+        while rest >= atoms.pow(count) {
+            rest -= atoms.pow(count);
+            count += 1;
+        }
+        let mut list = Vec::new();
+        for _ in 0..count {
+            list.push(section.atoms[(rest % atoms) as usize]);
+            rest /= atoms;
+        }
+        if family == "merge" {
+            // One half on each side.
+            let (a, b) = list.split_at(list.len() / 2);
+            out.request(words, &[before, &a.concat(), behind].concat(), " ");
+            return out.hex(&[before, &b.concat(), behind].concat());
+        }
+        return out.request(words, &[before, &list.concat(), behind].concat(), "");
+    }
+}
+
+// ---- The command line ----
+
+fn main() -> io::Result<()> {
+    let words: Vec<String> = std::env::args().skip(1).collect();
+    let words: Vec<&str> = words.iter().map(String::as_str).collect();
+    let number_of = |word: &str| word.parse::<u64>().ok();
+    let known = |name: &str| FAMILIES.contains(&name);
+    let mut to = BufWriter::with_capacity(1 << 20, io::stdout().lock());
+    let mut out = Out { line: Vec::new() };
+    let mut write = |out: &mut Out| {
+        out.line.push(b'\n');
+        let written = to.write_all(&out.line);
+        out.line.clear();
+        written
+    };
+    match words[..] {
+        ["random", families, seed, from, count] => {
+            let families: Vec<&str> = if families == "all" { FAMILIES.to_vec() } else { families.split(',').collect() };
+            let (Some(seed), Some(from), Some(count)) = (number_of(seed), number_of(from), number_of(count)) else {
+                return usage();
+            };
+            if !families.iter().all(|name| known(name) || *name == "errors") {
+                return usage();
+            }
+            for number in from..from + count {
+                let family = families[(number % families.len() as u64) as usize];
+                random(family, &mut Rng::new(seed, number), &mut out);
+                write(&mut out)?;
+            }
+        }
+        ["exhaustive", family, length, from, count] if known(family) => {
+            let (Some(length), Some(from), Some(count)) = (number_of(length), number_of(from), number_of(count)) else {
+                return usage();
+            };
+            let size = exhaustive_size(family, length as usize);
+            for number in from..size.min(from + count) {
+                exhaustive(family, length as usize, number, &mut out);
+                write(&mut out)?;
+            }
+        }
+        ["size", family, length] if known(family) => {
+            let Some(length) = number_of(length) else {
+                return usage();
+            };
+            out.words(&exhaustive_size(family, length as usize).to_string());
+            write(&mut out)?;
+        }
+        _ => return usage(),
+    }
+    to.flush()
+}
+
+fn usage() -> io::Result<()> {
+    eprintln!("generate random FAMILIES SEED FROM COUNT | exhaustive FAMILY LENGTH FROM COUNT | size FAMILY LENGTH");
+    std::process::exit(2)
+}

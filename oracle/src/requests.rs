@@ -1,0 +1,288 @@
+//! One request line in, one answer line out.
+
+use crate::ast::Attrs;
+use crate::layer::{self, Entry, MergeRefusal, Number, Refused, Trace, Traced};
+use crate::parse::attrs::door;
+use crate::standins::*;
+use std::io::Write;
+
+/// The longest text that a request may carry.
+const HEX_LIMIT: usize = 65_600;
+
+/// Answers one request; the answer line has no LF yet.
+pub fn answer(request: &[u8], out: &mut Vec<u8>) {
+    let at = out.len();
+    if answer_known(request, out).is_none() {
+        out.truncate(at);
+        out.extend_from_slice(b"error");
+    }
+}
+
+fn number(field: &[u8]) -> Option<usize> {
+    if field.is_empty() || !field.iter().all(u8::is_ascii_digit) {
+        return None;
+    }
+    let value: u64 = std::str::from_utf8(field).ok()?.parse().ok()?;
+    usize::try_from(value).ok()
+}
+
+fn digit(byte: u8) -> Option<u8> {
+    match byte {
+        b'0'..=b'9' => Some(byte - b'0'),
+        b'a'..=b'f' => Some(byte - b'a' + 10),
+        _ => None,
+    }
+}
+
+/// Lower-case hex, or `-` for no bytes.
+fn hex(field: &[u8]) -> Option<Vec<u8>> {
+    if field == b"-" {
+        return Some(Vec::new());
+    }
+    if field.is_empty() || field.len() % 2 != 0 || field.len() > 2 * HEX_LIMIT {
+        return None;
+    }
+    field.chunks_exact(2).map(|pair| Some(digit(pair[0])? * 16 + digit(pair[1])?)).collect()
+}
+
+fn put_hex(bytes: &[u8], out: &mut Vec<u8>) {
+    if bytes.is_empty() {
+        out.push(b'-');
+    }
+    for &byte in bytes {
+        out.push(b"0123456789abcdef"[usize::from(byte >> 4)]);
+        out.push(b"0123456789abcdef"[usize::from(byte & 15)]);
+    }
+}
+
+macro_rules! put {
+    ($out:expr, $($words:tt)*) => {
+        write!($out, $($words)*).expect("writing to memory")
+    };
+}
+
+fn put_yes(answer: bool, out: &mut Vec<u8>) {
+    out.extend_from_slice(if answer { b"yes" } else { b"no" });
+}
+
+fn put_refused(number: Number, out: &mut Vec<u8>) {
+    put!(out, "refused {number}");
+}
+
+fn put_run(trace: &Trace, out: &mut Vec<u8>) {
+    put!(out, " lookahead {} joined ", trace.lookahead);
+    put_hex(&trace.joined, out);
+}
+
+fn put_canon(text: Result<Vec<u8>, Number>, out: &mut Vec<u8>) {
+    match text {
+        Ok(text) => {
+            out.extend_from_slice(b" canon ");
+            put_hex(&text, out);
+        }
+        Err(number) => put!(out, " canon refused {number}"),
+    }
+}
+
+/// `ok lines N RUN`, with the set behind it where the entry hands one out.
+fn put_block(found: Traced<Result<(Attrs, usize), Number>>, with_set: bool, out: &mut Vec<u8>) {
+    match &found.answer {
+        Ok((_, count)) => put!(out, "ok lines {count}"),
+        Err(number) => put_refused(*number, out),
+    }
+    put_run(&found.trace, out);
+    if let (Ok((attrs, _)), true) = (&found.answer, with_set) {
+        put_canon(layer::canonical(attrs), out);
+    }
+}
+
+fn answer_known(request: &[u8], out: &mut Vec<u8>) -> Option<()> {
+    let mut fields: Vec<&[u8]> = request.split(|&b| b == b' ').collect();
+    if fields[0] == b"leaf" {
+        return answer_leaf(&fields[1..], out);
+    }
+    let mut cap = layer::TEXT_LIMIT;
+    if fields.len() > 1 {
+        if let Some(given) = fields.last().and_then(|field| field.strip_prefix(b"cap=")) {
+            cap = number(given).filter(|&cap| cap <= layer::TEXT_LIMIT)?;
+            fields.pop();
+        }
+    }
+    match (fields[0], &fields[1..]) {
+        (b"read_attrs_at", [place, mode, text]) => {
+            let (place, text) = (number(place)?, hex(text)?);
+            let loose = match *mode {
+                b"strict" => false,
+                b"loose" => true,
+                _ => return None,
+            };
+            match layer::read_attrs_at(&text, place, loose) {
+                Ok((attrs, next)) => {
+                    put!(out, "ok next {next}");
+                    put_canon(layer::canonical_over(&attrs, &text), out);
+                }
+                Err(number) => put_refused(number, out),
+            }
+        }
+        (b"payload_at", [place, text]) => {
+            let (place, text) = (number(place)?, hex(text)?);
+            let (from, to) = layer::payload_at(&text, place).unwrap_or((0, 0));
+            put!(out, "from {from} to {to}");
+        }
+        (b"parse_attrs", [text]) => put_yes(layer::parse_attrs(&hex(text)?), out),
+        (b"is_valid_attr_payload", [text]) => put_yes(layer::is_valid_attr_payload(&hex(text)?), out),
+        (b"valid_wrapped_attr_continuation", [text]) => {
+            put_yes(layer::valid_wrapped_attr_continuation(&hex(text)?), out)
+        }
+        (b"parse_standalone_attrs", [line, text]) => {
+            match layer::parse_standalone_attrs(&hex(text)?, number(line)?) {
+                Ok(attrs) => {
+                    out.extend_from_slice(b"ok");
+                    put_canon(layer::canonical(&attrs), out);
+                }
+                Err(number) => put_refused(number, out),
+            }
+        }
+        (b"parse_standalone_attrs_block", [line, text]) => {
+            put_block(layer::block(Entry::Block, &hex(text)?, number(line)?, cap), true, out)
+        }
+        (b"standalone_attrs_block_len", [line, text]) => {
+            put_block(layer::block(Entry::Standalone, &hex(text)?, number(line)?, cap), false, out)
+        }
+        (b"indented_wrapped_attrs_block_len", [line, text]) => {
+            put_block(layer::block(Entry::Indented, &hex(text)?, number(line)?, cap), false, out)
+        }
+        (b"attrs_block_len_at", [column, line, text]) => {
+            let entry = Entry::At(number(column)?);
+            put_block(layer::block(entry, &hex(text)?, number(line)?, cap), false, out)
+        }
+        (b"wrapped_attrs_run_at", [base, line, text]) => {
+            put_block(layer::wrapped_attrs_run_at(&hex(text)?, number(base)?, number(line)?, cap), true, out)
+        }
+        (b"refused_brace_run", [line, text]) => {
+            let found = layer::refused_brace_run(&hex(text)?, number(line)?, cap);
+            match found.answer {
+                Ok(Refused::Lines(count)) => put!(out, "lines {count}"),
+                Ok(Refused::No(count)) => put!(out, "no {count}"),
+                Ok(Refused::NoToTheEnd) => out.extend_from_slice(b"no end"),
+                Err(number) => put_refused(number, out),
+            }
+            put_run(&found.trace, out);
+        }
+        (b"ends_in_refused_brace_run", [text]) => {
+            let found = layer::ends_in_refused_brace_run(&hex(text)?, cap);
+            match found.answer {
+                Ok(answer) => put_yes(answer, out),
+                Err(number) => put_refused(number, out),
+            }
+            put_run(&found.trace, out);
+        }
+        (entry @ (b"merge" | b"merge_leading"), [a, b]) => {
+            let (a, b) = (hex(a)?, hex(b)?);
+            if a.contains(&b'\n') || b.contains(&b'\n') {
+                return None;
+            }
+            match layer::merge(&a, &b, entry == b"merge_leading") {
+                Ok(attrs) => {
+                    out.extend_from_slice(b"ok");
+                    put_canon(layer::canonical(&attrs), out);
+                }
+                Err(MergeRefusal::First(number)) => put!(out, "unread first {number}"),
+                Err(MergeRefusal::Second(number)) => put!(out, "unread second {number}"),
+                Err(MergeRefusal::Merge(number)) => put_refused(number, out),
+            }
+        }
+        (b"sheet", [text]) => {
+            let written = layer::sheet(&hex(text)?);
+            out.extend_from_slice(b"sheet ");
+            put_hex(&written, out);
+        }
+        _ => return None,
+    }
+    Some(())
+}
+
+/// Requests for the smallest parts, over any bytes.
+fn answer_leaf(fields: &[&[u8]], out: &mut Vec<u8>) -> Option<()> {
+    match fields {
+        [b"is_utf8", text] => put_yes(std::str::from_utf8(&hex(text)?).is_ok(), out),
+        [b"is_char_boundary", place, text] => {
+            let (place, text) = (number(place)?, hex(text)?);
+            let by_bytes = place <= text.len() && (place == text.len() || !is_continuation(text[place]));
+            let answer = match std::str::from_utf8(&text) {
+                Ok(text) => text.is_char_boundary(place),
+                Err(_) => by_bytes,
+            };
+            put_yes(answer, out);
+        }
+        [b"char_count", text] => {
+            let text = hex(text)?;
+            let by_bytes = text.iter().filter(|&&b| !is_continuation(b)).count();
+            let answer = std::str::from_utf8(&text).map_or(by_bytes, |text| text.chars().count());
+            put!(out, "{answer}");
+        }
+        [b"is_identifier", text] => put_yes(on_text(&hex(text)?, door::is_identifier), out),
+        [b"is_css_identifier", text] => put_yes(on_text(&hex(text)?, door::is_css_identifier), out),
+        [b"is_boolean_attr_name", text] => put_yes(on_text(&hex(text)?, door::is_boolean_attr_name), out),
+        [b"is_language_tag", text] => put_yes(on_text(&hex(text)?, door::is_language_tag), out),
+        [b"trim_ascii", text] => {
+            let text = hex(text)?;
+            let (from, to) = trim_range(&text);
+            assert_eq!(text[from..to], *text.trim_ascii(), "the stand-in trims what Rust's own function trims");
+            put_range((from, to), out);
+        }
+        [b"trim_ascii_start", text] => put_range(trim_start_range(&hex(text)?), out),
+        [b"trim_ascii_end", text] => put_range(trim_end_range(&hex(text)?), out),
+        [b"is_blank_line", text] => put_yes(hex(text)?.iter().all(|&b| is_ascii_blank(b)), out),
+        [b"line", line, text] => {
+            let (line, text) = (number(line)?, hex(text)?);
+            match line.checked_sub(1).and_then(|at| layer::line_ranges(&text).get(at).copied()) {
+                Some(range) => put_range(range, out),
+                None => out.extend_from_slice(b"none"),
+            }
+        }
+        [b"indent_columns", text] => put!(out, "{}", indent_columns_of(&hex(text)?)),
+        [b"columns", text] => {
+            let mut column = 0;
+            for byte in hex(text)? {
+                column += match byte {
+                    b'\t' => 4 - column % 4,
+                    _ => usize::from(!is_continuation(byte)),
+                };
+            }
+            put!(out, "{column}");
+        }
+        [b"unescape_title", text] => put_hex(&unescape_bytes(&hex(text)?), out),
+        [b"same_unescaped", a, b] => put_yes(unescape_bytes(&hex(a)?) == hex(b)?, out),
+        [b"is_class", byte] => {
+            let byte = u8::try_from(number(byte)?).ok()?;
+            let classes = [
+                byte.is_ascii_alphabetic(),
+                byte.is_ascii_digit(),
+                byte.is_ascii_alphanumeric() || byte == b'_' || byte == b'-',
+                is_ascii_blank(byte),
+                byte.is_ascii_punctuation(),
+                byte == b'"' || byte == b'\'',
+                !b"}|\"'\\ \t\r\n".contains(&byte),
+                is_continuation(byte),
+            ];
+            out.extend(classes.map(|yes| if yes { b'y' } else { b'n' }));
+        }
+        _ => return None,
+    }
+    Some(())
+}
+
+/// A byte that goes on with a character in UTF-8: 80 to BF.
+fn is_continuation(byte: u8) -> bool {
+    byte & 0xC0 == 0x80
+}
+
+/// The original's test of a text; bytes that aren't UTF-8 are no name and no tag.
+fn on_text(bytes: &[u8], test: impl Fn(&str) -> bool) -> bool {
+    std::str::from_utf8(bytes).is_ok_and(test)
+}
+
+fn put_range((from, to): (usize, usize), out: &mut Vec<u8>) {
+    put!(out, "from {from} to {to}");
+}
