@@ -1,4 +1,4 @@
--- Classes of bytes. No other file compares a byte with a number to put it into a class.
+-- Classes of bytes. Every class that the scope names is defined here; only the first bytes of UTF-8 characters are told apart in utf8.
 use Prim.Native.Nat.{ℕ}
 use mathlib.Core.Bool.{Bool, not, _&&_, _||_}
 use mathlib.Core.List.{List, [], _∷_}
@@ -19,6 +19,7 @@ isLetter b = within 65 90 b || within 97 122 b
 unfoldable pub isDigit : ℕ → Bool
 isDigit b = within 48 57 b
 
+-- "ASCII letters or digits"
 unfoldable pub isAlnum : ℕ → Bool
 isAlnum b = isLetter b || isDigit b
 

@@ -2,7 +2,7 @@
 ghost use mathlib.Core.Path.{_≡_};
 ghost use Rattle.ascii.specs.Bytes.{isLetter, isDigit, isAlnum, isNameStart, isNamePart, isKeyStart, isSpace, isPunct, isQuote, isPlain, isBlank, isIndent, isTail};
 
-// Which bytes part tokens: spaces, or in a line's blocks also CR and LF.
+// Which bytes part tokens: spaces alone, or also CR and LF.
 pub enum Mode {
     Strict,
     Loose,

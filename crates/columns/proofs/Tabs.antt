@@ -13,7 +13,8 @@ use lib.ListN.{replicate}
 use Rattle.lists.specs.Lists.{all, run, isIn}
 use Rattle.lists.proofs.Scan.{both}
 use Rattle.ascii.specs.Bytes.{isIndent, isTail, within}
-use Rattle.columns.specs.Columns.{tabStop, columnAfter, columnsFrom, indentFrom, indentColumns, expandFrom, chars}
+use Rattle.utf8.specs.Utf8.{charCount}
+use Rattle.columns.specs.Columns.{tabStop, columnAfter, columnsFrom, indentFrom, indentColumns, expandFrom}
 
 -- ---- spaces in a row
 all-spaces : (f : ℕ → Bool) (n : ℕ) (t : List ℕ) → f 32 ≡ true → all f (replicate n 32 ++ t) ≡ all f t
@@ -26,10 +27,10 @@ unfolding run
 run-spaces f zero t e = sym (zero-add (run f t))
 run-spaces f (suc n) t e = rw (e, run-spaces f n t e) (omega arith)
 
-chars-spaces : (n : ℕ) (t : List ℕ) → chars (replicate n 32 ++ t) ≡ n + chars t
-unfolding chars isTail within
-chars-spaces zero t = sym (zero-add (chars t))
-chars-spaces (suc n) t = rw (chars-spaces n t) (omega arith)
+charCount-spaces : (n : ℕ) (t : List ℕ) → charCount (replicate n 32 ++ t) ≡ n + charCount t
+unfolding charCount isTail within
+charCount-spaces zero t = sym (zero-add (charCount t))
+charCount-spaces (suc n) t = rw (charCount-spaces n t) (omega arith)
 
 -- ---- no tab is left
 pub no-tab : (c : ℕ) (s : List ℕ) → all (λ b. not (eqb b 9)) (expandFrom c s) ≡ true
@@ -70,26 +71,26 @@ unfolding isTail within
 space-begins = refl
 
 -- ---- a column counts the characters before it
-pub columns-count : (c : ℕ) (s : List ℕ) → columnsFrom c s ≡ c + chars (expandFrom c s)
-unfolding columnsFrom expandFrom chars
+pub columns-count : (c : ℕ) (s : List ℕ) → columnsFrom c s ≡ c + charCount (expandFrom c s)
+unfolding columnsFrom expandFrom charCount
 columns-count c [] = sym (add-zero c)
 columns-count c (b ∷ s) = go (eqb b 9) (isTail b) refl refl (columns-count (columnAfter c b) s)
   where
-    go : (x y : Bool) → eqb b 9 ≡ x → isTail b ≡ y → columnsFrom (columnAfter c b) s ≡ columnAfter c b + chars (expandFrom (columnAfter c b) s)
-        → columnsFrom (columnAfter c b) s ≡ c + chars (cond x (replicate (4 - c % 4) 32 ++ expandFrom (tabStop c) s) (b ∷ expandFrom (columnAfter c b) s))
-    go true y e f h = rw (at-tab c b e, chars-spaces (4 - c % 4) (expandFrom (tabStop c) s)) (omega (arith, rw (at-tab c b e) at h, stop c))
+    go : (x y : Bool) → eqb b 9 ≡ x → isTail b ≡ y → columnsFrom (columnAfter c b) s ≡ columnAfter c b + charCount (expandFrom (columnAfter c b) s)
+        → columnsFrom (columnAfter c b) s ≡ c + charCount (cond x (replicate (4 - c % 4) 32 ++ expandFrom (tabStop c) s) (b ∷ expandFrom (columnAfter c b) s))
+    go true y e f h = rw (at-tab c b e, charCount-spaces (4 - c % 4) (expandFrom (tabStop c) s)) (omega (arith, rw (at-tab c b e) at h, stop c))
     go false true e f h = rw f (omega (arith, h, at-tail c b e f))
     go false false e f h = rw f (omega (arith, h, at-char c b e f))
 
 -- without a tab that is all
-columns-plain : (c : ℕ) (s : List ℕ) → all (λ b. not (eqb b 9)) s ≡ true → columnsFrom c s ≡ c + chars s
-unfolding columnsFrom chars all
+columns-plain : (c : ℕ) (s : List ℕ) → all (λ b. not (eqb b 9)) s ≡ true → columnsFrom c s ≡ c + charCount s
+unfolding columnsFrom charCount all
 columns-plain c [] h = sym (add-zero c)
 columns-plain c (b ∷ s) h =
     let g = both (not (eqb b 9)) (all (λ b. not (eqb b 9)) s) h in
     go (isTail b) refl (not-true (eqb b 9) (g .0)) (columns-plain (columnAfter c b) s (g .1))
   where
-    go : (y : Bool) → isTail b ≡ y → eqb b 9 ≡ false → columnsFrom (columnAfter c b) s ≡ columnAfter c b + chars s → columnsFrom (columnAfter c b) s ≡ c + cond y (chars s) (suc (chars s))
+    go : (y : Bool) → isTail b ≡ y → eqb b 9 ≡ false → columnsFrom (columnAfter c b) s ≡ columnAfter c b + charCount s → columnsFrom (columnAfter c b) s ≡ c + cond y (charCount s) (suc (charCount s))
     go true f e q = omega (arith, q, at-tail c b e f)
     go false f e q = omega (arith, q, at-char c b e f)
 

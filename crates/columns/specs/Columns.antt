@@ -14,7 +14,8 @@ tabStop c = c + (4 - c % 4)
 unfoldable pub columnAfter : ℕ → ℕ → ℕ
 columnAfter c b = cond (eqb b 9) (tabStop c) (cond (isTail b) c (suc c))
 
--- the column behind the last byte, where the first stands at column c
+-- The column behind the last byte, where the first stands at column c. (In quotes 000 gives an escape two columns whatever it escapes, a tab too:
+-- that is for the scanners of runs to say.)
 unfoldable pub columnsFrom : ℕ → List ℕ → ℕ
 columnsFrom c [] = c
 columnsFrom c (b ∷ s) = columnsFrom (columnAfter c b) s
@@ -24,6 +25,7 @@ unfoldable pub indentFrom : ℕ → List ℕ → ℕ
 indentFrom c [] = c
 indentFrom c (b ∷ s) = cond (isIndent b) (indentFrom (columnAfter c b) s) c
 
+-- the indentation of a line
 unfoldable pub indentColumns : List ℕ → ℕ
 indentColumns s = indentFrom 0 s
 
@@ -39,8 +41,3 @@ capped n = cond (leb n most) n most
 unfoldable pub expandFrom : ℕ → List ℕ → List ℕ
 expandFrom c [] = []
 expandFrom c (b ∷ s) = cond (eqb b 9) (replicate (4 - c % 4) 32 ++ expandFrom (tabStop c) s) (b ∷ expandFrom (columnAfter c b) s)
-
--- how many characters: each byte that goes on none begins one
-unfoldable pub chars : List ℕ → ℕ
-chars [] = 0
-chars (b ∷ s) = cond (isTail b) (chars s) (suc (chars s))

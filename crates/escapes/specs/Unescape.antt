@@ -18,6 +18,7 @@ unescapeFrom true [] = 92 ∷ []
 unescapeFrom false (b ∷ s) = cond (eqb b 92) (unescapeFrom true s) (b ∷ unescapeFrom false s)
 unescapeFrom true (b ∷ s) = cond (isPunct b) (b ∷ unescapeFrom false s) (92 ∷ (b ∷ unescapeFrom false s))
 
+-- the text that a raw text stands for
 unfoldable pub unescape : List ℕ → List ℕ
 unescape s = unescapeFrom false s
 
@@ -40,9 +41,10 @@ pieceAt s i =
 unfoldable pub fits : ℕ → ℕ → ℕ → Bool
 fits size at n = leb at size && leb n (size - at)
 
--- what is answered, and what then stands in the buffer: all of it from `at` on, or nothing is touched
+-- what is answered where xs is to be written from `at` on: the place behind it, or that it has no room
 unfoldable pub writtenTo : List ℕ → ℕ → List ℕ → Written
 writtenTo buf at xs = cond (fits (length buf) at (length xs)) (To (at + length xs)) Full
 
+-- what stands in the buffer then: xs from `at` on and the rest as it was, or all as it was
 unfoldable pub contentOf : List ℕ → ℕ → List ℕ → List ℕ
 contentOf buf at xs = cond (fits (length buf) at (length xs)) (sets buf at xs) buf

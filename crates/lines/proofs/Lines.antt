@@ -17,7 +17,8 @@ use Rattle.lines.specs.declared.Range.{Range}
 use Rattle.lines.specs.declared.Line.{Line}
 use Rattle.lines.specs.declared.Line.the-variants.{Missing, At}
 use Rattle.lines.specs.declared.LineEnd.{LineEnd}
-use Rattle.lines.specs.Lines.{onLine, isDropped, lines, eol, firstOf, lineFrom, rangesFrom, ranges, bytesOf, pick, lineOf}
+use Rattle.lines.specs.Lines.{onLine, isDropped, lines, eol, firstOf, lineFrom, rangesFrom, ranges, bytesOf, pick, lineOf, lineNo}
+use Rattle.refusals.specs.Numbers.{numberOf}
 use Rattle.lists.proofs.Parts.{slice-add, drop-min}
 use Rattle.lines.proofs.First.{first-cons, first-on, first-stop, rest-of, eol-le, first-le, first-take, first-whole, first-cut}
 
@@ -312,3 +313,8 @@ no-lf (b ∷ s) n = go (eqb b 10) refl (isDropped b s) (lines s) (no-lf s) n
     go false e false [] ih (suc n) = refl
     go false e false (l ∷ ls) ih zero = rw e (ih 0)
     go false e false (l ∷ ls) ih (suc n) = ih (suc n)
+
+-- ---- the number of an answer: 3 exactly where there is no such line
+pub line-no : (n : ℕ) (t : List ℕ) → (n ≡ 0) ⊎ (length (lines t) < n) → lineNo (lineOf n t) ≡ 3
+unfolding numberOf
+line-no n t h = rw (missing-line n t h)

@@ -35,6 +35,7 @@ onLine false false b rest = onto b rest
 abbrev pub isDropped : ℕ → List ℕ → Bool
 isDropped b s = eqb b 13 && beforeLf s
 
+-- "Lines end at LF"
 unfoldable pub lines : List ℕ → List (List ℕ)
 lines [] = []
 lines (b ∷ s) = onLine (eqb b 10) (isDropped b s) b (lines s)
@@ -80,6 +81,7 @@ unfoldable pub pick : ℕ → List Range → Line
 pick n [] = Missing
 pick n (l ∷ ls) = pickOr n l (λ k. pick k ls)
 
+-- the line of a number
 unfoldable pub lineOf : ℕ → List ℕ → Line
 lineOf n t = pick n (ranges t)
 

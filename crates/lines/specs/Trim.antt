@@ -13,14 +13,16 @@ unfoldable pub trimStart : List ℕ → List ℕ
 trimStart [] = []
 trimStart (b ∷ s) = cond (isSpace b) (trimStart s) (b ∷ s)
 
--- without the whitespace at the end: nothing is left where nothing but whitespace follows
+-- without the whitespace at the end: a byte stays where it, or one behind it, is no whitespace
 unfoldable pub trimEnd : List ℕ → List ℕ
 trimEnd [] = []
 trimEnd (b ∷ s) = cond (all isSpace (b ∷ s)) [] (b ∷ trimEnd s)
 
+-- "`trim_ascii`": without the whitespace at both ends
 unfoldable pub trim : List ℕ → List ℕ
 trim s = trimEnd (trimStart s)
 
+-- "`is_blank_line`: nothing remains after that."
 unfoldable pub isBlankLine : List ℕ → Bool
 isBlankLine s = eqb (length (trim s)) 0
 

@@ -28,10 +28,10 @@ sized : {s : List ℕ} → Subtag s → isSize (length s) ≡ true
 unfolding isSize within
 sized {s} h = rw (le-leb 1 (length s) (h .some), le-leb (length s) 8 (h .few))
 
-pub sound : {s : List ℕ} → Tag s → isTag s ≡ true
+pub complete : {s : List ℕ} → Tag s → isTag s ≡ true
 unfolding isTag tagFrom isAlnum isLetter isDigit within
-sound (Tag.one {s = s} h) = rw (← append-nil s, passed s [] 0 (h .chars), zero-add) (sized h)
-sound (Tag.more {s = s} {t = t} h r) = rw (passed s (45 ∷ t) 0 (h .chars), zero-add, sized h) (sound r)
+complete (Tag.one {s = s} h) = rw (← append-nil s, passed s [] 0 (h .chars), zero-add) (sized h)
+complete (Tag.more {s = s} {t = t} h r) = rw (passed s (45 ∷ t) 0 (h .chars), zero-add, sized h) (complete r)
 
 subtag : (p : List ℕ) → all isAlnum p ≡ true → isSize (length p) ≡ true → Subtag p
 unfolding isSize within
@@ -52,20 +52,20 @@ from (a ∷ s) p e f = go (isAlnum a) refl f (from s (p ++ (a ∷ []))) (from s 
         let k = both (eqb a 45) (tagFrom s 0) (h .1) in
         rw (eqb-true a 45 (k .0)) (Tag.more (subtag p e (h .0)) (rest refl (k .1)))
 
-pub complete : (s : List ℕ) → isTag s ≡ true → Tag s
+pub sound : (s : List ℕ) → isTag s ≡ true → Tag s
 unfolding isTag all
-complete s e = from s [] refl e
+sound s e = from s [] refl e
 
-pub language-sound : {s : List ℕ} → Language s → isLanguage s ≡ true
+pub language-complete : {s : List ℕ} → Language s → isLanguage s ≡ true
 unfolding isLanguage
-language-sound Language.nothing = refl
-language-sound (Language.tag {s = s} h) = go s h
+language-complete Language.nothing = refl
+language-complete (Language.tag {s = s} h) = go s h
   where
     go : (s : List ℕ) → Tag s → isLanguage s ≡ true
     go [] h = refl
-    go (a ∷ s) h = sound h
+    go (a ∷ s) h = complete h
 
-pub language-complete : (s : List ℕ) → isLanguage s ≡ true → Language s
+pub language-sound : (s : List ℕ) → isLanguage s ≡ true → Language s
 unfolding isLanguage
-language-complete [] e = Language.nothing
-language-complete (a ∷ s) e = Language.tag (complete (a ∷ s) e)
+language-sound [] e = Language.nothing
+language-sound (a ∷ s) e = Language.tag (sound (a ∷ s) e)

@@ -5,7 +5,7 @@ use mathlib.Core.List.{List, [], _∷_}
 use lib.Dec.{eqb}
 use Rattle.ascii.specs.Bytes.{within, isAlnum}
 
--- the size of a subtag
+-- "A subtag is 1 to 8 ASCII letters or digits."
 unfoldable pub isSize : ℕ → Bool
 isSize k = within 1 8 k
 
@@ -14,9 +14,11 @@ unfoldable pub tagFrom : List ℕ → ℕ → Bool
 tagFrom [] k = isSize k
 tagFrom (a ∷ s) k = cond (isAlnum a) (tagFrom s (suc k)) (isSize k && (eqb a 45 && tagFrom s 0))
 
+-- "A tag is one subtag, or a subtag, a hyphen and a tag."
 unfoldable pub isTag : List ℕ → Bool
 isTag s = tagFrom s 0
 
+-- "`:`, then nothing or a tag."
 unfoldable pub isLanguage : List ℕ → Bool
 isLanguage [] = true
 isLanguage (a ∷ s) = isTag (a ∷ s)

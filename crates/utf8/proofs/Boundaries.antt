@@ -17,7 +17,7 @@ use Rattle.ascii.specs.Bytes.{within, isTail}
 use Rattle.utf8.specs.Grammar.{Octets, none, more}
 use Rattle.utf8.specs.Utf8.{isUtf8, octetsFrom, isBoundary}
 use Rattle.utf8.proofs.Laws.{past-ascii}
-use Rattle.utf8.proofs.Grammar.{char, octets, complete, utf8-append}
+use Rattle.utf8.proofs.Grammar.{char, octets, sound, utf8-append}
 use Rattle.utf8.proofs.Shape.{starts, shape}
 
 -- ---- within the character k there is no boundary
@@ -63,7 +63,7 @@ pub parts : (s : List ℕ) (i : ℕ) → isUtf8 s ≡ true → isBoundary s i �
 unfolding isUtf8 isBoundary
 parts s i e b =
     let p = both (leb i (length s)) (starts (getD s i 0)) b in
-    let r = parts-of (complete s e .octets) i (leb-true i (length s) (p .0)) (not-true (isTail (getD s i 0)) (p .1)) in
+    let r = parts-of (sound s e .octets) i (leb-true i (length s) (p .0)) (not-true (isTail (getD s i 0)) (p .1)) in
     (r .front, r .back)
 
 -- ---- a place that parts the text is a boundary, and it is enough that the rest is well-formed
@@ -78,7 +78,7 @@ first-byte (more {k} {s} c o) = at k (shape c)
 
 pub rest-boundary : (s : List ℕ) (i : ℕ) → i ≤ length s → isUtf8 (drop i s) ≡ true → isBoundary s i ≡ true
 unfolding isBoundary
-rest-boundary s i h e = rw (le-leb i (length s) h, rw (getD-drop, add-zero) at (first-byte (complete (drop i s) e .octets)))
+rest-boundary s i h e = rw (le-leb i (length s) h, rw (getD-drop, add-zero) at (first-byte (sound (drop i s) e .octets)))
 
 pub boundary : (s : List ℕ) (i : ℕ) → i ≤ length s → isUtf8 (take i s) ≡ true → isUtf8 (drop i s) ≡ true → isBoundary s i ≡ true
 boundary s i h p q = rest-boundary s i h q

@@ -78,8 +78,8 @@ unfolding isUtf8 octetsFrom
 octets none = refl
 octets (more {k} {s} c o) = utf8-append k s (char c) ∙ octets o
 
-pub sound : {s : List ℕ} → WellFormed s → isUtf8 s ≡ true
-sound w = octets (w .octets)
+pub complete : {s : List ℕ} → WellFormed s → isUtf8 s ≡ true
+complete w = octets (w .octets)
 
 -- ---- to the grammar: what w wants, and then characters
 data Rest : ℕ → ℕ → ℕ → List ℕ → Type 0 where
@@ -175,9 +175,9 @@ wanted (a ∷ s) (suc n) lo hi e =
     let g = taken lo hi a (record { owed = n; lo = 0x80; hi = 0xBF }) (octetsFrom s) (rw (ne-eqb (suc n) 0 (omega arith), z) at e) in
     owed (g .0) (wanted s n 0x80 0xBF (g .1))
 
-pub complete : (s : List ℕ) → isUtf8 s ≡ true → WellFormed s
+pub sound : (s : List ℕ) → isUtf8 s ≡ true → WellFormed s
 unfolding isUtf8
-complete s e = whole (wanted s 0 0x80 0xBF e)
+sound s e = whole (wanted s 0 0x80 0xBF e)
   where
     whole : Rest 0 0x80 0xBF s → WellFormed s
     whole (done w) = w

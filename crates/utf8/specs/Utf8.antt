@@ -54,7 +54,7 @@ isUtf8 s = octetsFrom s fresh
 unfoldable pub isBoundary : List ℕ → ℕ → Bool
 isBoundary s i = leb i (length s) && not (isTail (getD s i 0))
 
--- "Columns count characters, not bytes.": how many characters there are, each counted at its first byte
+-- how many characters well-formed text has: each is counted at its first byte
 unfoldable pub charCount : List ℕ → ℕ
 charCount [] = 0
 charCount (b ∷ s) = cond (isTail b) (charCount s) (suc (charCount s))

@@ -117,7 +117,7 @@ pub fn is_utf8(s: &[u8]) -> bool
     w.owed == 0
 }
 
-// Whether the place parts the text between two characters, or is one of its ends.
+// Whether i is the text's end, or a place whose byte goes on no character.
 pub fn is_char_boundary(s: &[u8], i: usize) -> bool
     ensures { λ r. ⌜ r ≡ isBoundary (now (s .entry)) i ⌝ }
 {

@@ -1,0 +1,53 @@
+-- `put_pairs` ends, since each turn passes a byte; the buffer keeps its length, and the place never goes back.
+-- Assumes nothing.
+use borrow.Author.Needs.{needs}
+use mathlib.Core.Path.{_≡_}
+use Prim.Native.Nat.{_≤_, _-_}
+use lib.ListN.{length}
+use Rattle.replay.proofs.out.put_pairs.Statement.{statement}
+use Rattle.replay.proofs.out.put_pairs.Tie as tie
+
+abbrev Inv-loop : tie.InvT-loop
+Inv-loop output₀ at s to₀ i₀ output to i = (length output ≡ length output₀) × (at ≤ to)
+
+abbrev μ-loop : tie.MeasureT-loop
+μ-loop output₀ at s to₀ i₀ output to i = length s - i
+
+loop-holds : tie.Need-loop-holds Inv-loop μ-loop
+loop-holds c = search needs
+
+shared-slice-read-put-pair : tie.Need-shared-slice-read-put-pair Inv-loop μ-loop
+shared-slice-read-put-pair c = search needs
+
+put-pair-requires : tie.Need-put-pair-requires Inv-loop μ-loop
+put-pair-requires c κs = search needs
+
+add-i : tie.Need-add-i Inv-loop μ-loop
+add-i c = search needs
+
+loop-less : tie.Need-loop-less Inv-loop μ-loop
+loop-less c = search needs
+
+loop-again : tie.Need-loop-again Inv-loop μ-loop
+loop-again c = search needs
+
+same-length : tie.Need-same-length Inv-loop μ-loop
+same-length c = search needs
+
+returns : tie.Need-returns Inv-loop μ-loop
+returns c = search needs
+
+pub put-pairs-spec : {M : Type 1} → statement M
+put-pairs-spec =
+    tie.close
+    (tie.spec
+    Inv-loop
+    μ-loop
+    loop-holds
+    shared-slice-read-put-pair
+    put-pair-requires
+    add-i
+    loop-less
+    loop-again
+    same-length
+    returns)

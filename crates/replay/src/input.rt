@@ -1,0 +1,149 @@
+// Request lines from standard input, through a buffer that holds the longest.
+use crate::answer;
+use crate::fields;
+use crate::out;
+
+// How many bytes wait at the front of each buffer, for their LF and to be written out, and whether there is more to read.
+struct State {
+    read: usize,
+    at: usize,
+    more: bool,
+}
+
+// How far the lines of a buffer have been answered, and where the next answer goes.
+struct Answered {
+    from: usize,
+    at: usize,
+}
+
+// Answers every line. A proved loop has to end, and nothing says that the input does, so the loop counts its turns down,
+// from a number that no run uses up.
+pub(crate) fn answer_all(input: &mut [u8], a: &mut [u8], b: &mut [u8], output: &mut [u8]) {
+    let mut s = State {
+        read: 0,
+        at: 0,
+        more: true,
+    };
+    let mut turns = u64::MAX;
+    while turns > 0 {
+        s = turn(input, a, b, output, s);
+        if !s.more {
+            return;
+        }
+        turns -= 1;
+    }
+}
+
+// Reads once, and answers each line that is whole. At the end of the input a line may lack its LF.
+fn turn(input: &mut [u8], a: &mut [u8], b: &mut [u8], output: &mut [u8], s: State) -> State {
+    let n = fill(input, s.read);
+    let have = added(s.read, n);
+    if n == 0 {
+        let at = answer_last(fields::part(input, 0, have), a, b, output, s.at);
+        out::flush(output, at);
+        return State {
+            read: 0,
+            at: 0,
+            more: false,
+        };
+    }
+    let done = answer_lines(fields::part(input, 0, have), a, b, output, s.at);
+    let left = shift(input, done.from, have);
+    State {
+        read: shortened(input, left),
+        at: done.at,
+        more: true,
+    }
+}
+
+fn added(a: usize, b: usize) -> usize {
+    if 18446744073709551615 - a < b {
+        a
+    } else {
+        a + b
+    }
+}
+
+// Reads once behind the bytes that wait, and answers how many bytes came.
+fn fill(input: &mut [u8], read: usize) -> usize {
+    if input.len() < read {
+        return 0;
+    }
+    let rest = &mut input[read..];
+    let got = libc::read(libc::STDIN_FILENO, rest);
+    io::count(got, rest)
+}
+
+// Answers each line of the buffer that has its LF.
+fn answer_lines(
+    lines: &[u8],
+    a: &mut [u8],
+    b: &mut [u8],
+    output: &mut [u8],
+    at: usize,
+) -> Answered {
+    let mut from = 0;
+    let mut to = at;
+    while from < lines.len() {
+        let end = fields::find(lines, from, b'\n');
+        if lines.len() <= end {
+            return Answered { from, at: to };
+        }
+        to = answer_line(fields::part(lines, from, end), a, b, output, to);
+        from = end + 1;
+    }
+    Answered { from, at: to }
+}
+
+// Answers one line, and writes out where many answers wait.
+fn answer_line(line: &[u8], a: &mut [u8], b: &mut [u8], output: &mut [u8], at: usize) -> usize {
+    let end = answer(line, a, b, output, at);
+    let next = out::put_byte(output, end, b'\n');
+    if next < 131072 {
+        return next;
+    }
+    out::flush(output, next)
+}
+
+// Answers the line that the input ends with, where it lacks its LF.
+fn answer_last(line: &[u8], a: &mut [u8], b: &mut [u8], output: &mut [u8], at: usize) -> usize {
+    if line.len() == 0 {
+        return at;
+    }
+    answer_line(line, a, b, output, at)
+}
+
+// Moves what waits for its LF to the front of the buffer, and answers how much it is.
+fn shift(input: &mut [u8], from: usize, have: usize) -> usize {
+    let mut n = 0;
+    let mut i = from;
+    while i < have {
+        copy_byte(input, i, n);
+        n += 1;
+        i += 1;
+    }
+    n
+}
+
+fn copy_byte(input: &mut [u8], from: usize, to: usize) {
+    if input.len() <= from {
+        return;
+    }
+    if input.len() <= to {
+        return;
+    }
+    input[to] = input[from];
+}
+
+// Where a line is too long for the buffer, a byte that no request begins with takes its place: what follows up to the LF
+// goes behind it and is answered as a request that is none known.
+fn shortened(input: &mut [u8], left: usize) -> usize {
+    if left < input.len() {
+        return left;
+    }
+    if input.len() == 0 {
+        return 0;
+    }
+    input[0] = b'?';
+    1
+}

@@ -1,0 +1,36 @@
+// Answers request lines from standard input, one line for each: the Rattle side of the comparison with the Rust.
+mod fields;
+mod input;
+mod leaves;
+mod out;
+
+// A request line fits the input buffer with its LF: two texts in hex, and the words around them.
+const INPUT: usize = 263000;
+// The longest text of a request.
+const TEXT: usize = 65600;
+// The longest answer is a sheet's, six times its text and in hex, and stands behind those that wait to be written.
+const OUTPUT: usize = 1048576;
+
+fn main() {
+    let mut input = [0u8; INPUT];
+    let mut a = [0u8; TEXT];
+    let mut b = [0u8; TEXT];
+    let mut output = [0u8; OUTPUT];
+    input::answer_all(&mut input, &mut a, &mut b, &mut output);
+}
+
+// Answers one request, its text or texts laid into a and b, behind what stands in the output up to `at`.
+pub(crate) fn answer(
+    line: &[u8],
+    a: &mut [u8],
+    b: &mut [u8],
+    output: &mut [u8],
+    at: usize,
+) -> usize {
+    let f = fields::split(line);
+    let first = fields::field(line, f, 0);
+    if lists::same_bytes(first, b"leaf") {
+        return leaves::answer(line, f, a, b, output, at);
+    }
+    out::put(output, at, b"error")
+}
