@@ -645,10 +645,13 @@ fn leaf(rng: &mut Rng, out: &mut Out) {
         let mut text = text.into_bytes();
         damage(rng, &mut text, 2);
         text.truncate(65_600);
-        let words = rng.pick(&["is_utf8", "char_count", "columns", "trim_ascii", "unescape_title", "line 3", "is_char_boundary 65535"]);
+        let words = rng.pick(&[
+            "is_utf8", "check_text", "check_text", "check_text", "char_count", "columns", "trim_ascii", "unescape_title", "line 3", "line_from 3",
+            "line_from 65530", "piece_at 65534", "piece_at 65535", "is_char_boundary 65535",
+        ]);
         return out.request(&format!("leaf {words}"), &text, "");
     }
-    match rng.below(20) {
+    match rng.below(26) {
         0 | 1 => {
             let mut text = utf8_mix(rng);
             damage(rng, &mut text, 6);
@@ -656,8 +659,7 @@ fn leaf(rng: &mut Rng, out: &mut Out) {
         }
         2 | 3 => {
             let text = utf8_mix(rng);
-            let inside = rng.below(text.len() + 2);
-            let place = number(rng, inside, 90);
+            let place = place_in(rng, &text);
             out.request(&format!("leaf is_char_boundary {place}"), &text, "");
         }
         4 => out.request("leaf char_count", &utf8_mix(rng), ""),
@@ -684,11 +686,7 @@ fn leaf(rng: &mut Rng, out: &mut Out) {
             out.request(&format!("leaf {words}"), &text, "");
         }
         13 | 14 => {
-            let mut text = Vec::new();
-            for _ in 0..rng.below(9) {
-                text.extend_from_slice(rng.pick(&["a", "\n", "\n", "\r", "\r\n", "b c", "", "\u{c}"]).as_bytes());
-            }
-            damage(rng, &mut text, 10);
+            let text = short_lines(rng);
             let line = rng.between(0, 5);
             let line = number(rng, line, 90);
             out.request(&format!("leaf line {line}"), &text, "");
@@ -697,14 +695,7 @@ fn leaf(rng: &mut Rng, out: &mut Out) {
             let text = if rng.percent(50) { utf8_mix(rng) } else { text_of_lines(rng, 20, 10).0 };
             out.request("leaf columns", &text, "");
         }
-        16 => {
-            let mut text = Vec::new();
-            for _ in 0..rng.below(7) {
-                text.extend_from_slice(rng.pick(&["\\", "\\", "a", "\"", "_", "é", " ", "1", "\\~", "\\\u{7f}", "\t"]).as_bytes());
-            }
-            damage(rng, &mut text, 8);
-            out.request("leaf unescape_title", &text, "");
-        }
+        16 => out.request("leaf unescape_title", &escaped(rng), ""),
         17 | 18 => {
             let mut a = Vec::new();
             for _ in 0..rng.below(6) {
@@ -727,8 +718,49 @@ fn leaf(rng: &mut Rng, out: &mut Out) {
             out.request("leaf same_unescaped", &a, " ");
             out.hex(&b);
         }
+        19 | 20 => {
+            let text = short_lines(rng);
+            let place = place_in(rng, &text);
+            out.request(&format!("leaf line_from {place}"), &text, "");
+        }
+        21 | 22 => {
+            let text = escaped(rng);
+            let place = place_in(rng, &text);
+            out.request(&format!("leaf piece_at {place}"), &text, "");
+        }
+        23 | 24 => {
+            let mut text = if rng.percent(50) { utf8_mix(rng) } else { text_of_lines(rng, 20, 10).0 };
+            damage(rng, &mut text, 6);
+            out.request("leaf check_text", &text, "");
+        }
         _ => out.words(&format!("leaf is_class {}", rng.below(256))),
     }
+}
+
+/// A few short lines with all kinds of ends.
+fn short_lines(rng: &mut Rng) -> Vec<u8> {
+    let mut text = Vec::new();
+    for _ in 0..rng.below(9) {
+        text.extend_from_slice(rng.pick(&["a", "\n", "\n", "\r", "\r\n", "b c", "", "\u{c}"]).as_bytes());
+    }
+    damage(rng, &mut text, 10);
+    text
+}
+
+/// Backslashes before punctuation and before other bytes.
+fn escaped(rng: &mut Rng) -> Vec<u8> {
+    let mut text = Vec::new();
+    for _ in 0..rng.below(7) {
+        text.extend_from_slice(rng.pick(&["\\", "\\", "a", "\"", "_", "é", " ", "1", "\\~", "\\\u{7f}", "\t"]).as_bytes());
+    }
+    damage(rng, &mut text, 8);
+    text
+}
+
+/// A place that is mostly in the text or just behind it.
+fn place_in(rng: &mut Rng, text: &[u8]) -> u64 {
+    let inside = rng.below(text.len() + 2);
+    number(rng, inside, 90)
 }
 
 fn brace(rng: &mut Rng, out: &mut Out) {
@@ -993,6 +1025,7 @@ struct Section {
     forms: &'static [(&'static str, &'static [u8], &'static [u8])],
 }
 
+const ESCAPE_ATOMS: &[&[u8]] = &[b"\\", b"a", b"\"", b"_", b" ", b"\xC3\xA9", b"~", b"\x7F", b"\x80"];
 const BRACE_FORMS: &[(&str, &[u8], &[u8])] = &[
     ("read_attrs_at 0 strict", b"{", b"}"),
     ("read_attrs_at 0 loose", b"{", b"}"),
@@ -1030,7 +1063,13 @@ fn sections(family: &str) -> &'static [Section] {
                     b"\x00", b"a", b"\x7F", b"\x80", b"\x8F", b"\x90", b"\x9F", b"\xA0", b"\xBF", b"\xC0", b"\xC1", b"\xC2", b"\xDF", b"\xE0", b"\xE1",
                     b"\xED", b"\xEE", b"\xEF", b"\xF0", b"\xF1", b"\xF3", b"\xF4", b"\xF5", b"\xFF",
                 ],
-                forms: &[("leaf is_utf8", b"", b""), ("leaf char_count", b"", b""), ("leaf is_char_boundary 1", b"", b""), ("leaf is_char_boundary 2", b"", b"")],
+                forms: &[
+                    ("leaf is_utf8", b"", b""),
+                    ("leaf check_text", b"", b""),
+                    ("leaf char_count", b"", b""),
+                    ("leaf is_char_boundary 1", b"", b""),
+                    ("leaf is_char_boundary 2", b"", b""),
+                ],
             },
             Section {
                 atoms: &[b"a", b" ", b"\t", b"\n", b"\r", b"\x0C", b"\x0B", b"\xC2\xA0"],
@@ -1045,6 +1084,10 @@ fn sections(family: &str) -> &'static [Section] {
                     ("leaf line 1", b"", b""),
                     ("leaf line 2", b"", b""),
                     ("leaf line 3", b"", b""),
+                    ("leaf line_from 0", b"", b""),
+                    ("leaf line_from 1", b"", b""),
+                    ("leaf line_from 2", b"", b""),
+                    ("leaf line_from 18446744073709551615", b"", b""),
                 ],
             },
             Section {
@@ -1059,8 +1102,14 @@ fn sections(family: &str) -> &'static [Section] {
                 ],
             },
             Section {
-                atoms: &[b"\\", b"a", b"\"", b"_", b" ", b"\xC3\xA9", b"~", b"\x7F", b"\x80"],
-                forms: &[("leaf unescape_title", b"", b"")],
+                atoms: ESCAPE_ATOMS,
+                forms: &[
+                    ("leaf unescape_title", b"", b""),
+                    ("leaf piece_at 0", b"", b""),
+                    ("leaf piece_at 1", b"", b""),
+                    ("leaf piece_at 2", b"", b""),
+                    ("leaf piece_at 18446744073709551615", b"", b""),
+                ],
             },
         ],
         "brace" => &[
@@ -1109,24 +1158,69 @@ fn section_size(section: &Section, length: usize) -> u64 {
     section.forms.len() as u64 * strings(section.atoms.len(), length)
 }
 
-/// The leaves begin with all 256 byte classes.
-fn extra(family: &str) -> u64 {
+/// Sizes around the text limit and the longest that a request carries, and texts of them: ASCII, and what isn't UTF-8 at
+/// the front or at the end.
+const SIZES: [usize; 5] = [TEXT_LIMIT - 1, TEXT_LIMIT, TEXT_LIMIT + 1, TEXT_LIMIT + 2, 65_600];
+const SIZED: [fn(&mut [u8]); 3] = [|_| {}, |text| text[0] = 0xFF, |text| text[text.len() - 1] = 0xC2];
+
+/// How many pairs of strings there are with at most that many atoms together.
+fn pairs(atoms: usize, length: usize) -> u64 {
+    (0..=length as u64).map(|n| (n + 1) * (atoms as u64).pow(n as u32)).sum()
+}
+
+/// The leaves begin with all 256 byte classes, then come the texts by size, then pairs of raw and unescaped text.
+fn extra(family: &str, length: usize) -> u64 {
     if family == "leaves" {
-        256
+        256 + (SIZES.len() * SIZED.len()) as u64 + pairs(ESCAPE_ATOMS.len(), length)
     } else {
         0
     }
 }
 
+fn exhaustive_extra(mut number: u64, out: &mut Out) {
+    if number < 256 {
+        return out.words(&format!("leaf is_class {number}"));
+    }
+    number -= 256;
+    let sized = SIZED.len() as u64;
+    if number < SIZES.len() as u64 * sized {
+        let mut text = vec![b'a'; SIZES[(number / sized) as usize]];
+        SIZED[(number % sized) as usize](&mut text);
+        return out.request("leaf check_text", &text, "");
+    }
+    number -= SIZES.len() as u64 * sized;
+    // First the length of both together, then where the second begins, then the atoms as digits.
+    let atoms = ESCAPE_ATOMS.len() as u64;
+    let mut count = 0;
+    while number >= (count + 1) * atoms.pow(count as u32) {
+        number -= (count + 1) * atoms.pow(count as u32);
+        count += 1;
+    }
+    let list = digits(ESCAPE_ATOMS, number / (count + 1), count as u32);
+    let (a, b) = list.split_at((number % (count + 1)) as usize);
+    out.request("leaf same_unescaped", &a.concat(), " ");
+    out.hex(&b.concat());
+}
+
+/// As many atoms, as digits of the number.
+fn digits(atoms: &[&'static [u8]], mut number: u64, count: u32) -> Vec<&'static [u8]> {
+    let mut list = Vec::new();
+    for _ in 0..count {
+        list.push(atoms[(number % atoms.len() as u64) as usize]);
+        number /= atoms.len() as u64;
+    }
+    list
+}
+
 fn exhaustive_size(family: &str, length: usize) -> u64 {
-    extra(family) + sections(family).iter().map(|section| section_size(section, length)).sum::<u64>()
+    extra(family, length) + sections(family).iter().map(|section| section_size(section, length)).sum::<u64>()
 }
 
 fn exhaustive(family: &str, length: usize, mut number: u64, out: &mut Out) {
-    if number < extra(family) {
-        return out.words(&format!("leaf is_class {number}"));
+    if number < extra(family, length) {
+        return exhaustive_extra(number, out);
     }
-    number -= extra(family);
+    number -= extra(family, length);
     for section in sections(family) {
         let size = section_size(section, length);
         if number >= size {
@@ -1143,11 +1237,7 @@ fn exhaustive(family: &str, length: usize, mut number: u64, out: &mut Out) {
             rest -= atoms.pow(count);
             count += 1;
         }
-        let mut list = Vec::new();
-        for _ in 0..count {
-            list.push(section.atoms[(rest % atoms) as usize]);
-            rest /= atoms;
-        }
+        let list = digits(section.atoms, rest, count);
         if family == "merge" {
             // One half on each side.
             let (a, b) = list.split_at(list.len() / 2);

@@ -45,7 +45,8 @@ fn lines_of(bytes: &[u8]) -> Result<Vec<&str>, Number> {
     Ok(lines)
 }
 
-fn whole_text(bytes: &[u8]) -> Result<&str, Number> {
+/// The text, or 1 where it is too long, else 2 where it isn't UTF-8.
+pub fn whole_text(bytes: &[u8]) -> Result<&str, Number> {
     if bytes.len() > TEXT_LIMIT {
         return Err(1);
     }

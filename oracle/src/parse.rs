@@ -56,6 +56,15 @@ pub(crate) mod attrs {
             (answer, ATTRS_LOOKAHEAD_BYTES.with(|work| work.get()))
         }
 
+        pub(crate) fn is_attr_ident_start(byte: u8) -> bool {
+            super::is_attr_ident_start(byte)
+        }
+        pub(crate) fn is_css_ident_start(byte: u8) -> bool {
+            super::is_css_ident_start(byte)
+        }
+        pub(crate) fn is_attr_ident_part(byte: u8) -> bool {
+            super::is_attr_ident_part(byte)
+        }
         pub(crate) fn is_identifier(name: &str) -> bool {
             super::is_identifier(name)
         }

@@ -241,6 +241,11 @@ fn answer_leaf(fields: &[&[u8]], out: &mut Vec<u8>) -> Option<()> {
                 None => out.extend_from_slice(b"none"),
             }
         }
+        [b"line_from", place, text] => {
+            let (place, text) = (number(place)?, hex(text)?);
+            let (to, next) = line_from(&text, place);
+            put!(out, "to {to} next {next}");
+        }
         [b"indent_columns", text] => put!(out, "{}", indent_columns_of(&hex(text)?)),
         [b"columns", text] => {
             let mut column = 0;
@@ -254,16 +259,30 @@ fn answer_leaf(fields: &[&[u8]], out: &mut Vec<u8>) -> Option<()> {
         }
         [b"unescape_title", text] => put_hex(&unescape_bytes(&hex(text)?), out),
         [b"same_unescaped", a, b] => put_yes(unescape_bytes(&hex(a)?) == hex(b)?, out),
+        [b"piece_at", place, text] => {
+            let (place, text) = (number(place)?, hex(text)?);
+            match piece_at(&text, place) {
+                Some((byte, next)) => put!(out, "byte {byte} next {next}"),
+                None => out.extend_from_slice(b"end"),
+            }
+        }
+        [b"check_text", text] => put!(out, "{}", layer::whole_text(&hex(text)?).err().unwrap_or(0)),
         [b"is_class", byte] => {
             let byte = u8::try_from(number(byte)?).ok()?;
             let classes = [
                 byte.is_ascii_alphabetic(),
                 byte.is_ascii_digit(),
-                byte.is_ascii_alphanumeric() || byte == b'_' || byte == b'-',
+                byte.is_ascii_alphanumeric(),
+                door::is_css_ident_start(byte),
+                door::is_attr_ident_start(byte),
+                door::is_attr_ident_part(byte),
                 is_ascii_blank(byte),
                 byte.is_ascii_punctuation(),
                 byte == b'"' || byte == b'\'',
                 !b"}|\"'\\ \t\r\n".contains(&byte),
+                byte == b' ',
+                b" \r\n".contains(&byte),
+                b" \t".contains(&byte),
                 is_continuation(byte),
             ];
             out.extend(classes.map(|yes| if yes { b'y' } else { b'n' }));
@@ -276,6 +295,32 @@ fn answer_leaf(fields: &[&[u8]], out: &mut Vec<u8>) -> Option<()> {
 /// A byte that goes on with a character in UTF-8: 80 to BF.
 fn is_continuation(byte: u8) -> bool {
     byte & 0xC0 == 0x80
+}
+
+/// Where the line that begins at the place ends, and where the next one begins; both are the place where no byte stands
+/// there. The line ends at LF, and a CR of its own just before that LF is dropped.
+fn line_from(text: &[u8], place: usize) -> (usize, usize) {
+    let rest = text.get(place..).unwrap_or(b"");
+    let whole = rest.split_inclusive(|&b| b == b'\n').next().unwrap_or(b"");
+    let line = match whole.strip_suffix(b"\n") {
+        Some(line) => line.strip_suffix(b"\r").unwrap_or(line),
+        None => whole,
+    };
+    if let Ok(rest) = std::str::from_utf8(rest) {
+        assert_eq!(line, rest.lines().next().unwrap_or("").as_bytes(), "the line is that of Rust's own splitting");
+    }
+    (place + line.len(), place + whole.len())
+}
+
+/// The first byte of what the raw bytes from the place on stand for, and where the raw bytes behind it begin.
+fn piece_at(text: &[u8], place: usize) -> Option<(u8, usize)> {
+    let rest = text.get(place..)?;
+    let stands_for = unescape_bytes(rest);
+    let &byte = stands_for.first()?;
+    // Two bytes that stand for one are an escape.
+    let taken = if rest.len() > 1 && unescape_bytes(&rest[..2]).len() == 1 { 2 } else { 1 };
+    assert_eq!(unescape_bytes(&rest[taken..]), stands_for[1..], "the raw bytes behind it stand for what follows");
+    Some((byte, place + taken))
 }
 
 /// The original's test of a text; bytes that aren't UTF-8 are no name and no tag.

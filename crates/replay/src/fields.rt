@@ -106,7 +106,7 @@ fn longer(n: usize, digit: u8) -> Said {
     Said::Number(n * 10 + d)
 }
 
-fn wide(b: u8) -> usize {
+pub(crate) fn wide(b: u8) -> usize {
     b as usize
 }
 

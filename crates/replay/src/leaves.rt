@@ -12,6 +12,9 @@ enum Leaf {
     Count(usize),
     Part(usize, usize),
     Missing,
+    Ends(usize, usize),
+    Byte(u8, usize),
+    End,
 }
 
 pub(crate) fn answer(
@@ -111,6 +114,9 @@ fn leaf_of<'a>(word: &'a [u8], s: &'a [u8]) -> Leaf {
 
 // What the leaf of that word counts in a text, or which part of it it takes.
 fn measure_of<'a>(word: &'a [u8], s: &'a [u8]) -> Leaf {
+    if lists::same_bytes(word, b"check_text") {
+        return Leaf::Count(number_of(checks::check_text(s)));
+    }
     if lists::same_bytes(word, b"char_count") {
         return Leaf::Count(utf8::char_count(s));
     }
@@ -141,6 +147,13 @@ fn leaf_at<'a>(word: &'a [u8], k: usize, s: &'a [u8]) -> Leaf {
     if lists::same_bytes(word, b"line") {
         return place(lines::line_of(s, k));
     }
+    if lists::same_bytes(word, b"line_from") {
+        let l = lines::line_from(s, k);
+        return Leaf::Ends(l.to, l.next);
+    }
+    if lists::same_bytes(word, b"piece_at") {
+        return piece(escapes::piece_at(s, k));
+    }
     Leaf::Unknown
 }
 
@@ -155,14 +168,32 @@ fn place(line: lines::Line) -> Leaf {
     }
 }
 
+fn piece(p: escapes::Piece) -> Leaf {
+    match p {
+        escapes::Piece::End => Leaf::End,
+        escapes::Piece::Byte(b, next) => Leaf::Byte(b, next),
+    }
+}
+
+// The number of a refusal, 0 where the text passes.
+fn number_of(c: checks::Check) -> usize {
+    match c {
+        checks::Check::Passed => 0,
+        checks::Check::Refused(r) => fields::wide(refusals::number(r)),
+    }
+}
+
 fn put_leaf(output: &mut [u8], at: usize, leaf: Leaf) -> usize {
     match leaf {
         Leaf::Unknown => out::put(output, at, b"error"),
         Leaf::Yes => out::put(output, at, b"yes"),
         Leaf::No => out::put(output, at, b"no"),
         Leaf::Count(n) => out::put_number(output, at, n),
-        Leaf::Part(from, to) => out::put_part(output, at, from, to),
+        Leaf::Part(from, to) => out::put_two(output, at, b"from ", from, b" to ", to),
         Leaf::Missing => out::put(output, at, b"none"),
+        Leaf::Ends(to, next) => out::put_two(output, at, b"to ", to, b" next ", next),
+        Leaf::Byte(b, next) => out::put_two(output, at, b"byte ", fields::wide(b), b" next ", next),
+        Leaf::End => out::put(output, at, b"end"),
     }
 }
 
@@ -186,11 +217,17 @@ fn put_classes(x: &[u8], output: &mut [u8], at: usize) -> usize {
     let classes = [
         mark(ascii::is_letter(byte)),
         mark(ascii::is_digit(byte)),
+        mark(ascii::is_alnum(byte)),
+        mark(ascii::is_css_ident_start(byte)),
+        mark(ascii::is_attr_ident_start(byte)),
         mark(ascii::is_attr_ident_part(byte)),
         mark(ascii::is_space(byte)),
         mark(ascii::is_punct(byte)),
         mark(ascii::is_quote(byte)),
         mark(ascii::is_plain(byte)),
+        mark(ascii::is_blank(ascii::Mode::Strict, byte)),
+        mark(ascii::is_blank(ascii::Mode::Loose, byte)),
+        mark(ascii::is_indent(byte)),
         mark(ascii::is_tail(byte)),
     ];
     out::put(output, at, &classes)

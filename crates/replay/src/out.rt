@@ -78,12 +78,19 @@ pub(crate) fn put_yes(output: &mut [u8], at: usize, yes: bool) -> usize {
     put(output, at, b"no")
 }
 
-// Adds a part's two places.
-pub(crate) fn put_part(output: &mut [u8], at: usize, from: usize, to: usize) -> usize {
-    let words = put(output, at, b"from ");
-    let number = put_number(output, words, from);
-    let between = put(output, number, b" to ");
-    put_number(output, between, to)
+// Adds two numbers, words before each.
+pub(crate) fn put_two<'a>(
+    output: &mut [u8],
+    at: usize,
+    first: &'a [u8],
+    n: usize,
+    second: &'a [u8],
+    m: usize,
+) -> usize {
+    let words = put(output, at, first);
+    let number = put_number(output, words, n);
+    let between = put(output, number, second);
+    put_number(output, between, m)
 }
 
 // Writes all out and answers the new place to write at, the front.

@@ -1,6 +1,7 @@
 // Runs the worked examples of RFC 3629, of CommonMark 0.31.2 and of document 01 against the leaf functions.
 mod commonmark;
 mod lines_and_names;
+mod refused;
 mod rfc3629;
 
 // How many examples hold, and how many fail.
@@ -40,7 +41,8 @@ fn main() {
     let start = Tally { hold: 0, fail: 0 };
     let encoded = rfc3629::run(start);
     let marked = commonmark::run(encoded);
-    let t = lines_and_names::run(marked);
+    let named = lines_and_names::run(marked);
+    let t = refused::run(named);
     io::print_decimal(libc::STDOUT_FILENO, t.hold);
     io::write_all(libc::STDOUT_FILENO, b" examples hold, ");
     io::print_decimal(libc::STDOUT_FILENO, t.fail);
