@@ -4,3 +4,4 @@ pub mod Single
 pub mod Scan
 pub mod Same
 pub mod Parts
+pub mod More

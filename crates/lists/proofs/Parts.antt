@@ -1,11 +1,11 @@
 -- Parts of a list: the library's `slice` by two places, and the `take` and `drop` that the code's `&s[a..e]` is.
 -- Assumes nothing.
 use mathlib.Core.Path.{_≡_, refl}
-use mathlib.Core.List.{List, [], _∷_}
+use mathlib.Core.List.{List, [], _∷_, _++_}
 use Prim.Native.Nat.{ℕ, zero, suc, _+_, _-_, min}
 use native.Mathlib.Nat.{zero-add, suc-add, zero-min, suc-min-suc, sub-zero, zero-sub, suc-sub-suc}
 use lib.ListN.{length, take, drop}
-use lib.Seq.{take-nil, drop-nil, slice}
+use lib.Seq.{take-nil, drop-nil, drop-drop, drop-append-seam, slice}
 
 -- a part by its two ends
 pub slice-part : (a e : ℕ) (s : List ℕ) → slice a e s ≡ take (e - a) (drop a s)
@@ -25,3 +25,7 @@ pub drop-min : (n : ℕ) (s : List ℕ) → drop (min n (length s)) s ≡ drop n
 drop-min zero s = rw zero-min
 drop-min (suc n) [] = drop-nil (min (suc n) 0)
 drop-min (suc n) (b ∷ s) = rw suc-min-suc (drop-min n s)
+
+-- what stands behind a part that stands at a place
+pub drop-past : (w a b : List ℕ) (at from : ℕ) → drop at w ≡ a ++ b → from ≡ at + length a → drop from w ≡ b
+drop-past w a b at from d e = rw (e, ← drop-drop (length a) at w, d, drop-append-seam a b)

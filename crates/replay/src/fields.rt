@@ -71,6 +71,47 @@ pub(crate) fn field(line: &[u8], f: Fields, k: usize) -> &[u8] {
     part(line, f.from[k], f.to[k])
 }
 
+// Whether the last field, if it isn't the only one, sets the join buffer's length.
+fn has_cap(line: &[u8], f: Fields) -> bool {
+    let count = f.count;
+    if count < 2 {
+        return false;
+    }
+    let last = field(line, f, count - 1);
+    lists::same_bytes(part(last, 0, 4), b"cap=")
+}
+
+// How many fields there are, one that sets the join buffer's length left out.
+pub(crate) fn count_of(line: &[u8], f: Fields) -> usize {
+    let count = f.count;
+    if count == 0 {
+        return 0;
+    }
+    if has_cap(line, f) {
+        return count - 1;
+    }
+    count
+}
+
+// The length of the join buffer: what the last field says, or that of the longest text.
+pub(crate) fn cap_of(line: &[u8], f: Fields) -> Said {
+    if !has_cap(line, f) {
+        return Said::Number(refusals::MAX_TEXT);
+    }
+    let count = f.count;
+    if count == 0 {
+        return Said::Bad;
+    }
+    let last = field(line, f, count - 1);
+    let Said::Number(n) = number(part(last, 4, last.len())) else {
+        return Said::Bad;
+    };
+    if refusals::MAX_TEXT < n {
+        return Said::Bad;
+    }
+    Said::Number(n)
+}
+
 // A decimal number up to 2^64 - 1, with no sign.
 pub(crate) fn number(s: &[u8]) -> Said {
     if s.len() == 0 {

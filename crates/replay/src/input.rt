@@ -18,7 +18,13 @@ struct Answered {
 
 // Answers every line. A proved loop has to end, and nothing says that the input does, so the loop counts its turns down,
 // from a number that no run uses up.
-pub(crate) fn answer_all(input: &mut [u8], a: &mut [u8], b: &mut [u8], output: &mut [u8]) {
+pub(crate) fn answer_all(
+    input: &mut [u8],
+    a: &mut [u8],
+    b: &mut [u8],
+    canon: &mut [u8],
+    output: &mut [u8],
+) {
     let mut s = State {
         read: 0,
         at: 0,
@@ -26,7 +32,7 @@ pub(crate) fn answer_all(input: &mut [u8], a: &mut [u8], b: &mut [u8], output: &
     };
     let mut turns = u64::MAX;
     while turns > 0 {
-        s = turn(input, a, b, output, s);
+        s = turn(input, a, b, canon, output, s);
         if !s.more {
             return;
         }
@@ -35,11 +41,18 @@ pub(crate) fn answer_all(input: &mut [u8], a: &mut [u8], b: &mut [u8], output: &
 }
 
 // Reads once, and answers each line that is whole. At the end of the input a line may lack its LF.
-fn turn(input: &mut [u8], a: &mut [u8], b: &mut [u8], output: &mut [u8], s: State) -> State {
+fn turn(
+    input: &mut [u8],
+    a: &mut [u8],
+    b: &mut [u8],
+    canon: &mut [u8],
+    output: &mut [u8],
+    s: State,
+) -> State {
     let n = fill(input, s.read);
     let have = added(s.read, n);
     if n == 0 {
-        let at = answer_last(fields::part(input, 0, have), a, b, output, s.at);
+        let at = answer_last(fields::part(input, 0, have), a, b, canon, output, s.at);
         out::flush(output, at);
         return State {
             read: 0,
@@ -47,7 +60,7 @@ fn turn(input: &mut [u8], a: &mut [u8], b: &mut [u8], output: &mut [u8], s: Stat
             more: false,
         };
     }
-    let done = answer_lines(fields::part(input, 0, have), a, b, output, s.at);
+    let done = answer_lines(fields::part(input, 0, have), a, b, canon, output, s.at);
     let left = shift(input, done.from, have);
     State {
         read: shortened(input, left),
@@ -79,6 +92,7 @@ fn answer_lines(
     lines: &[u8],
     a: &mut [u8],
     b: &mut [u8],
+    canon: &mut [u8],
     output: &mut [u8],
     at: usize,
 ) -> Answered {
@@ -89,15 +103,22 @@ fn answer_lines(
         if lines.len() <= end {
             return Answered { from, at: to };
         }
-        to = answer_line(fields::part(lines, from, end), a, b, output, to);
+        to = answer_line(fields::part(lines, from, end), a, b, canon, output, to);
         from = end + 1;
     }
     Answered { from, at: to }
 }
 
 // Answers one line, and writes out where many answers wait.
-fn answer_line(line: &[u8], a: &mut [u8], b: &mut [u8], output: &mut [u8], at: usize) -> usize {
-    let end = answer(line, a, b, output, at);
+fn answer_line(
+    line: &[u8],
+    a: &mut [u8],
+    b: &mut [u8],
+    canon: &mut [u8],
+    output: &mut [u8],
+    at: usize,
+) -> usize {
+    let end = answer(line, a, b, canon, output, at);
     let next = out::put_byte(output, end, b'\n');
     if next < 131072 {
         return next;
@@ -106,11 +127,18 @@ fn answer_line(line: &[u8], a: &mut [u8], b: &mut [u8], output: &mut [u8], at: u
 }
 
 // Answers the line that the input ends with, where it lacks its LF.
-fn answer_last(line: &[u8], a: &mut [u8], b: &mut [u8], output: &mut [u8], at: usize) -> usize {
+fn answer_last(
+    line: &[u8],
+    a: &mut [u8],
+    b: &mut [u8],
+    canon: &mut [u8],
+    output: &mut [u8],
+    at: usize,
+) -> usize {
     if line.len() == 0 {
         return at;
     }
-    answer_line(line, a, b, output, at)
+    answer_line(line, a, b, canon, output, at)
 }
 
 // Moves what waits for its LF to the front of the buffer, and answers how much it is.

@@ -1,13 +1,19 @@
 // Answers request lines from standard input, one line for each: the Rattle side of the comparison with the Rust.
+mod brace;
+mod canon;
 mod fields;
 mod input;
 mod leaves;
 mod out;
 
+use crate::fields::Said;
+
 // A request line fits the input buffer with its LF: two texts in hex, and the words around them.
 const INPUT: usize = 263000;
 // The longest text of a request.
 const TEXT: usize = 65600;
+// The longest canonical text of a set that is read: a backslash before each byte of its text, and the words around them.
+const CANON: usize = 140000;
 // The longest answer is a sheet's, six times its text and in hex, and stands behind those that wait to be written.
 const OUTPUT: usize = 1048576;
 
@@ -15,8 +21,9 @@ fn main() {
     let mut input = [0u8; INPUT];
     let mut a = [0u8; TEXT];
     let mut b = [0u8; TEXT];
+    let mut canon = [0u8; CANON];
     let mut output = [0u8; OUTPUT];
-    input::answer_all(&mut input, &mut a, &mut b, &mut output);
+    input::answer_all(&mut input, &mut a, &mut b, &mut canon, &mut output);
 }
 
 // Answers one request, its text or texts laid into a and b, behind what stands in the output up to `at`.
@@ -24,6 +31,7 @@ pub(crate) fn answer(
     line: &[u8],
     a: &mut [u8],
     b: &mut [u8],
+    canon: &mut [u8],
     output: &mut [u8],
     at: usize,
 ) -> usize {
@@ -32,5 +40,8 @@ pub(crate) fn answer(
     if lists::same_bytes(first, b"leaf") {
         return leaves::answer(line, f, a, b, output, at);
     }
-    out::put(output, at, b"error")
+    let Said::Number(_) = fields::cap_of(line, f) else {
+        return out::put(output, at, b"error");
+    };
+    brace::answer(line, f, fields::count_of(line, f), a, canon, output, at)
 }

@@ -1,6 +1,7 @@
 // Answers, laid into a lent buffer. Each function takes the place from which to write and answers the place behind; a byte
 // that has no room is dropped.
 use crate::fields;
+use refusals::Refusal;
 ghost use Prim.Native.Nat.{_≤_};
 
 // Adds one byte.
@@ -91,6 +92,12 @@ pub(crate) fn put_two<'a>(
     let number = put_number(output, words, n);
     let between = put(output, number, second);
     put_number(output, between, m)
+}
+
+// Adds what a refusal says.
+pub(crate) fn put_refused(output: &mut [u8], at: usize, r: Refusal) -> usize {
+    let words = put(output, at, b"refused ");
+    put_number(output, words, refusals::number(r) as usize)
 }
 
 // Writes all out and answers the new place to write at, the front.

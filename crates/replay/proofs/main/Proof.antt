@@ -1,4 +1,4 @@
--- `main` lends its four buffers. Their lengths are cited by a law, since an array is not counted through here.
+-- `main` lends its five buffers. Their lengths are cited by a law, since an array is not counted through here.
 -- Assumes nothing.
 use borrow.Author.Needs.{needs}
 use mathlib.Core.Path.{sym}
@@ -17,7 +17,10 @@ slice-aggregate-answer-all-3 : tie.Need-slice-aggregate-answer-all-3
 slice-aggregate-answer-all-3 c = sym (length-replicate {A = ℕ} 65600 0)
 
 slice-aggregate-answer-all-4 : tie.Need-slice-aggregate-answer-all-4
-slice-aggregate-answer-all-4 c = sym (length-replicate {A = ℕ} 1048576 0)
+slice-aggregate-answer-all-4 c = sym (length-replicate {A = ℕ} 140000 0)
+
+slice-aggregate-answer-all-5 : tie.Need-slice-aggregate-answer-all-5
+slice-aggregate-answer-all-5 c = sym (length-replicate {A = ℕ} 1048576 0)
 
 answer-all-requires : tie.Need-answer-all-requires
 answer-all-requires c κs = search needs
@@ -33,5 +36,6 @@ main-spec =
     slice-aggregate-answer-all-2
     slice-aggregate-answer-all-3
     slice-aggregate-answer-all-4
+    slice-aggregate-answer-all-5
     answer-all-requires
     returns)

@@ -1,0 +1,9 @@
+-- The theorems about canonical text.
+pub mod Values
+pub mod Parts
+pub mod Puts
+pub mod WellFormed
+pub mod Back
+pub mod AtBrace
+pub mod Again
+pub mod Cases

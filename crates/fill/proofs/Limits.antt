@@ -1,0 +1,86 @@
+-- Once a limit is passed: the refusal is known but for what is still to be put.
+-- Assumes nothing.
+use mathlib.Core.Path.{_≡_, refl, sym, _∙_, ap}
+use mathlib.Core.Bool.{Bool, true, false, cond}
+use mathlib.Core.Logic.{_⊎_, inl, inr}
+use mathlib.Core.List.{List, [], _∷_, _++_}
+use Prim.Native.Nat.{ℕ, _+_, _-_, _<_, _≤_}
+use native.Mathlib.Omega.{arith}
+use lib.Dec.{ltb}
+use lib.ListN.{length, length-append}
+use borrow.Author.Tests.{lt-ltb}
+use Rattle.ascii.specs.declared.Mode.{Mode}
+use Rattle.refusals.specs.declared.Refusal.{Refusal}
+use Rattle.refusals.specs.declared.Refusal.the-variants.{NoReading, TooManyClasses, TooManyKeys}
+use Rattle.sets.specs.declared.Value.{Value}
+use Rattle.sets.specs.declared.Name.{Name}
+use Rattle.sets.specs.Types.{Texts, maxClasses, maxKeys}
+use Rattle.sets.specs.Rows.{Rows, Put, hasKey, withPut, withPuts}
+use Rattle.fill.specs.declared.Cursor.{Cursor}
+use Rattle.fill.specs.declared.Push as pushes
+use Rattle.fill.specs.declared.Push.the-variants.{End, Bad}
+use Rattle.fill.specs.Fill.{refusing, limited}
+use Rattle.fill.specs.Walk.{Rest, before, restOf, InText, Gives, Yields, filledFrom, overBy, counted, countFrom, overOf}
+use Rattle.fill.proofs.Slots.{key-count, one-le}
+
+-- ---- the loop that goes on for the refusal's number
+pub record Counts (m : Mode) (s : List ℕ) (n : ℕ) (r : Refusal) (count : ℕ) (c : Cursor) : Type 0 where
+  pub inside : InText s c
+  pub bound : count ≤ n + c .at
+  pub rest : overOf count (restOf m s c) ≡ r
+
+pub start : (m : Mode) (s : List ℕ) (n : ℕ) {c : Cursor} → InText s c → Counts m s n (overOf n (restOf m s c)) n c
+start m s n i = record { inside = i; bound = omega arith; rest = refl }
+
+counted-le : (p : Put) (n : ℕ) → counted p n ≤ n + 1
+counted-le (Put.ident v) n = omega arith
+counted-le (Put.class v) n = omega arith
+counted-le (Put.key k v) n = omega arith
+
+over-before : (n : ℕ) (p : Put) (r : Rest) → overOf n (before (p ∷ []) r) ≡ overOf (counted p n) r
+unfolding overOf countFrom
+over-before n p Rest.refused = refl
+over-before n p (Rest.puts ps) = refl
+
+module _ {m : Mode} {s : List ℕ} {n : ℕ} {r : Refusal} {count : ℕ} {c : Cursor} (inv : Counts m s n r count c) where
+  pub next : {p : Put} {d : Cursor} → Gives m s (c .at) (restOf m s c) p d → Counts m s n r (counted p count) d
+  next {p} {d} g = record { inside = g .inside; bound = omega (arith, inv .bound, g .ahead, counted-le p count); rest = sym (over-before count p (restOf m s d)) ∙ (rw (g .is) at (inv .rest)) }
+
+  pub end : {q : pushes.Push} → Yields m s (c .at) (restOf m s c) q → q ≡ End → overBy count ≡ r
+  unfolding overOf countFrom
+  end y e = let z : restOf m s c ≡ Rest.puts [] = rw e at (y .told) in rw z at (inv .rest)
+
+  pub bad : {q : pushes.Push} → Yields m s (c .at) (restOf m s c) q → q ≡ Bad → NoReading ≡ r
+  unfolding overOf
+  bad y e = let z : restOf m s c ≡ Rest.refused = rw e at (y .told) in rw z at (inv .rest)
+
+-- ---- the rows of a passed limit
+passed-put : (t : Texts) (s : Rows) (p : Put) → (maxClasses < length (s .classes)) ⊎ (maxKeys < length (s .keys)) → (maxClasses < length (withPut t s p .classes)) ⊎ (maxKeys < length (withPut t s p .keys))
+unfolding withPut
+passed-put t s (Put.ident v) h = h
+passed-put t s (Put.class v) (inl h) = inl (omega (arith, length-append (s .classes) (v ∷ [])))
+passed-put t s (Put.class v) (inr h) = inr h
+passed-put t s (Put.key n v) (inl h) = inl h
+passed-put t s (Put.key n v) (inr h) = inr (omega (arith, key-count t n v (s .keys), one-le (hasKey t n (s .keys))))
+
+count-put : (t : Texts) (s : Rows) (p : Put) → length (withPut t s p .classes) ≡ counted p (length (s .classes))
+unfolding withPut
+count-put t s (Put.ident v) = refl
+count-put t s (Put.class v) = omega (arith, length-append (s .classes) (v ∷ []))
+count-put t s (Put.key n v) = refl
+
+limited-puts : (t : Texts) (s : Rows) (ps : List Put) → (maxClasses < length (s .classes)) ⊎ (maxKeys < length (s .keys)) → limited (withPuts t s ps) ≡ refusing (overBy (countFrom (length (s .classes)) ps))
+unfolding limited withPuts countFrom
+limited-puts t s [] (inl h) = rw (lt-ltb maxClasses (length (s .classes)) h)
+limited-puts t s [] (inr h) = rw (lt-ltb maxKeys (length (s .keys)) h) (go (ltb maxClasses (length (s .classes))))
+  where
+    go : (x : Bool) → cond x (refusing TooManyClasses) (refusing TooManyKeys) ≡ refusing (cond x TooManyClasses TooManyKeys)
+    go true = refl
+    go false = refl
+limited-puts t s (p ∷ ps) h = rw (← count-put t s p) (limited-puts t (withPut t s p) ps (passed-put t s p h))
+
+-- with a limit passed, the classes that are still to be put decide which
+pub over : (t : Texts) (s : Rows) (r : Rest) → (maxClasses < length (s .classes)) ⊎ (maxKeys < length (s .keys)) → filledFrom t s r ≡ refusing (overOf (length (s .classes)) r)
+unfolding filledFrom overOf
+over t s Rest.refused h = refl
+over t s (Rest.puts ps) h = limited-puts t s ps h

@@ -1,0 +1,42 @@
+-- The set of a payload: what its items put into it, within the limits.
+use Prim.Native.Nat.{ℕ}
+use mathlib.Core.Bool.{cond}
+use mathlib.Core.List.{List, [], _∷_}
+use lib.Dec.{ltb}
+use lib.ListN.{length}
+use lib.Seq.{slice}
+use Rattle.ascii.specs.declared.Mode.{Mode}
+use Rattle.grammar.specs.Read.{Reading, readPayload}
+use Rattle.refusals.specs.declared.Refusal.{Refusal}
+use Rattle.refusals.specs.declared.Refusal.the-variants.{TextTooLong, NoReading, TooManyClasses, TooManyKeys, TooManySlots}
+use Rattle.refusals.specs.Numbers.{maxText}
+use Rattle.sets.specs.Types.{Texts, one, emptySet, maxClasses, maxKeys, maxSlots}
+use Rattle.sets.specs.Rows.{Rows, noRows, withPuts, tableOf}
+use Rattle.sets.specs.Puts.{putsIn}
+use Rattle.fill.specs.declared.Outcome.the-variants.{Refused, Done}
+use Rattle.fill.specs.declared.Filled.{Filled}
+
+-- "hands out no set": the set of a refusal is the empty one
+abbrev pub refusing : Refusal → Filled
+refusing r = record { outcome = Refused r; set = emptySet }
+
+-- "grammatical, more than 32 classes", then "more than 32 distinct keys", then "more than 34 slots"
+unfoldable pub limited : Rows → Filled
+limited s =
+    cond (ltb maxClasses (length (s .classes))) (refusing TooManyClasses)
+    (cond (ltb maxKeys (length (s .keys))) (refusing TooManyKeys)
+    (cond (ltb maxSlots (length (s .order))) (refusing TooManySlots)
+    (record { outcome = Done; set = tableOf s })))
+
+-- "no reading of the payload exists"
+abbrev pub filledBy : Texts → Reading → Filled
+filledBy t Reading.refused = refusing NoReading
+filledBy t (Reading.items is) = limited (withPuts t noRows (putsIn is))
+
+-- the payload s, whose first byte stands at `at` of the text t
+unfoldable pub filledOf : Mode → Texts → ℕ → List ℕ → Filled
+filledOf m t at s = filledBy t (readPayload m at s)
+
+-- the payload from `at` up to `end` of a text; "text above 65,535 bytes" is refused, since its places don't fit a range
+unfoldable pub fillAt : Mode → List ℕ → ℕ → ℕ → Filled
+fillAt m t at end = cond (ltb maxText (length t)) (refusing TextTooLong) (filledOf m (one t) at (slice at end t))

@@ -1,0 +1,340 @@
+// A payload read into a set, which is changed where it stands.
+use ascii::Mode;
+use refusals::Refusal;
+use sets::Attrs;
+use sets::Id;
+use sets::Ident;
+use sets::Name;
+use sets::Row;
+use sets::Slot;
+use sets::SlotRecord;
+use sets::Text;
+use sets::Value;
+use tokens::Token;
+ghost use mathlib.Core.Path.{_≡_};
+ghost use mathlib.Core.Bool.{not};
+ghost use Prim.Native.Nat.{_+_, _-_, _≤_, _<_};
+ghost use lib.ListN.{length, drop};
+ghost use Rattle.lists.specs.Lists.{run};
+ghost use Rattle.ascii.specs.Bytes.{isSpace};
+ghost use Rattle.ascii.specs.declared.Mode.{Mode};
+ghost use Rattle.refusals.specs.Numbers.{maxText};
+ghost use Rattle.sets.specs.Types.{one};
+ghost use Rattle.sets.specs.Rows.{noRows, isThere};
+ghost use Rattle.sets.specs.Puts.{valueOf};
+ghost use Rattle.fill.specs.Fill.{refusing, fillAt};
+ghost use Rattle.fill.specs.Walk.{kindOf, tokensFrom, restOf, cursorOf, tokensAt, InText, Yields, pieceFrom, classRest, namedRest, filledFrom, overBy, overOf};
+
+// What a value is: its bytes as they stand, bytes that were quoted, or nothing behind a bare name.
+enum Kind {
+    Plain,
+    Quoted,
+    Empty,
+}
+
+// Where a walk over a payload stands: before the pieces of a class value from `at` up to `to`, and then the tokens from `next` on.
+struct Cursor {
+    pub at: usize,
+    pub to: usize,
+    pub next: usize,
+    pub kind: Kind,
+}
+
+// What is put into the set next, and where the walk goes on.
+enum Push {
+    End,
+    Bad,
+    Id(Value, Cursor),
+    Class(Value, Cursor),
+    Key(Name, Value, Cursor),
+}
+
+pub enum Outcome {
+    Refused(Refusal),
+    Done,
+}
+
+// The set of a payload; the empty one where it is refused.
+pub struct Filled {
+    pub outcome: Outcome,
+    pub set: Attrs,
+}
+
+// A value of this kind from `at` up to `to`, and the tokens from `next` on.
+fn value_at(kind: Kind, at: usize, to: usize, next: usize) -> Cursor
+    ensures { λ r. ⌜ r ≡ cursorOf kind at to next ⌝ }
+{
+    Cursor { at, to, next, kind }
+}
+
+// The walk before the tokens from `at` on: no pieces come first.
+fn before_tokens(at: usize) -> Cursor
+    ensures { λ r. ⌜ r ≡ tokensAt at ⌝ }
+{
+    value_at(Kind::Plain, at, at, at)
+}
+
+// A value by its kind and its place.
+fn value_of(kind: Kind, from: usize, to: usize) -> Value
+    requires { ⌜ (from ≤ maxText) × (to ≤ maxText) ⌝ }
+    ensures { λ r. ⌜ r ≡ valueOf (kindOf kind from to) ⌝ }
+{
+    match kind {
+        Kind::Plain => Value {
+            text: Text::Plain(from as u16, to as u16),
+        },
+        Kind::Quoted => Value {
+            text: Text::Quoted(from as u16, to as u16),
+        },
+        Kind::Empty => Value { text: Text::Empty },
+    }
+}
+
+// Behind the whitespace from `at` on.
+fn space_end(s: &[u8], at: usize) -> usize
+    ensures { λ r. ⌜ r ≡ at + run isSpace (drop at (now (s .entry))) ⌝ }
+{
+    let mut i = at;
+    while i < s.len() {
+        if !ascii::is_space(s[i]) {
+            return i;
+        }
+        i += 1;
+    }
+    i
+}
+
+// Behind the bytes from `at` on that are no whitespace.
+fn piece_end(s: &[u8], at: usize) -> usize
+    ensures { λ r. ⌜ r ≡ at + run (λ b. not (isSpace b)) (drop at (now (s .entry))) ⌝ }
+{
+    let mut i = at;
+    while i < s.len() {
+        if ascii::is_space(s[i]) {
+            return i;
+        }
+        i += 1;
+    }
+    i
+}
+
+// The piece of a class value from `from` on.
+fn piece(s: &[u8], from: usize, c: Cursor) -> Push
+    requires { ⌜ (from ≤ c .to) × (c .to ≤ length (now s)) × (length (now s) ≤ maxText) ⌝ }
+    ensures { λ r. ⌜ r ≡ pieceFrom (now (s .entry)) from c ⌝ }
+{
+    let to = c.to;
+    let kind = c.kind;
+    let e = piece_end(&s[..to], from);
+    Push::Class(value_of(kind, from, e), value_at(kind, e, to, c.next))
+}
+
+// The first piece of a class value; a value without one is a class as a whole.
+fn first_piece(s: &[u8], c: Cursor) -> Push
+    requires { ⌜ (InText (now s) c) × (0 < c .at) × (length (now s) ≤ maxText) ⌝ }
+    ensures { λ r. ⌜ ((m : Mode) → Yields m (now (s .entry)) (c .at - 1) (classRest m (now (s .entry)) c) r) ⌝ }
+{
+    let to = c.to;
+    let kind = c.kind;
+    let from = space_end(&s[..to], c.at);
+    if from == to {
+        return Push::Class(value_of(kind, c.at, to), before_tokens(c.next));
+    }
+    piece(s, from, c)
+}
+
+// What the name from f up to k puts, whose value stands where c says: `id` and `class` are no keys.
+fn named_push(s: &[u8], f: usize, k: usize, c: Cursor) -> Push
+    requires { ⌜ (InText (now s) c) × (f ≤ k) × (k ≤ c .at) × (f < c .at) × (length (now s) ≤ maxText) ⌝ }
+    ensures { λ r. ⌜ ((m : Mode) → Yields m (now (s .entry)) f (namedRest m (now (s .entry)) f k c) r) ⌝ }
+{
+    let name = &s[f..k];
+    let kind = c.kind;
+    if lists::same_bytes(name, b"id") {
+        return Push::Id(value_of(kind, c.at, c.to), before_tokens(c.next));
+    }
+    if lists::same_bytes(name, b"class") {
+        return first_piece(s, c);
+    }
+    Push::Key(
+        Name::Range(f as u16, k as u16),
+        value_of(kind, c.at, c.to),
+        before_tokens(c.next),
+    )
+}
+
+// What the token from i on puts, blanks passed.
+fn token_push(s: &[u8], i: usize, mode: Mode) -> Push
+    requires { ⌜ (i ≤ length (now s)) × (length (now s) ≤ maxText) ⌝ }
+    ensures { λ r. ⌜ Yields mode (now (s .entry)) i (tokensFrom mode (now (s .entry)) i) r ⌝ }
+{
+    let a = tokens::blank_end(s, i, mode);
+    if s.len() <= a {
+        return Push::End;
+    }
+    match tokens::token_at(s, a, mode) {
+        Token::Bad => Push::Bad,
+        Token::Tag(f, e) => Push::Key(Name::Lang, value_of(Kind::Plain, f, e), before_tokens(e)),
+        Token::Id(f, e) => Push::Id(value_of(Kind::Plain, f, e), before_tokens(e)),
+        Token::Class(f, e) => Push::Class(value_of(Kind::Plain, f, e), before_tokens(e)),
+        Token::Plain(f, k, e) => named_push(s, f, k, value_at(Kind::Plain, k + 1, e, e)),
+        Token::Quoted(f, k, e) => named_push(s, f, k, value_at(Kind::Quoted, k + 2, e - 1, e)),
+        Token::Bare(f, e) => named_push(s, f, e, value_at(Kind::Empty, e, e, e)),
+    }
+}
+
+// What is put next from where the walk stands: the next piece, or what the next token puts.
+fn next_push(s: &[u8], c: Cursor, mode: Mode) -> Push
+    requires { ⌜ (InText (now s) c) × (length (now s) ≤ maxText) ⌝ }
+    ensures { λ r. ⌜ Yields mode (now (s .entry)) (c .at) (restOf mode (now (s .entry)) c) r ⌝ }
+{
+    let to = c.to;
+    let from = space_end(&s[..to], c.at);
+    if from == to {
+        return token_push(s, c.next, mode);
+    }
+    piece(s, from, c)
+}
+
+// Which limit is passed, with so many classes.
+fn over(count: usize) -> Refusal
+    ensures { λ r. ⌜ r ≡ overBy count ⌝ }
+{
+    if Attrs::CLASSES < count {
+        return Refusal::TooManyClasses;
+    }
+    Refusal::TooManyKeys
+}
+
+// A limit is passed, with n classes so far: the walk goes on to its end only for the refusal's number.
+fn passed_limit(s: &[u8], c: Cursor, mode: Mode, n: usize) -> Refusal
+    requires { ⌜ (InText (now s) c) × (length (now s) ≤ maxText) × (n ≤ maxText) ⌝ }
+    ensures { λ r. ⌜ r ≡ overOf n (restOf mode (now (s .entry)) c) ⌝ }
+{
+    let mut count = n;
+    let mut cur = c;
+    'walk: loop {
+        match next_push(s, cur, mode) {
+            Push::End => break 'walk over(count),
+            Push::Bad => break 'walk Refusal::NoReading,
+            Push::Id(_, next) => {
+                cur = next;
+                continue 'walk;
+            }
+            Push::Class(_, next) => {
+                cur = next;
+                count += 1;
+                continue 'walk;
+            }
+            Push::Key(_, _, next) => {
+                cur = next;
+                continue 'walk;
+            }
+        }
+    }
+}
+
+// A refusal hands out no set.
+fn refusing(r: Refusal) -> Filled
+    ensures { λ f. ⌜ f ≡ refusing r ⌝ }
+{
+    Filled {
+        outcome: Outcome::Refused(r),
+        set: Attrs::empty(),
+    }
+}
+
+// Whether there is an id.
+fn is_given(i: Ident) -> bool
+    ensures { λ r. ⌜ r ≡ isThere (i .id) ⌝ }
+{
+    let id = i.id;
+    match id {
+        Id::Missing => false,
+        Id::Given(_) => true,
+    }
+}
+
+// The tokens of s, the front of the text, from `at` on. The set is changed where it stands; 34 slots are enough for 32 keys.
+fn fill_part(text: &[u8], s: &[u8], at: usize, mode: Mode) -> Filled
+    requires { ⌜ (at ≤ length (now s)) × (length (now s) ≤ maxText) ⌝ }
+    ensures { λ r. ⌜ r ≡ filledFrom (one (now (text .entry))) noRows (tokensFrom mode (now (s .entry)) at) ⌝ }
+{
+    let mut set = Attrs::empty();
+    let mut cur = before_tokens(at);
+    'pushes: loop {
+        match next_push(s, cur, mode) {
+            Push::End => return Filled {
+                outcome: Outcome::Done,
+                set,
+            },
+            Push::Bad => return refusing(Refusal::NoReading),
+            Push::Id(v, next) => {
+                cur = next;
+                let there = is_given(set.id);
+                let new = Ident { id: Id::Given(v) };
+                set.id = new;
+                if there {
+                    continue 'pushes;
+                }
+                let p = set.norder as usize;
+                set.order[p] = SlotRecord { slot: Slot::Id };
+                set.norder = set.norder + 1;
+                continue 'pushes;
+            }
+            Push::Class(v, next) => {
+                cur = next;
+                let n = set.nclass as usize;
+                if Attrs::CLASSES <= n {
+                    return refusing(passed_limit(s, next, mode, n + 1));
+                }
+                set.classes[n] = v;
+                set.nclass = set.nclass + 1;
+                if 0 < n {
+                    continue 'pushes;
+                }
+                let p = set.norder as usize;
+                set.order[p] = SlotRecord { slot: Slot::Class };
+                set.norder = set.norder + 1;
+                continue 'pushes;
+            }
+            Push::Key(name, v, next) => {
+                cur = next;
+                let n = set.nkey as usize;
+                let keys = set.keys;
+                let k = sets::find_key(text, keys, n, name);
+                if k < n {
+                    let mut row = set.keys[k];
+                    row.value = v;
+                    set.keys[k] = row;
+                    continue 'pushes;
+                }
+                if Attrs::KEYS <= n {
+                    return refusing(passed_limit(s, next, mode, set.nclass as usize));
+                }
+                let p = set.norder as usize;
+                set.keys[n] = Row { name, value: v };
+                set.order[p] = SlotRecord {
+                    slot: Slot::Key(set.nkey),
+                };
+                set.nkey = set.nkey + 1;
+                set.norder = set.norder + 1;
+                continue 'pushes;
+            }
+        }
+    }
+}
+
+// The payload that stands from `at` up to `end` of the text.
+pub fn fill(text: &[u8], at: usize, end: usize, mode: Mode) -> Filled
+    ensures { λ r. ⌜ r ≡ fillAt mode (now (text .entry)) at end ⌝ }
+{
+    if refusals::MAX_TEXT < text.len() {
+        return refusing(Refusal::TextTooLong);
+    }
+    let s = sets::bytes_of(text, 0, end);
+    if s.len() <= tokens::blank_end(s, at, mode) {
+        return refusing(Refusal::NoReading);
+    }
+    fill_part(text, s, at, mode)
+}

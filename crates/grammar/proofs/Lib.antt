@@ -1,0 +1,12 @@
+-- The theorems about the payload grammar.
+pub mod Bytes
+pub mod Tokens
+pub mod Chain
+pub mod Payload
+pub mod Loop
+pub mod Places
+pub mod Pieces
+pub mod Views
+pub mod Close
+pub mod Quick
+pub mod Characters

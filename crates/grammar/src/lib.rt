@@ -1,0 +1,26 @@
+// The payload grammar: definitions and theorems. Its code is the types that a search for the close is made of.
+
+// The quote that the search stands in, by its byte.
+pub enum Quote {
+    Out,
+    In(u8),
+}
+
+// Where the search stands: in which quote, and whether a backslash covers the next byte.
+pub struct Scan {
+    pub quote: Quote,
+    pub escaped: bool,
+}
+
+// What a byte does: it closes the block, it is a line's end, or the search goes on.
+pub enum Step {
+    Closed,
+    Broken,
+    Go(Scan),
+}
+
+// A place of a text, or none.
+pub enum Place {
+    Nothing,
+    At(usize),
+}

@@ -1,0 +1,3 @@
+-- The laws that the proofs of payloads cite.
+pub mod Texts
+pub mod Lines

@@ -1,0 +1,2 @@
+-- The definitions that the contracts of payloads cite.
+pub mod Payloads

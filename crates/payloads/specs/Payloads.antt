@@ -1,0 +1,55 @@
+-- "payload entries only say yes or no, and no for 1, 2, 5."
+use Prim.Native.Nat.{ℕ}
+use mathlib.Core.Bool.{Bool, true, false, cond, _&&_, _||_}
+use mathlib.Core.List.{List, [], _∷_}
+use lib.Dec.{eqb, ltb}
+use lib.ListN.{length}
+use Rattle.ascii.specs.declared.Mode.{Mode}
+use Rattle.ascii.specs.declared.Mode.the-variants.{Strict, Loose}
+use Rattle.utf8.specs.Utf8.{isUtf8}
+use Rattle.refusals.specs.Numbers.{maxText}
+use Rattle.grammar.specs.Read.{readPayload}
+use Rattle.tokens.specs.Shown.{accepted}
+use Rattle.lines.specs.Trim.{trim}
+
+-- neither 1 nor 2
+unfoldable pub isText : List ℕ → Bool
+isText s = cond (ltb maxText (length s)) false (isUtf8 s)
+
+-- a reading of the payload exists
+unfoldable pub isPayload : Mode → List ℕ → Bool
+isPayload m s = isText s && accepted (readPayload m 0 s)
+
+-- ---- a later line of a wrapped run, trimmed
+
+-- the last byte is `}`; `last` is the byte before the list
+unfoldable pub lastIs : ℕ → List ℕ → Bool
+lastIs last [] = eqb last 125
+lastIs last (b ∷ s) = lastIs b s
+
+abbrev pub endsInClose : List ℕ → Bool
+endsInClose [] = false
+endsInClose (b ∷ s) = lastIs b s
+
+abbrev pub beginsOpen : List ℕ → Bool
+beginsOpen [] = false
+beginsOpen (b ∷ s) = eqb b 123
+
+abbrev pub withoutFirst : List ℕ → List ℕ
+withoutFirst [] = []
+withoutFirst (b ∷ s) = s
+
+-- what stands behind the last `}{`, where `best` stands behind the last of those before; all of it where there is none
+unfoldable pub behindFrom : List ℕ → List ℕ → List ℕ
+behindFrom best [] = best
+behindFrom best (b ∷ s) = behindFrom (cond (eqb b 125 && beginsOpen s) (withoutFirst s) best) s
+
+unfoldable pub behindLast : List ℕ → List ℕ
+behindLast s = behindFrom s s
+
+-- 000: a line that ends in `}` passes; else what stands behind its last `}{` has to be a payload in loose mode
+unfoldable pub continues : List ℕ → Bool
+continues l = endsInClose l || accepted (readPayload Loose 0 (behindLast l))
+
+unfoldable pub isContinuation : List ℕ → Bool
+isContinuation s = isText s && continues (trim s)

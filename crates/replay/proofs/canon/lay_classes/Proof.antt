@@ -1,0 +1,73 @@
+-- `lay_classes` ends, since each turn passes a class; the buffer keeps its length.
+-- Assumes nothing.
+use borrow.Author.Needs.{needs}
+use mathlib.Core.Path.{_≡_}
+use Prim.Native.Nat.{_-_}
+use lib.ListN.{length}
+use Rattle.replay.proofs.canon.lay_classes.Statement.{statement}
+use Rattle.replay.proofs.canon.lay_classes.Tie as tie
+
+abbrev Inv-loop : tie.InvT-loop
+Inv-loop text canon₀ at set n to₀ k₀ t9 canon to k = length canon ≡ length canon₀
+
+abbrev μ-loop : tie.MeasureT-loop
+μ-loop text canon₀ at set n to₀ k₀ t9 canon to k = n - k
+
+cast-n : tie.Need-cast-n Inv-loop μ-loop
+cast-n c = search needs
+
+loop-holds : tie.Need-loop-holds Inv-loop μ-loop
+loop-holds c = search needs
+
+same-length : tie.Need-same-length Inv-loop μ-loop
+same-length c = search needs
+
+returns : tie.Need-returns Inv-loop μ-loop
+returns c = search needs
+
+slice-aggregate-lay-item : tie.Need-slice-aggregate-lay-item Inv-loop μ-loop
+slice-aggregate-lay-item c = search needs
+
+mul-lay-item : tie.Need-mul-lay-item Inv-loop μ-loop
+mul-lay-item c = search needs
+
+element-copy-out-lay-item : tie.Need-element-copy-out-lay-item Inv-loop μ-loop
+element-copy-out-lay-item c = search needs
+
+lay-item-requires : tie.Need-lay-item-requires Inv-loop μ-loop
+lay-item-requires c κs = search needs
+
+add-k : tie.Need-add-k Inv-loop μ-loop
+add-k c = search needs
+
+loop-less : tie.Need-loop-less Inv-loop μ-loop
+loop-less c = search needs
+
+loop-again : tie.Need-loop-again Inv-loop μ-loop
+loop-again c = search needs
+
+same-length-2 : tie.Need-same-length-2 Inv-loop μ-loop
+same-length-2 c = search needs
+
+returns-2 : tie.Need-returns-2 Inv-loop μ-loop
+returns-2 c = search needs
+
+pub lay-classes-spec : {M : Type 1} → statement M
+lay-classes-spec =
+    tie.close
+    (tie.spec
+    Inv-loop
+    μ-loop
+    cast-n
+    loop-holds
+    same-length
+    returns
+    slice-aggregate-lay-item
+    mul-lay-item
+    element-copy-out-lay-item
+    lay-item-requires
+    add-k
+    loop-less
+    loop-again
+    same-length-2
+    returns-2)

@@ -1,0 +1,135 @@
+// Requests at a brace, and for a payload alone.
+use crate::canon;
+use crate::fields;
+use crate::fields::Fields;
+use crate::fields::Said;
+use crate::out;
+use ascii::Mode;
+use reader::Answer;
+
+// Answers a request of `count` fields, its text laid into a.
+pub(crate) fn answer(
+    line: &[u8],
+    f: Fields,
+    count: usize,
+    a: &mut [u8],
+    canon: &mut [u8],
+    output: &mut [u8],
+    at: usize,
+) -> usize {
+    let word = fields::field(line, f, 0);
+    let x = fields::field(line, f, 1);
+    let y = fields::field(line, f, 2);
+    let z = fields::field(line, f, 3);
+    if count == 2 {
+        return answer_payload(word, x, a, output, at);
+    }
+    if count == 3 {
+        return answer_part(word, x, y, a, output, at);
+    }
+    if count == 4 {
+        return answer_read(word, x, y, z, a, canon, output, at);
+    }
+    out::put(output, at, b"error")
+}
+
+// A word and a payload.
+fn answer_payload<'a>(
+    word: &'a [u8],
+    x: &'a [u8],
+    a: &mut [u8],
+    output: &mut [u8],
+    at: usize,
+) -> usize {
+    let Said::Number(n) = fields::unhex(x, a) else {
+        return out::put(output, at, b"error");
+    };
+    let text = fields::part(a, 0, n);
+    if lists::same_bytes(word, b"parse_attrs") {
+        return out::put_yes(output, at, payloads::parse_attrs(text));
+    }
+    if lists::same_bytes(word, b"is_valid_attr_payload") {
+        return out::put_yes(output, at, payloads::is_valid_attr_payload(text));
+    }
+    if lists::same_bytes(word, b"valid_wrapped_attr_continuation") {
+        return out::put_yes(output, at, payloads::valid_wrapped_attr_continuation(text));
+    }
+    out::put(output, at, b"error")
+}
+
+// A word, a place and a text. The part that is handed back has no place in it, so the range is asked too.
+fn answer_part<'a>(
+    word: &'a [u8],
+    x: &'a [u8],
+    y: &'a [u8],
+    a: &mut [u8],
+    output: &mut [u8],
+    at: usize,
+) -> usize {
+    if !lists::same_bytes(word, b"payload_at") {
+        return out::put(output, at, b"error");
+    }
+    let Said::Number(place) = fields::number(x) else {
+        return out::put(output, at, b"error");
+    };
+    let Said::Number(n) = fields::unhex(y, a) else {
+        return out::put(output, at, b"error");
+    };
+    let text = fields::part(a, 0, n);
+    let r = reader::payload_range(text, place);
+    let handed = reader::payload_at(text, place);
+    if !lists::same_bytes(handed, fields::part(text, r.from, r.to)) {
+        return out::put(output, at, b"another part");
+    }
+    out::put_two(output, at, b"from ", r.from, b" to ", r.to)
+}
+
+// A word, a place, a mode and a text.
+fn answer_read<'a>(
+    word: &'a [u8],
+    x: &'a [u8],
+    y: &'a [u8],
+    z: &'a [u8],
+    a: &mut [u8],
+    canon: &mut [u8],
+    output: &mut [u8],
+    at: usize,
+) -> usize {
+    if !lists::same_bytes(word, b"read_attrs_at") {
+        return out::put(output, at, b"error");
+    }
+    let Said::Number(place) = fields::number(x) else {
+        return out::put(output, at, b"error");
+    };
+    let Said::Number(n) = fields::unhex(z, a) else {
+        return out::put(output, at, b"error");
+    };
+    let text = fields::part(a, 0, n);
+    if lists::same_bytes(y, b"strict") {
+        return put_read(text, place, Mode::Strict, canon, output, at);
+    }
+    if lists::same_bytes(y, b"loose") {
+        return put_read(text, place, Mode::Loose, canon, output, at);
+    }
+    out::put(output, at, b"error")
+}
+
+fn put_read(
+    text: &[u8],
+    place: usize,
+    mode: Mode,
+    canon: &mut [u8],
+    output: &mut [u8],
+    at: usize,
+) -> usize {
+    let read = reader::read_attrs_at_with(text, place, mode);
+    let answer = read.answer;
+    match answer {
+        Answer::Refused(r) => out::put_refused(output, at, r),
+        Answer::Next(n) => {
+            let words = out::put(output, at, b"ok next ");
+            let number = out::put_number(output, words, n);
+            canon::put_set(text, read.set, canon, output, number)
+        }
+    }
+}

@@ -1,0 +1,2 @@
+-- A token by ranges.
+pub mod Shown

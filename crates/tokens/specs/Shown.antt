@@ -1,0 +1,69 @@
+-- A token by ranges of the text, as the code hands it out.
+use mathlib.Core.Bool.{Bool, true, false}
+use mathlib.Core.List.{List, [], _∷_}
+use Prim.Native.Nat.{ℕ, _+_, _-_}
+use lib.Dec.{eqb}
+use lib.ListN.{length, take, drop}
+use Rattle.ascii.specs.declared.Mode.{Mode}
+use Rattle.names.specs.Names.{isName}
+use Rattle.names.specs.Tags.{isLanguage}
+use Rattle.grammar.specs.Grammar.{Item}
+use Rattle.grammar.specs.Read.{First, Shut, Reading, shutOf, wordToken, quotedToken}
+use Rattle.grammar.specs.declared.Place.{Place}
+use Rattle.grammar.specs.declared.Place.the-variants.{Nothing, At}
+use Rattle.tokens.specs.declared.Token.{Token}
+
+-- the ranges of an item whose token's first byte stands at a
+unfoldable pub shownItem : ℕ → Item → Token
+shownItem a (Item.tag t) = Token.Tag (a + 1) (a + 1 + length t)
+shownItem a (Item.id n) = Token.Id (a + 1) (a + 1 + length n)
+shownItem a (Item.class n) = Token.Class (a + 1) (a + 1 + length n)
+shownItem a (Item.plain k v) = Token.Plain a (a + length k) (a + length k + 1 + length v)
+shownItem a (Item.quoted k q v) = Token.Quoted a (a + length k) (a + length k + 3 + length v)
+shownItem a (Item.bare n) = Token.Bare a (a + length n)
+
+unfoldable pub shown : ℕ → First → Token
+shown a First.none = Token.Bad
+shown a (First.token i) = shownItem a i
+
+-- the place behind a token
+abbrev pub behind : Token → Place
+behind Token.Bad = Nothing
+behind (Token.Tag f e) = At e
+behind (Token.Id f e) = At e
+behind (Token.Class f e) = At e
+behind (Token.Plain f k e) = At e
+behind (Token.Quoted f k e) = At e
+behind (Token.Bare f e) = At e
+
+-- whether there is a reading
+abbrev pub accepted : Reading → Bool
+accepted Reading.refused = false
+accepted (Reading.items is) = true
+
+-- ---- the parts that private functions read
+
+abbrev pub tagToken : Mode → List ℕ → First
+tagToken m s = wordToken m isLanguage (λ t. Item.tag t) s
+
+abbrev pub idToken : Mode → List ℕ → First
+idToken m s = wordToken m isName (λ n. Item.id n) s
+
+abbrev pub classToken : Mode → List ℕ → First
+classToken m s = wordToken m isName (λ n. Item.class n) s
+
+abbrev pub quotedFrom : Mode → List ℕ → ℕ → List ℕ → First
+quotedFrom m k q s = quotedToken m k q s (shutOf q s false)
+
+-- the bytes of s from i to k
+abbrev pub part : ℕ → ℕ → List ℕ → List ℕ
+part i k s = take (k - i) (drop i s)
+
+abbrev pub startsEq : List ℕ → Bool
+startsEq [] = false
+startsEq (b ∷ s) = eqb b 61
+
+-- where a quote closes whose text begins at i
+abbrev pub shutAt : ℕ → Shut → Place
+shutAt i Shut.never = Nothing
+shutAt i (Shut.after n) = At (i + n)
