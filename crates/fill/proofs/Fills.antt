@@ -1,12 +1,11 @@
 -- The loop that fills a set: what each push does to the table, and to what is still to be put.
 -- Assumes nothing.
-use mathlib.Core.Path.{_≡_, refl, sym, _∙_, ap}
+use mathlib.Core.Path.{_≡_, refl, sym, _∙_}
 use mathlib.Core.Logic.{inl, inr}
-use mathlib.Core.Bool.{Bool, true, false, cond}
+use mathlib.Core.Bool.{true, false}
 use mathlib.Core.List.{List, [], _∷_, _++_, map, map-append}
 use Prim.Native.Nat.{ℕ, _+_, _<_, _≤_}
 use native.Mathlib.Omega.{arith}
-use lib.Dec.{ltb}
 use lib.ListN.{length, getD, set, take, length-append, length-map, length-set}
 use lib.Seq.{take-append-seam}
 use borrow.Author.Tests.{le-ltb}
@@ -23,7 +22,7 @@ use Rattle.sets.specs.declared.Attrs.{Attrs}
 use Rattle.sets.specs.Types.{Texts, maxClasses, maxKeys, maxSlots, zeroValue, zeroRow, zeroSlot, emptySet}
 use Rattle.sets.specs.Rows.{Rows, Put, noRows, isThere, isSome, hasKey, keyAt, putRow, withPut, withPuts, padded, held, tableOf}
 use Rattle.sets.proofs.Table.{padded-more, padded-set, padded-get}
-use Rattle.sets.proofs.Keys.{key-none, key-some}
+use Rattle.sets.proofs.Keys.{key-le, key-none, key-some}
 use Rattle.fill.specs.declared.Cursor.{Cursor}
 use Rattle.fill.specs.declared.Push as pushes
 use Rattle.fill.specs.declared.Push.the-variants.{End, Bad}
@@ -108,6 +107,14 @@ module _ {a : Attrs} {r : Rows} (h : Holds a r) where
   pub room-key : a .nkey < maxKeys → a .norder < maxSlots
   room-key e = omega (arith, norder, key-room (h .shaped) (omega (arith, nkey)))
 
+  -- where a key was looked for
+  module _ (t : Texts) (n : Name) {k : ℕ} (f : k ≡ keyAt t n (take (a .nkey) (a .keys))) where
+    found : k ≡ keyAt t n (r .keys)
+    found = f ∙ (rw first-keys)
+
+    pub key-within : k ≤ a .nkey
+    key-within = omega (arith, nkey, found, key-le t n (r .keys))
+
   -- ---- what a put does
   module _ (t : Texts) (v : Value) where
     pub id-again : isThere (a .id .id) ≡ true → Holds (withId a v) (withPut t r (Put.ident v))
@@ -144,15 +151,12 @@ module _ {a : Attrs} {r : Rows} (h : Holds a r) where
 
     -- a key, which was looked for
     module _ (n : Name) {k : ℕ} (f : k ≡ keyAt t n (take (a .nkey) (a .keys))) where
-      found : k ≡ keyAt t n (r .keys)
-      found = f ∙ (rw first-keys)
-
       pub key-again : k < a .nkey → Holds (withRow a k (record { name = getD (a .keys) k zeroRow .name; value = v })) (withPut t r (Put.key n v))
       unfolding tableOf withPut
       key-again l =
           let y : k < length (r .keys) = omega (arith, nkey) in
-          let z = key-some t n v (r .keys) (rw (← found) y) in
-          let w : putRow t n v (r .keys) ≡ set (r .keys) k (record { name = getD (r .keys) k zeroRow .name; value = v }) = rw found (z .1) in
+          let z = key-some t n v (r .keys) (rw (← found t n f) y) in
+          let w : putRow t n v (r .keys) ≡ set (r .keys) k (record { name = getD (r .keys) k zeroRow .name; value = v }) = rw (found t n f) (z .1) in
           record {
             is = rw (h .is, padded-get maxKeys zeroRow (r .keys) k zeroRow y, padded-set maxKeys zeroRow (r .keys) k (record { name = getD (r .keys) k zeroRow .name; value = v }) y, z .0, w, length-set);
             classes = h .classes;
@@ -161,7 +165,7 @@ module _ {a : Attrs} {r : Rows} (h : Holds a r) where
           }
 
       new : a .nkey ≤ k → (hasKey t n (r .keys) ≡ false) × (putRow t n v (r .keys) ≡ r .keys ++ (record { name = n; value = v } ∷ []))
-      new l = key-none t n v (r .keys) (omega (arith, nkey, found))
+      new l = key-none t n v (r .keys) (omega (arith, nkey, found t n f))
 
       key-more : a .nkey ≤ k → length (withPut t r (Put.key n v) .keys) ≡ a .nkey + 1
       unfolding withPut

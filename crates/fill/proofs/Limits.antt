@@ -1,10 +1,10 @@
 -- Once a limit is passed: the refusal is known but for what is still to be put.
 -- Assumes nothing.
-use mathlib.Core.Path.{_≡_, refl, sym, _∙_, ap}
+use mathlib.Core.Path.{_≡_, refl, sym, _∙_}
 use mathlib.Core.Bool.{Bool, true, false, cond}
 use mathlib.Core.Logic.{_⊎_, inl, inr}
-use mathlib.Core.List.{List, [], _∷_, _++_}
-use Prim.Native.Nat.{ℕ, _+_, _-_, _<_, _≤_}
+use mathlib.Core.List.{List, [], _∷_}
+use Prim.Native.Nat.{ℕ, _+_, _<_, _≤_}
 use native.Mathlib.Omega.{arith}
 use lib.Dec.{ltb}
 use lib.ListN.{length, length-append}
@@ -12,8 +12,6 @@ use borrow.Author.Tests.{lt-ltb}
 use Rattle.ascii.specs.declared.Mode.{Mode}
 use Rattle.refusals.specs.declared.Refusal.{Refusal}
 use Rattle.refusals.specs.declared.Refusal.the-variants.{NoReading, TooManyClasses, TooManyKeys}
-use Rattle.sets.specs.declared.Value.{Value}
-use Rattle.sets.specs.declared.Name.{Name}
 use Rattle.sets.specs.Types.{Texts, maxClasses, maxKeys}
 use Rattle.sets.specs.Rows.{Rows, Put, hasKey, withPut, withPuts}
 use Rattle.fill.specs.declared.Cursor.{Cursor}

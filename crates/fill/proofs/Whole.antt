@@ -1,13 +1,14 @@
--- From the part of a text to its payload.
+-- From the part of a text to its payload, and what a caller may know of the answer.
 -- Assumes nothing.
 use mathlib.Core.Path.{_≡_, refl, sym, _∙_}
-use mathlib.Core.Bool.{Bool, true, false}
+use mathlib.Core.Bool.{Bool, true, false, cond}
 use mathlib.Core.List.{List, []}
 use Prim.Native.Nat.{ℕ, _+_, _<_, _≤_}
 use native.Mathlib.Omega.{arith}
-use lib.Dec.{leb}
-use lib.ListN.{length, take, drop, drop-of-length-le, length-take}
-use borrow.Author.Tests.{leb-true, leb-false, lt-ltb, le-ltb}
+use lib.Dec.{leb, ltb}
+use lib.ListN.{length, drop, drop-of-length-le, length-take}
+use lib.Seq.{slice}
+use borrow.Author.Tests.{leb-true, leb-false, ltb-false, lt-ltb, le-ltb}
 use Rattle.lists.specs.Lists.{run}
 use Rattle.ascii.specs.declared.Mode.{Mode}
 use Rattle.ascii.specs.Bytes.{isBlank}
@@ -15,13 +16,16 @@ use Rattle.grammar.specs.Grammar.{Placed}
 use Rattle.grammar.specs.Read.{First, Reading, text, tokenOf, also, readFrom, oneOrMore, readPayload}
 use Rattle.tokens.specs.Shown.{shown}
 use Rattle.tokens.proofs.Steps as steps
-use Rattle.refusals.specs.declared.Refusal.the-variants.{TextTooLong, NoReading}
+use Rattle.refusals.specs.declared.Refusal.the-variants.{TextTooLong, NoReading, TooManyClasses, TooManyKeys, TooManySlots}
 use Rattle.refusals.specs.Numbers.{maxText}
-use Rattle.sets.specs.Types.{Texts, one, rangeBytes}
-use Rattle.sets.specs.Rows.{noRows}
+use Rattle.sets.specs.Types.{Texts, one, rangeBytes, maxClasses, maxKeys, maxSlots}
+use Rattle.sets.specs.Rows.{Rows, noRows, withPuts, tableOf}
+use Rattle.sets.specs.Puts.{putsIn}
 use Rattle.fill.specs.declared.Filled.{Filled}
-use Rattle.fill.specs.Fill.{refusing, filledBy, filledOf, fillAt}
+use Rattle.fill.specs.declared.Outcome.the-variants.{Refused, Done}
+use Rattle.fill.specs.Fill.{refusing, limited, filledBy, filledOf, fillAt}
 use Rattle.fill.specs.Walk.{ofReading, tokensFrom, filledFrom}
+use Rattle.fill.proofs.Slots.{Shaped, shaped-none, shaped-puts, slots}
 
 by-reading : (t : Texts) (r : Reading) → filledFrom t noRows (ofReading r) ≡ filledBy t r
 unfolding filledFrom
@@ -78,3 +82,29 @@ module _ (m : Mode) (t : List ℕ) (at end : ℕ) where
 
       pub tokens : a < length s → f ≡ filledFrom (one t) noRows (tokensFrom m s at) → f ≡ fillAt m t at end
       tokens h g = g ∙ by-reading (one t) (readFrom m (drop at s) 0 at) ∙ (rw (some-read m s at is h) at front)
+
+-- ---- for callers: "more than 34 slots" is no refusal of a payload
+abbrev refuses : Filled → Type 0
+refuses f = f .outcome ≡ Refused TooManySlots
+
+limited-slots : (s : Rows) → Shaped s → refuses (limited s) → ⊥
+unfolding limited
+limited-slots s h = go (ltb maxClasses (length (s .classes))) (ltb maxKeys (length (s .keys))) refl
+  where
+    go : (x y : Bool) → ltb maxKeys (length (s .keys)) ≡ y
+        → refuses (cond x (refusing TooManyClasses) (cond y (refusing TooManyKeys) (cond (ltb maxSlots (length (s .order))) (refusing TooManySlots) (record { outcome = Done; set = tableOf s })))) → ⊥
+    go true y k e = let z : _≡_ {A = ℕ} 0 1 = cc in omega arith
+    go false true k e = let z : _≡_ {A = ℕ} 0 1 = cc in omega arith
+    go false false k e =
+        let d : Done ≡ Refused TooManySlots = rw (le-ltb maxSlots (length (s .order)) (slots h (ltb-false maxKeys (length (s .keys)) k))) at e in
+        let z : _≡_ {A = ℕ} 0 1 = cc in
+        omega arith
+
+pub never-slots : (m : Mode) (t : List ℕ) (at end : ℕ) → refuses (fillAt m t at end) → ⊥
+unfolding fillAt filledOf
+never-slots m t at end = go (ltb maxText (length t)) (readPayload m at (slice at end t))
+  where
+    go : (x : Bool) (r : Reading) → refuses (cond x (refusing TextTooLong) (filledBy (one t) r)) → ⊥
+    go true r e = let z : _≡_ {A = ℕ} 0 1 = cc in omega arith
+    go false Reading.refused e = let z : _≡_ {A = ℕ} 0 1 = cc in omega arith
+    go false (Reading.items is) e = limited-slots (withPuts (one t) noRows (putsIn is)) (shaped-puts (one t) (putsIn is) shaped-none) e

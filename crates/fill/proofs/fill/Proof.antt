@@ -8,7 +8,7 @@ refusing-requires : tie.Need-refusing-requires
 refusing-requires c κs = search needs
 
 returns : tie.Need-returns
-returns c = let a = (c .before .before .before .args) in whole.too-long (a .mode) (a .text .now) (a .at) (a .end) (c .before .if1 .taken) (c .refusing .ensures)
+returns c = let a = c .before .before .before .args in whole.too-long (a .mode) (a .text .now) (a .at) (a .end) (omega (arith, c .before .if1 .taken)) (c .refusing .ensures)
 
 bytes-of-requires : tie.Need-bytes-of-requires
 bytes-of-requires c κs = search needs
@@ -20,13 +20,13 @@ refusing-requires-2 : tie.Need-refusing-requires-2
 refusing-requires-2 c κs = search needs
 
 returns-2 : tie.Need-returns-2
-returns-2 c = let a = (c .before .before .before .before .before .before .args) in whole.no-token (a .mode) (a .text .now) (a .at) (a .end) (c .before .before .before .before .if1 .left) (c .before .before .before .bytes-of .ensures) (c .before .before .blank-end .ensures) (c .before .if2 .taken) (c .refusing2 .ensures)
+returns-2 c = let a = c .before .before .before .before .before .before .args in whole.no-token (a .mode) (a .text .now) (a .at) (a .end) (omega (arith, c .before .before .before .before .if1 .left)) (c .before .before .before .bytes-of .ensures) (c .before .before .blank-end .ensures) (omega (arith, c .before .if2 .taken)) (c .refusing2 .ensures)
 
 fill-part-requires : tie.Need-fill-part-requires
-fill-part-requires c κs = let a = (c .before .before .before .before .before .args) in omega (arith, (c .before .blank-end .ensures), whole.short (a .mode) (a .text .now) (a .at) (a .end) (c .before .before .before .if1 .left) (c .before .before .bytes-of .ensures))
+fill-part-requires c κs = let a = c .before .before .before .before .before .args in omega (arith, (c .before .blank-end .ensures), whole.short (a .mode) (a .text .now) (a .at) (a .end) (omega (arith, c .before .before .before .if1 .left)) (c .before .before .bytes-of .ensures))
 
 returns-3 : tie.Need-returns-3
-returns-3 c = let a = (c .before .before .before .before .before .before .args) in whole.tokens (a .mode) (a .text .now) (a .at) (a .end) (c .before .before .before .before .if1 .left) (c .before .before .before .bytes-of .ensures) (c .before .before .blank-end .ensures) (c .before .if2 .left) (c .fill-part .ensures)
+returns-3 c = let a = c .before .before .before .before .before .before .args in whole.tokens (a .mode) (a .text .now) (a .at) (a .end) (omega (arith, c .before .before .before .before .if1 .left)) (c .before .before .before .bytes-of .ensures) (c .before .before .blank-end .ensures) (omega (arith, c .before .if2 .left)) (c .fill-part .ensures)
 
 pub fill-spec : {M : Type 1} → statement M
 fill-spec =

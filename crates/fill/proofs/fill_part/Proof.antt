@@ -1,4 +1,4 @@
-use mathlib.Core.Path.{_≡_, sym, _∙_}
+use mathlib.Core.Path.{sym, _∙_}
 use native.Mathlib.Omega.{arith}
 use Prim.Native.Nat.{_-_}
 use borrow.Author.Needs.{needs}
@@ -54,43 +54,43 @@ pushes-less : tie.Need-pushes-less Inv-pushes μ-pushes
 pushes-less c = walk.less (walk.id-gives (c .before .before .before .before .before .before .next-push .ensures) ((c .before .before .before .before .v .given .1)))
 
 pushes-again : tie.Need-pushes-again Inv-pushes μ-pushes
-pushes-again c = let i = (c .before .before .before .before .before .before .before .pushes .inv) in fills.next i (walk.id-gives (c .before .before .before .before .before .before .next-push .ensures) ((c .before .before .before .before .v .given .1))) (fills.id-again (i .holds) _ _ (sym (c .before .is-given .ensures) ∙ (c .if1 .taken)))
+pushes-again c = let i = c .before .before .before .before .before .before .before .pushes .inv in fills.next i (walk.id-gives (c .before .before .before .before .before .before .next-push .ensures) ((c .before .before .before .before .v .given .1))) (fills.id-again (i .holds) _ _ (sym (c .before .is-given .ensures) ∙ (c .if1 .taken)))
 
 cast-p : tie.Need-cast-p Inv-pushes μ-pushes
-cast-p c = let i = (c .before .before .before .before .before .before .before .pushes .inv) in omega (arith, fills.room-id (i .holds) (sym (c .before .is-given .ensures) ∙ (c .if1 .left)))
+cast-p c = let i = c .before .before .before .before .before .before .before .pushes .inv in omega (arith, fills.few (i .holds))
 
 mul-t35 : tie.Need-mul-t35 Inv-pushes μ-pushes
-mul-t35 c = let i = (c .before .before .before .before .before .before .before .pushes .inv) in omega (arith, fills.room-id (i .holds) (sym (c .before .is-given .ensures) ∙ (c .if1 .left)))
+mul-t35 c = let i = c .before .before .before .before .before .before .before .pushes .inv in omega (arith, fills.few (i .holds))
 
 element-set-from-set : tie.Need-element-set-from-set Inv-pushes μ-pushes
-element-set-from-set c = let i = (c .before .before .before .before .before .before .before .pushes .inv) in omega (arith, fills.room-id (i .holds) (sym (c .before .is-given .ensures) ∙ (c .if1 .left)))
+element-set-from-set c = let i = c .before .before .before .before .before .before .before .pushes .inv in omega (arith, fills.room-id (i .holds) (sym (c .before .is-given .ensures) ∙ (c .if1 .left)))
 
 add-set : tie.Need-add-set Inv-pushes μ-pushes
-add-set c = let i = (c .before .before .before .before .before .before .before .pushes .inv) in omega (arith, fills.room-id (i .holds) (sym (c .before .is-given .ensures) ∙ (c .if1 .left)))
+add-set c = let i = c .before .before .before .before .before .before .before .pushes .inv in omega (arith, fills.few (i .holds))
 
 pushes-less-2 : tie.Need-pushes-less-2 Inv-pushes μ-pushes
 pushes-less-2 c = walk.less (walk.id-gives (c .before .before .before .before .before .before .next-push .ensures) ((c .before .before .before .before .v .given .1)))
 
 pushes-again-2 : tie.Need-pushes-again-2 Inv-pushes μ-pushes
-pushes-again-2 c = let i = (c .before .before .before .before .before .before .before .pushes .inv) in fills.next i (walk.id-gives (c .before .before .before .before .before .before .next-push .ensures) ((c .before .before .before .before .v .given .1))) (fills.id-first (i .holds) _ _ (sym (c .before .is-given .ensures) ∙ (c .if1 .left)))
+pushes-again-2 c = let i = c .before .before .before .before .before .before .before .pushes .inv in fills.next i (walk.id-gives (c .before .before .before .before .before .before .next-push .ensures) ((c .before .before .before .before .v .given .1))) (fills.id-first (i .holds) _ _ (sym (c .before .is-given .ensures) ∙ (c .if1 .left)))
 
 enum-known-v-2 : tie.Need-enum-known-v-2 Inv-pushes μ-pushes
 enum-known-v-2 c = search needs
 
 cast-n : tie.Need-cast-n Inv-pushes μ-pushes
-cast-n c = let i = (c .before .before .before .before .pushes .inv) in omega (arith, fills.few (i .holds))
+cast-n c = let i = c .before .before .before .before .pushes .inv in omega (arith, fills.few (i .holds))
 
 add-passed-limit : tie.Need-add-passed-limit Inv-pushes μ-pushes
-add-passed-limit c = let i = (c .before .before .before .before .before .pushes .inv) in omega (arith, fills.few (i .holds))
+add-passed-limit c = let i = c .before .before .before .before .before .pushes .inv in omega (arith, fills.few (i .holds))
 
 passed-limit-requires : tie.Need-passed-limit-requires Inv-pushes μ-pushes
-passed-limit-requires c κs = let i = (c .before .before .before .before .before .pushes .inv) in ((walk.class-gives (c .before .before .before .before .next-push .ensures) ((c .before .before .v2 .given .1))) .inside, (c .before .before .before .before .before .before .before .before .before .before .pre .1), omega (arith, fills.few (i .holds)))
+passed-limit-requires c κs = let i = c .before .before .before .before .before .pushes .inv in ((walk.class-gives (c .before .before .before .before .next-push .ensures) ((c .before .before .v2 .given .1))) .inside, (c .before .before .before .before .before .before .before .before .before .before .pre .1), omega (arith, fills.few (i .holds)))
 
 refusing-requires-2 : tie.Need-refusing-requires-2 Inv-pushes μ-pushes
 refusing-requires-2 c κs = search needs
 
 returns-3 : tie.Need-returns-3 Inv-pushes μ-pushes
-returns-3 c = fills.class-over (c .before .before .before .before .before .before .before .pushes .inv) (walk.class-gives (c .before .before .before .before .before .before .next-push .ensures) ((c .before .before .before .before .v2 .given .1))) (c .before .before .if2 .taken) (c .before .passed-limit .ensures) (c .refusing2 .ensures)
+returns-3 c = fills.class-over (c .before .before .before .before .before .before .before .pushes .inv) (walk.class-gives (c .before .before .before .before .before .before .next-push .ensures) ((c .before .before .before .before .v2 .given .1))) (omega (arith, c .before .before .if2 .taken)) (c .before .passed-limit .ensures) (c .refusing2 .ensures)
 
 mul-v : tie.Need-mul-v Inv-pushes μ-pushes
 mul-v c = search needs
@@ -99,97 +99,97 @@ element-set-from-v : tie.Need-element-set-from-v Inv-pushes μ-pushes
 element-set-from-v c = search needs
 
 add-set-2 : tie.Need-add-set-2 Inv-pushes μ-pushes
-add-set-2 c = let i = (c .before .before .before .before .before .pushes .inv) in omega (arith, fills.few (i .holds))
+add-set-2 c = let i = c .before .before .before .before .before .pushes .inv in omega (arith, fills.few (i .holds))
 
 pushes-less-3 : tie.Need-pushes-less-3 Inv-pushes μ-pushes
 pushes-less-3 c = walk.less (walk.class-gives (c .before .before .before .before .before .next-push .ensures) ((c .before .before .before .v2 .given .1)))
 
 pushes-again-3 : tie.Need-pushes-again-3 Inv-pushes μ-pushes
-pushes-again-3 c = let i = (c .before .before .before .before .before .before .pushes .inv) in fills.next i (walk.class-gives (c .before .before .before .before .before .next-push .ensures) ((c .before .before .before .v2 .given .1))) (fills.class-again (i .holds) _ _ (c .before .if2 .left) (c .if3 .taken))
+pushes-again-3 c = let i = c .before .before .before .before .before .before .pushes .inv in fills.next i (walk.class-gives (c .before .before .before .before .before .next-push .ensures) ((c .before .before .before .v2 .given .1))) (fills.class-again (i .holds) _ _ (omega (arith, c .before .if2 .left)) (omega (arith, c .if3 .taken)))
 
 cast-p-2 : tie.Need-cast-p-2 Inv-pushes μ-pushes
-cast-p-2 c = let i = (c .before .before .before .before .before .before .pushes .inv) in omega (arith, fills.room-class (i .holds) (c .if3 .left))
+cast-p-2 c = let i = c .before .before .before .before .before .before .pushes .inv in omega (arith, fills.few (i .holds))
 
 mul-t43 : tie.Need-mul-t43 Inv-pushes μ-pushes
-mul-t43 c = let i = (c .before .before .before .before .before .before .pushes .inv) in omega (arith, fills.room-class (i .holds) (c .if3 .left))
+mul-t43 c = let i = c .before .before .before .before .before .before .pushes .inv in omega (arith, fills.few (i .holds))
 
 element-set-from-set-2 : tie.Need-element-set-from-set-2 Inv-pushes μ-pushes
-element-set-from-set-2 c = let i = (c .before .before .before .before .before .before .pushes .inv) in omega (arith, fills.room-class (i .holds) (c .if3 .left))
+element-set-from-set-2 c = let i = c .before .before .before .before .before .before .pushes .inv in omega (arith, fills.room-class (i .holds) (omega (arith, c .if3 .left)))
 
 add-set-3 : tie.Need-add-set-3 Inv-pushes μ-pushes
-add-set-3 c = let i = (c .before .before .before .before .before .before .pushes .inv) in omega (arith, fills.room-class (i .holds) (c .if3 .left))
+add-set-3 c = let i = c .before .before .before .before .before .before .pushes .inv in omega (arith, fills.few (i .holds))
 
 pushes-less-4 : tie.Need-pushes-less-4 Inv-pushes μ-pushes
 pushes-less-4 c = walk.less (walk.class-gives (c .before .before .before .before .before .next-push .ensures) ((c .before .before .before .v2 .given .1)))
 
 pushes-again-4 : tie.Need-pushes-again-4 Inv-pushes μ-pushes
-pushes-again-4 c = let i = (c .before .before .before .before .before .before .pushes .inv) in fills.next i (walk.class-gives (c .before .before .before .before .before .next-push .ensures) ((c .before .before .before .v2 .given .1))) (fills.class-first (i .holds) _ _ (c .before .if2 .left) (c .if3 .left))
+pushes-again-4 c = let i = c .before .before .before .before .before .before .pushes .inv in fills.next i (walk.class-gives (c .before .before .before .before .before .next-push .ensures) ((c .before .before .before .v2 .given .1))) (fills.class-first (i .holds) _ _ (omega (arith, c .before .if2 .left)) (omega (arith, c .if3 .left)))
 
 enum-known-name : tie.Need-enum-known-name Inv-pushes μ-pushes
 enum-known-name c = search needs
 
 cast-n-2 : tie.Need-cast-n-2 Inv-pushes μ-pushes
-cast-n-2 c = let i = (c .before .before .before .before .pushes .inv) in omega (arith, fills.few (i .holds))
+cast-n-2 c = let i = c .before .before .before .before .pushes .inv in omega (arith, fills.few (i .holds))
 
 find-key-requires : tie.Need-find-key-requires Inv-pushes μ-pushes
 find-key-requires c κs = search needs
 
 mul-row : tie.Need-mul-row Inv-pushes μ-pushes
-mul-row c = let i = (c .before .before .before .before .before .before .before .pushes .inv) in omega (arith, fills.few (i .holds))
+mul-row c = let i = c .before .before .before .before .before .before .before .pushes .inv in omega (arith, fills.few (i .holds), fills.key-within (i .holds) _ _ (c .before .find-key .ensures))
 
 element-copy-out-row : tie.Need-element-copy-out-row Inv-pushes μ-pushes
-element-copy-out-row c = let i = (c .before .before .before .before .before .before .before .pushes .inv) in omega (arith, fills.few (i .holds))
+element-copy-out-row c = let i = c .before .before .before .before .before .before .before .pushes .inv in omega (arith, fills.few (i .holds), fills.key-within (i .holds) _ _ (c .before .find-key .ensures))
 
 mul-row-2 : tie.Need-mul-row-2 Inv-pushes μ-pushes
-mul-row-2 c = let i = (c .before .before .before .before .before .before .before .before .pushes .inv) in omega (arith, fills.few (i .holds))
+mul-row-2 c = let i = c .before .before .before .before .before .before .before .before .pushes .inv in omega (arith, fills.few (i .holds), fills.key-within (i .holds) _ _ (c .before .before .find-key .ensures))
 
 element-set-from-row : tie.Need-element-set-from-row Inv-pushes μ-pushes
-element-set-from-row c = let i = (c .before .before .before .before .before .before .before .before .pushes .inv) in omega (arith, fills.few (i .holds))
+element-set-from-row c = let i = c .before .before .before .before .before .before .before .before .pushes .inv in omega (arith, fills.few (i .holds), fills.key-within (i .holds) _ _ (c .before .before .find-key .ensures))
 
 pushes-less-5 : tie.Need-pushes-less-5 Inv-pushes μ-pushes
 pushes-less-5 c = walk.less (walk.key-gives (c .before .before .before .before .before .before .before .next-push .ensures) ((c .before .before .before .before .before .name .given .1)))
 
 pushes-again-5 : tie.Need-pushes-again-5 Inv-pushes μ-pushes
-pushes-again-5 c = let i = (c .before .before .before .before .before .before .before .before .pushes .inv) in fills.next i (walk.key-gives (c .before .before .before .before .before .before .before .next-push .ensures) ((c .before .before .before .before .before .name .given .1))) (fills.key-again (i .holds) _ _ _ (c .before .before .find-key .ensures) (c .before .if4 .taken))
+pushes-again-5 c = let i = c .before .before .before .before .before .before .before .before .pushes .inv in fills.next i (walk.key-gives (c .before .before .before .before .before .before .before .next-push .ensures) ((c .before .before .before .before .before .name .given .1))) (fills.key-again (i .holds) _ _ _ (c .before .before .find-key .ensures) (omega (arith, c .before .if4 .taken)))
 
 cast-passed-limit : tie.Need-cast-passed-limit Inv-pushes μ-pushes
-cast-passed-limit c = let i = (c .before .before .before .before .before .before .before .before .pushes .inv) in omega (arith, fills.few (i .holds))
+cast-passed-limit c = let i = c .before .before .before .before .before .before .before .before .pushes .inv in omega (arith, fills.few (i .holds))
 
 passed-limit-requires-2 : tie.Need-passed-limit-requires-2 Inv-pushes μ-pushes
-passed-limit-requires-2 c κs = let i = (c .before .before .before .before .before .before .before .before .pushes .inv) in ((walk.key-gives (c .before .before .before .before .before .before .before .next-push .ensures) ((c .before .before .before .before .before .name .given .1))) .inside, (c .before .before .before .before .before .before .before .before .before .before .before .before .before .pre .1), omega (arith, fills.few (i .holds)))
+passed-limit-requires-2 c κs = let i = c .before .before .before .before .before .before .before .before .pushes .inv in ((walk.key-gives (c .before .before .before .before .before .before .before .next-push .ensures) ((c .before .before .before .before .before .name .given .1))) .inside, (c .before .before .before .before .before .before .before .before .before .before .before .before .before .pre .1), omega (arith, fills.few (i .holds)))
 
 refusing-requires-3 : tie.Need-refusing-requires-3 Inv-pushes μ-pushes
 refusing-requires-3 c κs = search needs
 
 returns-4 : tie.Need-returns-4 Inv-pushes μ-pushes
-returns-4 c = fills.key-over (c .before .before .before .before .before .before .before .before .before .before .pushes .inv) (walk.key-gives (c .before .before .before .before .before .before .before .before .before .next-push .ensures) ((c .before .before .before .before .before .before .before .name .given .1))) (c .before .before .before .before .find-key .ensures) (c .before .before .before .if4 .left) (c .before .before .if5 .taken) (c .before .passed-limit2 .ensures) (c .refusing3 .ensures)
+returns-4 c = fills.key-over (c .before .before .before .before .before .before .before .before .before .before .pushes .inv) (walk.key-gives (c .before .before .before .before .before .before .before .before .before .next-push .ensures) ((c .before .before .before .before .before .before .before .name .given .1))) (c .before .before .before .before .find-key .ensures) (omega (arith, c .before .before .before .if4 .left)) (omega (arith, c .before .before .if5 .taken)) (c .before .passed-limit2 .ensures) (c .refusing3 .ensures)
 
 cast-p-3 : tie.Need-cast-p-3 Inv-pushes μ-pushes
-cast-p-3 c = let i = (c .before .before .before .before .before .before .before .before .pushes .inv) in omega (arith, fills.room-key (i .holds) (c .if5 .left))
+cast-p-3 c = let i = c .before .before .before .before .before .before .before .before .pushes .inv in omega (arith, fills.few (i .holds))
 
 mul-t63 : tie.Need-mul-t63 Inv-pushes μ-pushes
-mul-t63 c = let i = (c .before .before .before .before .before .before .before .before .pushes .inv) in omega (arith, fills.room-key (i .holds) (c .if5 .left))
+mul-t63 c = let i = c .before .before .before .before .before .before .before .before .pushes .inv in omega (arith, fills.few (i .holds))
 
 element-set-from-set-3 : tie.Need-element-set-from-set-3 Inv-pushes μ-pushes
-element-set-from-set-3 c = let i = (c .before .before .before .before .before .before .before .before .pushes .inv) in omega (arith, fills.room-key (i .holds) (c .if5 .left))
+element-set-from-set-3 c = let i = c .before .before .before .before .before .before .before .before .pushes .inv in omega (arith, fills.room-key (i .holds) (omega (arith, c .if5 .left)))
 
 mul-t63-2 : tie.Need-mul-t63-2 Inv-pushes μ-pushes
-mul-t63-2 c = let i = (c .before .before .before .before .before .before .before .before .pushes .inv) in omega (arith, fills.room-key (i .holds) (c .if5 .left))
+mul-t63-2 c = let i = c .before .before .before .before .before .before .before .before .pushes .inv in omega (arith, fills.few (i .holds))
 
 element-set-from-set-4 : tie.Need-element-set-from-set-4 Inv-pushes μ-pushes
-element-set-from-set-4 c = let i = (c .before .before .before .before .before .before .before .before .pushes .inv) in omega (arith, fills.room-key (i .holds) (c .if5 .left))
+element-set-from-set-4 c = let i = c .before .before .before .before .before .before .before .before .pushes .inv in omega (arith, fills.room-key (i .holds) (omega (arith, c .if5 .left)))
 
 add-set-4 : tie.Need-add-set-4 Inv-pushes μ-pushes
-add-set-4 c = let i = (c .before .before .before .before .before .before .before .before .pushes .inv) in omega (arith, fills.room-key (i .holds) (c .if5 .left))
+add-set-4 c = let i = c .before .before .before .before .before .before .before .before .pushes .inv in omega (arith, fills.few (i .holds))
 
 add-set-5 : tie.Need-add-set-5 Inv-pushes μ-pushes
-add-set-5 c = let i = (c .before .before .before .before .before .before .before .before .pushes .inv) in omega (arith, fills.room-key (i .holds) (c .if5 .left))
+add-set-5 c = let i = c .before .before .before .before .before .before .before .before .pushes .inv in omega (arith, fills.few (i .holds))
 
 pushes-less-6 : tie.Need-pushes-less-6 Inv-pushes μ-pushes
 pushes-less-6 c = walk.less (walk.key-gives (c .before .before .before .before .before .before .before .next-push .ensures) ((c .before .before .before .before .before .name .given .1)))
 
 pushes-again-6 : tie.Need-pushes-again-6 Inv-pushes μ-pushes
-pushes-again-6 c = let i = (c .before .before .before .before .before .before .before .before .pushes .inv) in fills.next i (walk.key-gives (c .before .before .before .before .before .before .before .next-push .ensures) ((c .before .before .before .before .before .name .given .1))) (fills.key-first (i .holds) _ _ _ (c .before .before .find-key .ensures) (c .before .if4 .left) (c .if5 .left))
+pushes-again-6 c = let i = c .before .before .before .before .before .before .before .before .pushes .inv in fills.next i (walk.key-gives (c .before .before .before .before .before .before .before .next-push .ensures) ((c .before .before .before .before .before .name .given .1))) (fills.key-first (i .holds) _ _ _ (c .before .before .find-key .ensures) (omega (arith, c .before .if4 .left)) (omega (arith, c .if5 .left)))
 
 pub fill-part-spec : {M : Type 1} → statement M
 fill-part-spec =

@@ -1,5 +1,4 @@
 use mathlib.Core.Path.{sym, _∙_}
-use native.Mathlib.Omega.{arith}
 use Rattle.fill.proofs.Walk as walk
 use borrow.Author.Needs.{needs}
 use Rattle.fill.proofs.named_push.Statement.{statement}
@@ -39,7 +38,7 @@ first-piece-requires : tie.Need-first-piece-requires
 first-piece-requires c κs = search needs
 
 returns-2 : tie.Need-returns-2
-returns-2 c = λ m. walk.named-class m ((c .before .before .before .before .before .before .before .before .before .pre .0)) ((c .before .before .before .before .before .before .before .before .before .pre .1)) ((c .before .before .before .before .before .before .before .before .before .pre .2)) ((c .before .before .before .before .before .before .before .before .before .pre .3)) (sym (c .before .before .before .before .before .same-bytes .ensures) ∙ (c .before .before .before .before .if1 .left)) (sym (c .before .before .same-bytes2 .ensures) ∙ (c .before .if2 .taken)) ((c .first-piece .ensures) m)
+returns-2 c = λ m. walk.named-class m ((c .before .before .before .before .before .before .before .before .before .pre .0)) ((c .before .before .before .before .before .before .before .before .before .pre .1)) ((c .before .before .before .before .before .before .before .before .before .pre .2)) ((c .before .before .before .before .before .before .before .before .before .pre .3)) (sym (c .before .before .before .before .before .same-bytes .ensures) ∙ (c .before .before .before .before .if1 .left)) (sym (c .before .before .same-bytes2 .ensures) ∙ (c .before .if2 .taken)) (c .first-piece .ensures m)
 
 cast-t20 : tie.Need-cast-t20
 cast-t20 c = search needs

@@ -21,7 +21,7 @@ returns : tie.Need-returns
 returns c = walk.token-next ((c .before .before .before .before .before .pre .0)) (c .before .before .space-end .ensures) (c .before .if1 .taken) (c .token-push .ensures)
 
 piece-requires : tie.Need-piece-requires
-piece-requires c κs = let a = (c .before .before .before .before .args) in omega (arith, (c .before .before .before .before .pre), length-take (a .c .to) (a .s .now), runs.inside _ (take (a .c .to) (a .s .now)) (c .before .space-end .ensures) (omega (arith, (c .before .before .before .before .pre), length-take (a .c .to) (a .s .now))))
+piece-requires c κs = let a = c .before .before .before .before .args in omega (arith, (c .before .before .before .before .pre), length-take (a .c .to) (a .s .now), runs.inside _ (take (a .c .to) (a .s .now)) (c .before .space-end .ensures) (omega (arith, (c .before .before .before .before .pre), length-take (a .c .to) (a .s .now))))
 
 returns-2 : tie.Need-returns-2
 returns-2 c = walk.piece-next ((c .before .before .before .before .before .pre .0)) (c .before .before .space-end .ensures) _ (c .before .if1 .left) (c .piece .ensures)

@@ -43,7 +43,7 @@ enum-known-next-2 : tie.Need-enum-known-next-2 Inv-walk μ-walk
 enum-known-next-2 c = search needs
 
 add-count : tie.Need-add-count Inv-walk μ-walk
-add-count c = let i = (c .before .before .before .before .walk .inv) in omega (arith, (c .before .before .before .before .before .before .pre), i .bound, i .inside)
+add-count c = let i = c .before .before .before .before .walk .inv in omega (arith, (c .before .before .before .before .before .before .pre), i .bound, i .inside)
 
 walk-less-2 : tie.Need-walk-less-2 Inv-walk μ-walk
 walk-less-2 c = walk.less (walk.class-gives (c .before .before .before .next-push .ensures) ((c .before .next2 .given .1)))

@@ -14,7 +14,7 @@ piece-end-requires : tie.Need-piece-end-requires
 piece-end-requires c κs = search needs
 
 value-of-requires : tie.Need-value-of-requires
-value-of-requires c κs = let a = (c .before .before .before .args) in omega (arith, (c .before .before .before .pre), length-take (a .c .to) (a .s .now), runs.inside _ (take (a .c .to) (a .s .now)) (c .piece-end .ensures) (omega (arith, (c .before .before .before .pre), length-take (a .c .to) (a .s .now))))
+value-of-requires c κs = let a = c .before .before .before .args in omega (arith, (c .before .before .before .pre), length-take (a .c .to) (a .s .now), runs.inside _ (take (a .c .to) (a .s .now)) (c .piece-end .ensures) (omega (arith, (c .before .before .before .pre), length-take (a .c .to) (a .s .now))))
 
 value-at-requires : tie.Need-value-at-requires
 value-at-requires c κs = search needs
