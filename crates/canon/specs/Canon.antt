@@ -85,7 +85,7 @@ canon m = 123 ∷ (pairsText (pairs m) ++ (125 ∷ []))
 
 -- ---- well-formed
 
-unfoldable pub every : (List ℕ → Bool) → List (List ℕ) → Bool
+unfoldable pub every : {A : Type 0} → (A → Bool) → List A → Bool
 every f [] = true
 every f (v ∷ vs) = f v && every f vs
 

@@ -1,2 +1,3 @@
 -- The laws about the two checks.
 pub mod Numbers
+pub mod Texts

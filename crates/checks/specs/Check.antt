@@ -1,6 +1,6 @@
 -- What every entry but those at a brace asks of its text first: "1, 2, ..".
 use Prim.Native.Nat.{ℕ}
-use mathlib.Core.Bool.{Bool, cond}
+use mathlib.Core.Bool.{Bool, false, cond}
 use mathlib.Core.List.{List}
 use lib.Dec.{ltb}
 use lib.ListN.{length}
@@ -13,6 +13,10 @@ use Rattle.checks.specs.declared.Check.the-variants.{Passed, Refused}
 -- "text above 65,535 bytes", then "not UTF-8: .. the whole text elsewhere"
 unfoldable pub checkOf : List ℕ → Check
 checkOf t = cond (ltb maxText (length t)) (Refused TextTooLong) (cond (isUtf8 t) Passed (Refused NotUtf8))
+
+-- the text gives neither 1 nor 2
+unfoldable pub isText : List ℕ → Bool
+isText t = cond (ltb maxText (length t)) false (isUtf8 t)
 
 -- the number of an answer: 0 where the text passes
 abbrev pub checkNo : Check → ℕ

@@ -1,6 +1,6 @@
 // The two checks with which every entry begins that reads a whole text.
 ghost use mathlib.Core.Path.{_≡_};
-ghost use Rattle.checks.specs.Check.{checkOf};
+ghost use Rattle.checks.specs.Check.{checkOf, isText};
 use refusals::Refusal;
 
 pub enum Check {
@@ -19,4 +19,14 @@ pub fn check_text(text: &[u8]) -> Check
         return Check::Refused(Refusal::NotUtf8);
     }
     Check::Passed
+}
+
+// Whether the bytes are short enough and UTF-8.
+pub fn is_text(s: &[u8]) -> bool
+    ensures { λ r. ⌜ r ≡ isText (now (s .entry)) ⌝ }
+{
+    match check_text(s) {
+        Check::Passed => true,
+        Check::Refused(_) => false,
+    }
 }

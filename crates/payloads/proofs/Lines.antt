@@ -17,7 +17,8 @@ use Rattle.lists.proofs.Parts.{slice-part}
 use Rattle.lines.specs.declared.Range.{Range}
 use Rattle.lines.specs.Trim.{trim, trimRange}
 use Rattle.lines.proofs.Trim.{trim-from, trim-to, trim-slice}
-use Rattle.payloads.specs.Payloads.{isText, lastIs, endsInClose, behindFrom, behindLast, continues, isContinuation}
+use Rattle.checks.specs.Check.{isText}
+use Rattle.payloads.specs.Payloads.{lastIs, endsInClose, behindFrom, behindLast, continues, isContinuation}
 
 last-at : (a : ℕ) (s : List ℕ) → lastIs a s ≡ eqb (getD (a ∷ s) (length s) 0) 125
 unfolding lastIs

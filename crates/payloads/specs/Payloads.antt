@@ -6,15 +6,10 @@ use lib.Dec.{eqb, ltb}
 use lib.ListN.{length}
 use Rattle.ascii.specs.declared.Mode.{Mode}
 use Rattle.ascii.specs.declared.Mode.the-variants.{Strict, Loose}
-use Rattle.utf8.specs.Utf8.{isUtf8}
-use Rattle.refusals.specs.Numbers.{maxText}
+use Rattle.checks.specs.Check.{isText}
 use Rattle.grammar.specs.Read.{readPayload}
 use Rattle.tokens.specs.Shown.{accepted}
 use Rattle.lines.specs.Trim.{trim}
-
--- neither 1 nor 2
-unfoldable pub isText : List ℕ → Bool
-isText s = cond (ltb maxText (length s)) false (isUtf8 s)
 
 -- a reading of the payload exists
 unfoldable pub isPayload : Mode → List ℕ → Bool

@@ -1,29 +1,18 @@
 // The entries that take a payload alone, and what may continue a wrapped run: they say yes or no.
 use ascii::Mode;
-use checks::Check;
 ghost use mathlib.Core.Path.{_≡_};
 ghost use mathlib.Core.Bool.{cond, _&&_};
 ghost use Prim.Native.Nat.{_+_, _≤_, _<_};
 ghost use lib.Dec.{eqb};
 ghost use lib.ListN.{length, getD, drop};
 ghost use Rattle.ascii.specs.declared.Mode.the-variants.{Strict, Loose};
-ghost use Rattle.payloads.specs.Payloads.{isText, isPayload, behindLast, continues, isContinuation};
-
-// Whether the bytes are short enough and UTF-8.
-fn is_text(s: &[u8]) -> bool
-    ensures { λ r. ⌜ r ≡ isText (now (s .entry)) ⌝ }
-{
-    match checks::check_text(s) {
-        Check::Passed => true,
-        Check::Refused(_) => false,
-    }
-}
+ghost use Rattle.payloads.specs.Payloads.{isPayload, behindLast, continues, isContinuation};
 
 // Whether the bytes are a payload, in either mode.
 fn is_payload(s: &[u8], mode: Mode) -> bool
     ensures { λ r. ⌜ r ≡ isPayload mode (now (s .entry)) ⌝ }
 {
-    if !is_text(s) {
+    if !checks::is_text(s) {
         return false;
     }
     tokens::payload_ok(s, mode)
@@ -89,7 +78,7 @@ pub fn continues_run(l: &[u8]) -> bool
 pub fn valid_wrapped_attr_continuation(s: &[u8]) -> bool
     ensures { λ r. ⌜ r ≡ isContinuation (now (s .entry)) ⌝ }
 {
-    if !is_text(s) {
+    if !checks::is_text(s) {
         return false;
     }
     let r = lines::trim_ascii(s);

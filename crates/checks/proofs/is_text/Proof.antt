@@ -1,7 +1,7 @@
-use Rattle.payloads.proofs.Texts as texts
+use Rattle.checks.proofs.Texts as texts
 use borrow.Author.Needs.{needs}
-use Rattle.payloads.proofs.is_text.Statement.{statement}
-use Rattle.payloads.proofs.is_text.Tie as tie
+use Rattle.checks.proofs.is_text.Statement.{statement}
+use Rattle.checks.proofs.is_text.Tie as tie
 
 check-text-requires : tie.Need-check-text-requires
 check-text-requires c κs = search needs

@@ -10,10 +10,9 @@ use lib.ListN.{length}
 use Rattle.utf8.specs.Utf8.{isUtf8}
 use Rattle.refusals.specs.declared.Refusal.{Refusal}
 use Rattle.refusals.specs.declared.Refusal.the-variants.{TextTooLong, NotUtf8}
-use Rattle.checks.specs.Check.{checkOf}
+use Rattle.checks.specs.Check.{checkOf, isText}
 use Rattle.checks.specs.declared.Check.{Check}
 use Rattle.checks.specs.declared.Check.the-variants.{Passed, Refused}
-use Rattle.payloads.specs.Payloads.{isText}
 
 passes : Check → Bool
 passes Passed = true

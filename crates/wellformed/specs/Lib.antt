@@ -1,0 +1,2 @@
+-- The definitions that the contracts of wellformed cite.
+pub mod WellFormed
