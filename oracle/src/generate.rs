@@ -1055,8 +1055,26 @@ const REFUSED_FORMS: &[(&str, &[u8], &[u8])] = &[
     ("ends_in_refused_brace_run", b"{a\nb}\n{", b"\n%}"),
 ];
 
+const TEXT_FORMS: &[(&str, &[u8], &[u8])] = &[
+    ("parse_standalone_attrs 1", b"", b""),
+    ("parse_standalone_attrs_block 1", b"", b""),
+    ("standalone_attrs_block_len 1", b"", b""),
+    ("indented_wrapped_attrs_block_len 1", b"", b""),
+    ("attrs_block_len_at 1 1", b"", b""),
+    ("wrapped_attrs_run_at 0 1", b"", b""),
+];
+
 fn sections(family: &str) -> &'static [Section] {
     match family {
+        "payload" => &[Section {
+            atoms: &[b"a", b"1", b"_", b"-", b".", b"#", b":", b"=", b"\"", b"'", b"\\", b" ", b"\t", b"\n", b"}", b"|"],
+            forms: &[("read_attrs_at 0 strict", b"{", b"}"), ("read_attrs_at 0 loose", b"{", b"}")],
+        }],
+        "text" => &[Section { atoms: &[b"{", b"}", b"a", b"\"", b"\\", b"\n", b" ", b"\t"], forms: TEXT_FORMS }],
+        "refused-text" => &[Section {
+            atoms: &[b"{", b"}", b"%", b"a", b"\n", b" ", b"\"", b"\\"],
+            forms: &[("refused_brace_run 1", b"", b""), ("ends_in_refused_brace_run", b"", b"")],
+        }],
         "leaves" => &[
             Section {
                 atoms: &[
@@ -1255,6 +1273,7 @@ fn main() -> io::Result<()> {
     let words: Vec<&str> = words.iter().map(String::as_str).collect();
     let number_of = |word: &str| word.parse::<u64>().ok();
     let known = |name: &str| FAMILIES.contains(&name);
+    let listed = |name: &str| known(name) || ["payload", "text", "refused-text"].contains(&name);
     let mut to = BufWriter::with_capacity(1 << 20, io::stdout().lock());
     let mut out = Out { line: Vec::new() };
     let mut write = |out: &mut Out| {
@@ -1278,7 +1297,7 @@ fn main() -> io::Result<()> {
                 write(&mut out)?;
             }
         }
-        ["exhaustive", family, length, from, count] if known(family) => {
+        ["exhaustive", family, length, from, count] if listed(family) => {
             let (Some(length), Some(from), Some(count)) = (number_of(length), number_of(from), number_of(count)) else {
                 return usage();
             };
@@ -1288,7 +1307,7 @@ fn main() -> io::Result<()> {
                 write(&mut out)?;
             }
         }
-        ["size", family, length] if known(family) => {
+        ["size", family, length] if listed(family) => {
             let Some(length) = number_of(length) else {
                 return usage();
             };
