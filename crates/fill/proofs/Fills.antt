@@ -7,7 +7,7 @@ use mathlib.Core.List.{List, [], _∷_, _++_, map, map-append}
 use Prim.Native.Nat.{ℕ, _+_, _<_, _≤_}
 use native.Mathlib.Omega.{arith}
 use lib.ListN.{length, getD, set, take, length-append, length-map, length-set}
-use lib.Seq.{take-append-seam}
+use lib.Seq.{take-append-seam, length-take-le}
 use borrow.Author.Tests.{le-ltb}
 use Rattle.ascii.specs.declared.Mode.{Mode}
 use Rattle.refusals.specs.declared.Refusal.{Refusal}
@@ -24,13 +24,15 @@ use Rattle.sets.specs.Rows.{Rows, Put, noRows, isThere, isSome, hasKey, keyAt, 
 use Rattle.sets.proofs.Table.{padded-more, padded-set, padded-get}
 use Rattle.sets.proofs.Keys.{key-le, key-none, key-some}
 use Rattle.fill.specs.declared.Cursor.{Cursor}
+use Rattle.fill.specs.declared.Next as nexts
+use Rattle.fill.specs.declared.Next.the-variants.{Last, Unread, Closing}
 use Rattle.fill.specs.declared.Push as pushes
 use Rattle.fill.specs.declared.Push.the-variants.{End, Bad}
 use Rattle.fill.specs.declared.Filled.{Filled}
 use Rattle.fill.specs.declared.Outcome.the-variants.{Done}
 use Rattle.fill.specs.Fill.{refusing, limited}
-use Rattle.fill.specs.Walk.{Rest, before, tokensFrom, restOf, tokensAt, InText, Gives, Yields, filledFrom, overOf}
-use Rattle.fill.proofs.Walk.{tokens-first}
+use Rattle.fill.specs.Walk.{Rest, before, restOf, chainRest, tokensAt, Opened, Gives, Yields, filledFrom, overOf}
+use Rattle.fill.proofs.Chains as chains
 use Rattle.fill.proofs.Slots.{Shaped, shaped-none, shaped-put, slots, id-room, class-room, key-room}
 use Rattle.fill.proofs.Limits as limits
 
@@ -184,50 +186,59 @@ module _ {a : Attrs} {r : Rows} (h : Holds a r) where
           }
 
 -- ---- the loop: the table so far, and what is still to be put gives the whole's answer
-pub record Fills (t : Texts) (m : Mode) (s : List ℕ) (whole : Filled) (a : Attrs) (c : Cursor) : Type 0 where
+pub record Fills (t : Texts) (m : Mode) (w : List ℕ) (whole : Filled) (a : Attrs) (e : ℕ) (c : Cursor) : Type 0 where
   pub rows : Rows
   pub holds : Holds a rows
-  pub inside : InText s c
-  pub rest : filledFrom t rows (restOf m s c) ≡ whole
+  pub stands : chains.Stands w e c
+  pub rest : filledFrom t rows (chainRest m w e c) ≡ whole
 
-pub start : (t : Texts) (m : Mode) (s : List ℕ) (at : ℕ) {a : Attrs} {c : Cursor} → at ≤ length s → a ≡ emptySet → c ≡ tokensAt at → Fills t m s (filledFrom t noRows (tokensFrom m s at)) a c
-start t m s at l e q =
-    rw (e, q)
-    (record { rows = noRows; holds = holds-none; inside = record { at = omega arith; to = omega arith; next = l }; rest = rw (tokens-first m s at) })
+pub start : (t : Texts) (m : Mode) (w : List ℕ) (at e : ℕ) {a : Attrs} {c : Cursor} → at ≤ e → e ≤ length w → a ≡ emptySet → c ≡ tokensAt at → Fills t m w (filledFrom t noRows (chainRest m w e (tokensAt at))) a e c
+start t m w at e h l p q =
+    rw (p, q)
+    (record { rows = noRows; holds = holds-none; stands = record { inside = record { at = omega arith; to = omega arith; next = omega (arith, length-take-le e w l) }; fits = l }; rest = refl })
 
 filled-before : (t : Texts) (r : Rows) (p : Put) (x : Rest) → filledFrom t r (before (p ∷ []) x) ≡ filledFrom t (withPut t r p) x
 unfolding filledFrom withPuts
 filled-before t r p Rest.refused = refl
 filled-before t r p (Rest.puts ps) = refl
 
-module _ {t : Texts} {m : Mode} {s : List ℕ} {whole : Filled} {a : Attrs} {c : Cursor} (inv : Fills t m s whole a c) where
-  pub bad : {q : pushes.Push} {f : Filled} → Yields m s (c .at) (restOf m s c) q → q ≡ Bad → f ≡ refusing NoReading → f ≡ whole
-  unfolding filledFrom
-  bad y e g = let z : restOf m s c ≡ Rest.refused = rw e at (y .told) in g ∙ (rw z at (inv .rest))
+module _ {t : Texts} {m : Mode} {w : List ℕ} {whole : Filled} {a : Attrs} {e : ℕ} {c : Cursor} (inv : Fills t m w whole a e c) where
+  module _ {q : pushes.Push} (y : Yields m (take e w) (c .at) (restOf m (take e w) c) q) where
+    pub bad : {f : Filled} → q ≡ Bad → f ≡ refusing NoReading → f ≡ whole
+    unfolding filledFrom
+    bad g h = h ∙ (rw (chains.bad (inv .stands) y g) at (inv .rest))
 
-  pub end : {q : pushes.Push} → Yields m s (c .at) (restOf m s c) q → q ≡ End → record { outcome = Done; set = a } ≡ whole
-  unfolding filledFrom limited withPuts
-  end y e =
-      let z : restOf m s c ≡ Rest.puts [] = rw e at (y .told) in
-      let h = inv .holds in
-      let r = inv .rows in
-      rw (h .is) (rw (z, le-ltb maxClasses (length (r .classes)) (h .classes), le-ltb maxKeys (length (r .keys)) (h .keys), le-ltb maxSlots (length (r .order)) (slots (h .shaped) (h .keys))) at (inv .rest))
+    module _ {x : nexts.Next} (o : Opened m w (e + 1) x) (g : q ≡ End) where
+      pub last : x ≡ Last → record { outcome = Done; set = a } ≡ whole
+      unfolding filledFrom limited withPuts
+      last k =
+          let h = inv .holds in
+          let r = inv .rows in
+          rw (h .is) (rw (chains.last (inv .stands) y o g k, le-ltb maxClasses (length (r .classes)) (h .classes), le-ltb maxKeys (length (r .keys)) (h .keys), le-ltb maxSlots (length (r .order)) (slots (h .shaped) (h .keys))) at (inv .rest))
 
-  module _ {p : Put} {d : Cursor} (g : Gives m s (c .at) (restOf m s c) p d) where
-    after : filledFrom t (withPut t (inv .rows) p) (restOf m s d) ≡ whole
-    after = sym (filled-before t (inv .rows) p (restOf m s d)) ∙ (rw (g .is) at (inv .rest))
+      pub unread : {f : Filled} → x ≡ Unread → f ≡ refusing NoReading → f ≡ whole
+      unfolding filledFrom
+      unread k h = h ∙ (rw (chains.unread (inv .stands) y o g k) at (inv .rest))
+
+      -- the set stays as the next block begins
+      pub into : {f : ℕ} {d : Cursor} → x ≡ Closing f → d ≡ tokensAt (e + 2) → Fills t m w whole a f d
+      into k h = record { rows = inv .rows; holds = inv .holds; stands = chains.into (inv .stands) o k h; rest = rw (chains.entered (inv .stands) y o g k h) at (inv .rest) }
+
+  module _ {p : Put} {d : Cursor} (g : Gives m (take e w) (c .at) (restOf m (take e w) c) p d) where
+    after : filledFrom t (withPut t (inv .rows) p) (chainRest m w e d) ≡ whole
+    after = sym (filled-before t (inv .rows) p (chainRest m w e d)) ∙ (rw (chains.next (inv .stands) g) at (inv .rest))
 
     -- the table is changed as the rows are
-    pub next : {b : Attrs} → Holds b (withPut t (inv .rows) p) → Fills t m s whole b d
-    next h = record { rows = withPut t (inv .rows) p; holds = h; inside = g .inside; rest = after }
+    pub next : {b : Attrs} → Holds b (withPut t (inv .rows) p) → Fills t m w whole b e d
+    next h = record { rows = withPut t (inv .rows) p; holds = h; stands = chains.on (inv .stands) g; rest = after }
 
-  pub class-over : {v : Value} {d : Cursor} → Gives m s (c .at) (restOf m s c) (Put.class v) d → maxClasses ≤ a .nclass → {x : Refusal} {f : Filled} → x ≡ overOf (a .nclass + 1) (restOf m s d) → f ≡ refusing x → f ≡ whole
+  pub class-over : {v : Value} {d : Cursor} → Gives m (take e w) (c .at) (restOf m (take e w) c) (Put.class v) d → maxClasses ≤ a .nclass → {x : Refusal} {f : Filled} → x ≡ overOf (a .nclass + 1) (chainRest m w e d) → f ≡ refusing x → f ≡ whole
   class-over {v} {d} g l p q =
       let n = class-count (inv .holds) t v in
-      q ∙ (rw (p, ← n) (sym (limits.over t (withPut t (inv .rows) (Put.class v)) (restOf m s d) (inl (omega (arith, n)))))) ∙ after g
+      q ∙ (rw (p, ← n) (sym (limits.over t (withPut t (inv .rows) (Put.class v)) (chainRest m w e d) (inl (omega (arith, n)))))) ∙ after g
 
-  pub key-over : {n : Name} {v : Value} {d : Cursor} → Gives m s (c .at) (restOf m s c) (Put.key n v) d → {k : ℕ} → k ≡ keyAt t n (take (a .nkey) (a .keys)) → a .nkey ≤ k → maxKeys ≤ a .nkey
-      → {x : Refusal} {f : Filled} → x ≡ overOf (a .nclass) (restOf m s d) → f ≡ refusing x → f ≡ whole
+  pub key-over : {n : Name} {v : Value} {d : Cursor} → Gives m (take e w) (c .at) (restOf m (take e w) c) (Put.key n v) d → {k : ℕ} → k ≡ keyAt t n (take (a .nkey) (a .keys)) → a .nkey ≤ k → maxKeys ≤ a .nkey
+      → {x : Refusal} {f : Filled} → x ≡ overOf (a .nclass) (chainRest m w e d) → f ≡ refusing x → f ≡ whole
   unfolding withPut
-  key-over {n} {v} {d} g e l h p q =
-      q ∙ (rw (p, nclass (inv .holds)) (sym (limits.over t (withPut t (inv .rows) (Put.key n v)) (restOf m s d) (inr (omega (arith, key-more (inv .holds) t v n e l)))))) ∙ after g
+  key-over {n} {v} {d} g f l h p q =
+      q ∙ (rw (p, nclass (inv .holds)) (sym (limits.over t (withPut t (inv .rows) (Put.key n v)) (chainRest m w e d) (inr (omega (arith, key-more (inv .holds) t v n f l)))))) ∙ after g

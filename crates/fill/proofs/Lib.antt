@@ -1,6 +1,7 @@
 -- The laws that the proofs of fill cite.
 pub mod Pieces
 pub mod Walk
+pub mod Chains
 pub mod Slots
 pub mod Limits
 pub mod Fills

@@ -7,7 +7,7 @@ use mathlib.Core.List.{List, [], _∷_}
 use Prim.Native.Nat.{ℕ, _+_, _<_, _≤_}
 use native.Mathlib.Omega.{arith}
 use lib.Dec.{ltb}
-use lib.ListN.{length, length-append}
+use lib.ListN.{length, take, length-append}
 use borrow.Author.Tests.{lt-ltb}
 use Rattle.ascii.specs.declared.Mode.{Mode}
 use Rattle.refusals.specs.declared.Refusal.{Refusal}
@@ -15,20 +15,23 @@ use Rattle.refusals.specs.declared.Refusal.the-variants.{NoReading, TooManyClas
 use Rattle.sets.specs.Types.{Texts, maxClasses, maxKeys}
 use Rattle.sets.specs.Rows.{Rows, Put, hasKey, withPut, withPuts}
 use Rattle.fill.specs.declared.Cursor.{Cursor}
+use Rattle.fill.specs.declared.Next as nexts
+use Rattle.fill.specs.declared.Next.the-variants.{Last, Unread, Closing}
 use Rattle.fill.specs.declared.Push as pushes
 use Rattle.fill.specs.declared.Push.the-variants.{End, Bad}
 use Rattle.fill.specs.Fill.{refusing, limited}
-use Rattle.fill.specs.Walk.{Rest, before, restOf, InText, Gives, Yields, filledFrom, overBy, counted, countFrom, overOf}
+use Rattle.fill.specs.Walk.{Rest, before, restOf, chainRest, tokensAt, InText, Opened, Gives, Yields, filledFrom, overBy, counted, countFrom, overOf}
+use Rattle.fill.proofs.Chains as chains
 use Rattle.fill.proofs.Slots.{key-count, one-le}
 
 -- ---- the loop that goes on for the refusal's number
-pub record Counts (m : Mode) (s : List ℕ) (n : ℕ) (r : Refusal) (count : ℕ) (c : Cursor) : Type 0 where
-  pub inside : InText s c
+pub record Counts (m : Mode) (w : List ℕ) (n : ℕ) (r : Refusal) (count e : ℕ) (c : Cursor) : Type 0 where
+  pub stands : chains.Stands w e c
   pub bound : count ≤ n + c .at
-  pub rest : overOf count (restOf m s c) ≡ r
+  pub rest : overOf count (chainRest m w e c) ≡ r
 
-pub start : (m : Mode) (s : List ℕ) (n : ℕ) {c : Cursor} → InText s c → Counts m s n (overOf n (restOf m s c)) n c
-start m s n i = record { inside = i; bound = omega arith; rest = refl }
+pub start : (m : Mode) (w : List ℕ) (n : ℕ) {e : ℕ} {c : Cursor} → InText (take e w) c → e ≤ length w → Counts m w n (overOf n (chainRest m w e c)) n e c
+start m w n i l = record { stands = record { inside = i; fits = l }; bound = omega arith; rest = refl }
 
 counted-le : (p : Put) (n : ℕ) → counted p n ≤ n + 1
 counted-le (Put.ident v) n = omega arith
@@ -40,17 +43,36 @@ unfolding overOf countFrom
 over-before n p Rest.refused = refl
 over-before n p (Rest.puts ps) = refl
 
-module _ {m : Mode} {s : List ℕ} {n : ℕ} {r : Refusal} {count : ℕ} {c : Cursor} (inv : Counts m s n r count c) where
-  pub next : {p : Put} {d : Cursor} → Gives m s (c .at) (restOf m s c) p d → Counts m s n r (counted p count) d
-  next {p} {d} g = record { inside = g .inside; bound = omega (arith, inv .bound, g .ahead, counted-le p count); rest = sym (over-before count p (restOf m s d)) ∙ (rw (g .is) at (inv .rest)) }
+module _ {m : Mode} {w : List ℕ} {n : ℕ} {r : Refusal} {count e : ℕ} {c : Cursor} (inv : Counts m w n r count e c) where
+  pub next : {p : Put} {d : Cursor} → Gives m (take e w) (c .at) (restOf m (take e w) c) p d → Counts m w n r (counted p count) e d
+  next {p} {d} g =
+      record {
+        stands = chains.on (inv .stands) g;
+        bound = omega (arith, inv .bound, g .ahead, counted-le p count);
+        rest = sym (over-before count p (chainRest m w e d)) ∙ (rw (chains.next (inv .stands) g) at (inv .rest));
+      }
 
-  pub end : {q : pushes.Push} → Yields m s (c .at) (restOf m s c) q → q ≡ End → overBy count ≡ r
-  unfolding overOf countFrom
-  end y e = let z : restOf m s c ≡ Rest.puts [] = rw e at (y .told) in rw z at (inv .rest)
+  module _ {q : pushes.Push} (y : Yields m (take e w) (c .at) (restOf m (take e w) c) q) where
+    pub bad : q ≡ Bad → NoReading ≡ r
+    unfolding overOf
+    bad g = rw (chains.bad (inv .stands) y g) at (inv .rest)
 
-  pub bad : {q : pushes.Push} → Yields m s (c .at) (restOf m s c) q → q ≡ Bad → NoReading ≡ r
-  unfolding overOf
-  bad y e = let z : restOf m s c ≡ Rest.refused = rw e at (y .told) in rw z at (inv .rest)
+    module _ {x : nexts.Next} (o : Opened m w (e + 1) x) (g : q ≡ End) where
+      pub last : x ≡ Last → overBy count ≡ r
+      unfolding overOf countFrom
+      last k = rw (chains.last (inv .stands) y o g k) at (inv .rest)
+
+      pub unread : x ≡ Unread → NoReading ≡ r
+      unfolding overOf
+      unread k = rw (chains.unread (inv .stands) y o g k) at (inv .rest)
+
+      pub into : {f : ℕ} {d : Cursor} → x ≡ Closing f → d ≡ tokensAt (e + 2) → Counts m w n r count f d
+      into k h =
+          record {
+            stands = chains.into (inv .stands) o k h;
+            bound = omega (arith, inv .bound, chains.farther (inv .stands) o k h);
+            rest = rw (chains.entered (inv .stands) y o g k h) at (inv .rest);
+          }
 
 -- ---- the rows of a passed limit
 passed-put : (t : Texts) (s : Rows) (p : Put) → (maxClasses < length (s .classes)) ⊎ (maxKeys < length (s .keys)) → (maxClasses < length (withPut t s p .classes)) ⊎ (maxKeys < length (withPut t s p .keys))

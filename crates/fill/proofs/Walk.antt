@@ -31,7 +31,7 @@ use Rattle.fill.specs.declared.Push.the-variants.{End, Bad, Id, Class, K
 use Rattle.fill.specs.Walk.{Rest, ofReading, before, tokensFrom, kindOf, piecesOf, restOf, tokensAt, plainAt, quotedAt, bareAt, InText, Gives, Told, Yields, pieceFrom, classRest, namedRest}
 use Rattle.fill.proofs.Pieces as pieces
 
-before-none : (r : Rest) → before [] r ≡ r
+pub before-none : (r : Rest) → before [] r ≡ r
 before-none Rest.refused = refl
 before-none (Rest.puts qs) = refl
 
@@ -68,9 +68,6 @@ module _ {m : Mode} {s : List ℕ} {i : ℕ} {r : Rest} {p : pushes.Push} (y : Y
 
   pub key-gives : {n : Name} {v : Value} {c : Cursor} → p ≡ Key n v c → Gives m s i r (Put.key n v) c
   key-gives e = rw e at (y .told)
-
-pub less : {m : Mode} {s : List ℕ} {i : ℕ} {r : Rest} {p : Put} {c : Cursor} → Gives m s i r p c → length s - c .at < length s - i
-less g = omega (arith, g .ahead, g .inside)
 
 -- one put, and then the tokens from e on
 pub alone : (m : Mode) (s : List ℕ) (p : Put) {i e : ℕ} → i < e → e ≤ length s → Gives m s i (before (p ∷ []) (tokensFrom m s e)) p (tokensAt e)

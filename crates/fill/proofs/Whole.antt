@@ -1,6 +1,6 @@
--- From the part of a text to its payload, and what a caller may know of the answer.
+-- From the part of a text to its payload or its line of blocks, and what a caller may know of the answer.
 -- Assumes nothing.
-use mathlib.Core.Path.{_≡_, refl, sym, _∙_}
+use mathlib.Core.Path.{_≡_, refl, sym, ap, _∙_}
 use mathlib.Core.Bool.{Bool, true, false, cond}
 use mathlib.Core.List.{List, []}
 use Prim.Native.Nat.{ℕ, _+_, _<_, _≤_}
@@ -10,21 +10,27 @@ use lib.ListN.{length, drop, drop-of-length-le, length-take}
 use lib.Seq.{slice}
 use borrow.Author.Tests.{leb-true, leb-false, ltb-false, lt-ltb, le-ltb}
 use Rattle.lists.specs.Lists.{run}
+use Rattle.lists.proofs.More.{contra}
 use Rattle.ascii.specs.declared.Mode.{Mode}
 use Rattle.ascii.specs.Bytes.{isBlank}
 use Rattle.grammar.specs.Grammar.{Placed}
 use Rattle.grammar.specs.Read.{First, Reading, text, tokenOf, also, readFrom, oneOrMore, readPayload}
 use Rattle.tokens.specs.Shown.{shown}
 use Rattle.tokens.proofs.Steps as steps
+use Rattle.chain.specs.Chain.{blocksFrom, readBlocks}
+use Rattle.chain.proofs.Blocks.{some-read}
 use Rattle.refusals.specs.declared.Refusal.the-variants.{TextTooLong, NoReading, TooManyClasses, TooManyKeys, TooManySlots}
 use Rattle.refusals.specs.Numbers.{maxText}
 use Rattle.sets.specs.Types.{Texts, one, rangeBytes, maxClasses, maxKeys, maxSlots}
 use Rattle.sets.specs.Rows.{Rows, noRows, withPuts, tableOf}
 use Rattle.sets.specs.Puts.{putsIn}
+use Rattle.fill.specs.declared.Next as nexts
+use Rattle.fill.specs.declared.Next.the-variants.{Last, Unread, Closing}
 use Rattle.fill.specs.declared.Filled.{Filled}
 use Rattle.fill.specs.declared.Outcome.the-variants.{Refused, Done}
-use Rattle.fill.specs.Fill.{refusing, limited, filledBy, filledOf, fillAt}
-use Rattle.fill.specs.Walk.{ofReading, tokensFrom, filledFrom}
+use Rattle.fill.specs.Fill.{refusing, limited, filledBy, filledOf, fillAt, chainAt}
+use Rattle.fill.specs.Walk.{Rest, ofReading, chainRest, tokensAt, Opened, filledFrom}
+use Rattle.fill.proofs.Chains as chains
 use Rattle.fill.proofs.Slots.{Shaped, shaped-none, shaped-puts, slots}
 
 by-reading : (t : Texts) (r : Reading) → filledFrom t noRows (ofReading r) ≡ filledBy t r
@@ -32,56 +38,60 @@ unfolding filledFrom
 by-reading t Reading.refused = refl
 by-reading t (Reading.items is) = refl
 
-one-also : (p : Placed) (r : Reading) → oneOrMore (also p r) ≡ also p r
-one-also p Reading.refused = refl
-one-also p (Reading.items is) = refl
-
--- blanks are passed up to a
-module _ (m : Mode) (s : List ℕ) (at : ℕ) {a : ℕ} (is : a ≡ at + run (isBlank m) (drop at s)) where
-  -- nothing stands there: `at` may lie behind the end
-  none-read : length s ≤ a → readFrom m (drop at s) 0 at ≡ Reading.items []
-  unfolding readFrom
-  none-read h = go (leb at (length s)) refl
-    where
-      go : (x : Bool) → leb at (length s) ≡ x → readFrom m (drop at s) 0 at ≡ Reading.items []
-      go true p = let l = leb-true at (length s) p in steps.at-end m s l is (omega (arith, steps.between m s l is))
-      go false p = rw (drop-of-length-le s {i = at} (omega (arith, leb-false at (length s) p)))
-
-  -- a token stands there, or none that can be read
-  some-read : a < length s → oneOrMore (readFrom m (drop at s) 0 at) ≡ readFrom m (drop at s) 0 at
-  unfolding shown
-  some-read h = go (tokenOf m (drop a s)) refl
-    where
-      fits : at ≤ length s
-      fits = omega arith
-
-      go : (x : First) → tokenOf m (drop a s) ≡ x → oneOrMore (readFrom m (drop at s) 0 at) ≡ readFrom m (drop at s) 0 at
-      go First.none p = rw (steps.refused m s fits is h (rw p))
-      go (First.token j) p =
-          let e = a + length (text j) in
-          rw (steps.token-stepped m s fits is p (sym (steps.item-behind a j)) .next) (one-also (record { at = a; item = j }) (readFrom m (drop e s) 0 e))
-
 module _ (m : Mode) (t : List ℕ) (at end : ℕ) where
-  pub too-long : {f : Filled} → maxText < length t → f ≡ refusing TextTooLong → f ≡ fillAt m t at end
+  pub too-long : {f : Filled} {b : Bool} → b ≡ ltb maxText (length t) → b ≡ true → f ≡ refusing TextTooLong → f ≡ fillAt m t at end
   unfolding fillAt
-  too-long h q = q ∙ (rw (lt-ltb maxText (length t) h))
+  too-long h e q = q ∙ (rw (sym h ∙ e))
 
   -- s is the text's front
-  module _ (l : length t ≤ maxText) {s : List ℕ} (q : s ≡ rangeBytes (one t) 0 end) where
+  module _ {b : Bool} (h : b ≡ ltb maxText (length t)) (l : b ≡ false) {s : List ℕ} (q : s ≡ rangeBytes (one t) 0 end) where
     pub short : length s ≤ maxText
     unfolding rangeBytes
-    short = rw q (omega (arith, length-take end t))
+    short = rw q (omega (arith, ltb-false maxText (length t) (sym h ∙ l), length-take end t))
 
     front : filledBy (one t) (oneOrMore (readFrom m (drop at s) 0 at)) ≡ fillAt m t at end
     unfolding fillAt filledOf readPayload rangeBytes
-    front = rw (q, le-ltb maxText (length t) l)
+    front = rw (q, sym h ∙ l)
 
     module _ {a : ℕ} (is : a ≡ at + run (isBlank m) (drop at s)) {f : Filled} where
       pub no-token : length s ≤ a → f ≡ refusing NoReading → f ≡ fillAt m t at end
-      no-token h g = g ∙ (rw (none-read m s at is h) at front)
+      no-token h g = g ∙ (rw (chains.none-read m s at is h) at front)
 
-      pub tokens : a < length s → f ≡ filledFrom (one t) noRows (tokensFrom m s at) → f ≡ fillAt m t at end
-      tokens h g = g ∙ by-reading (one t) (readFrom m (drop at s) 0 at) ∙ (rw (some-read m s at is h) at front)
+      pub tokens : a < length s → f ≡ filledFrom (one t) noRows (chainRest m s (length s) (tokensAt at)) → f ≡ fillAt m t at end
+      tokens h g = g ∙ ap (filledFrom (one t) noRows) (chains.alone m s at) ∙ by-reading (one t) (readFrom m (drop at s) 0 at) ∙ (rw (chains.some-read m s at is h) at front)
+
+-- ---- a line of blocks
+refused : (t : Texts) (r : Reading) → ofReading r ≡ Rest.refused → filledBy t (oneOrMore r) ≡ refusing NoReading
+refused t Reading.refused e = refl
+refused t (Reading.items is) e = contra true refl (cc)
+
+module _ (t : List ℕ) (from to : ℕ) where
+  pub line-too-long : (m : Mode) {f : Filled} {b : Bool} → b ≡ ltb maxText (length t) → b ≡ true → f ≡ refusing TextTooLong → f ≡ chainAt m t from to
+  unfolding chainAt
+  line-too-long m h e q = q ∙ (rw (sym h ∙ e))
+
+  -- w is the text's front
+  module _ {b : Bool} (h : b ≡ ltb maxText (length t)) (l : b ≡ false) {w : List ℕ} (q : w ≡ rangeBytes (one t) 0 to) where
+    pub line-short : length w ≤ maxText
+    unfolding rangeBytes
+    line-short = rw q (omega (arith, ltb-false maxText (length t) (sym h ∙ l), length-take to t))
+
+    module _ {m : Mode} {n : nexts.Next} (o : Opened m w from n) where
+      line : filledBy (one t) (oneOrMore (blocksFrom m (drop from w) 0 from)) ≡ chainAt m t from to
+      unfolding chainAt readBlocks rangeBytes
+      line = rw (q, sym h ∙ l)
+
+      pub no-block : {f : Filled} → n ≡ Last → f ≡ refusing NoReading → f ≡ chainAt m t from to
+      no-block e g = g ∙ (rw (chains.last-rest m w from (rw e at (o .told))) at line)
+
+      pub unread : {f : Filled} → n ≡ Unread → f ≡ refusing NoReading → f ≡ chainAt m t from to
+      unread e g = g ∙ sym (refused (one t) (blocksFrom m (drop from w) 0 from) (rw e at (o .told))) ∙ line
+
+      pub blocks : {e : ℕ} {f : Filled} → n ≡ Closing e → f ≡ filledFrom (one t) noRows (chainRest m w e (tokensAt (from + 1))) → f ≡ chainAt m t from to
+      blocks k g =
+          let z = chains.goes o k in
+          let y = some-read m w from (omega (arith, z .ahead, z .within)) in
+          g ∙ sym (ap (filledFrom (one t) noRows) (z .is)) ∙ by-reading (one t) (blocksFrom m (drop from w) 0 from) ∙ (rw y at line)
 
 -- ---- for callers: "more than 34 slots" is no refusal of a payload
 abbrev refuses : Filled → Type 0
@@ -100,11 +110,15 @@ limited-slots s h = go (ltb maxClasses (length (s .classes))) (ltb maxKeys (leng
         let z : _≡_ {A = ℕ} 0 1 = cc in
         omega arith
 
+by-slots : (b : Bool) (t : Texts) (r : Reading) → refuses (cond b (refusing TextTooLong) (filledBy t r)) → ⊥
+by-slots true t r e = let z : _≡_ {A = ℕ} 0 1 = cc in omega arith
+by-slots false t Reading.refused e = let z : _≡_ {A = ℕ} 0 1 = cc in omega arith
+by-slots false t (Reading.items is) e = limited-slots (withPuts t noRows (putsIn is)) (shaped-puts t (putsIn is) shaped-none) e
+
 pub never-slots : (m : Mode) (t : List ℕ) (at end : ℕ) → refuses (fillAt m t at end) → ⊥
 unfolding fillAt filledOf
-never-slots m t at end = go (ltb maxText (length t)) (readPayload m at (slice at end t))
-  where
-    go : (x : Bool) (r : Reading) → refuses (cond x (refusing TextTooLong) (filledBy (one t) r)) → ⊥
-    go true r e = let z : _≡_ {A = ℕ} 0 1 = cc in omega arith
-    go false Reading.refused e = let z : _≡_ {A = ℕ} 0 1 = cc in omega arith
-    go false (Reading.items is) e = limited-slots (withPuts (one t) noRows (putsIn is)) (shaped-puts (one t) (putsIn is) shaped-none) e
+never-slots m t at end = by-slots (ltb maxText (length t)) (one t) (readPayload m at (slice at end t))
+
+pub line-slots : (m : Mode) (t : List ℕ) (from to : ℕ) → refuses (chainAt m t from to) → ⊥
+unfolding chainAt
+line-slots m t from to = by-slots (ltb maxText (length t)) (one t) (readBlocks m from (slice from to t))

@@ -1,4 +1,4 @@
--- The set of a payload: what its items put into it, within the limits.
+-- The set of a payload and of a line of blocks: what the items put into it, within the limits.
 use Prim.Native.Nat.{ℕ}
 use mathlib.Core.Bool.{cond}
 use mathlib.Core.List.{List, [], _∷_}
@@ -7,6 +7,7 @@ use lib.ListN.{length}
 use lib.Seq.{slice}
 use Rattle.ascii.specs.declared.Mode.{Mode}
 use Rattle.grammar.specs.Read.{Reading, readPayload}
+use Rattle.chain.specs.Chain.{readBlocks}
 use Rattle.refusals.specs.declared.Refusal.{Refusal}
 use Rattle.refusals.specs.declared.Refusal.the-variants.{TextTooLong, NoReading, TooManyClasses, TooManyKeys, TooManySlots}
 use Rattle.refusals.specs.Numbers.{maxText}
@@ -40,3 +41,8 @@ filledOf m t at s = filledBy t (readPayload m at s)
 -- the payload from `at` up to `end` of a text; "text above 65,535 bytes" is refused, since its places don't fit a range
 unfoldable pub fillAt : Mode → List ℕ → ℕ → ℕ → Filled
 fillAt m t at end = cond (ltb maxText (length t)) (refusing TextTooLong) (filledOf m (one t) at (slice at end t))
+
+-- the line of blocks from `from` up to `to` of a text. "5 .. not a good line": asked of the whole line, before its items are counted, so that
+-- a block which overflows and stands before an ungrammatical one isn't refused for its number
+unfoldable pub chainAt : Mode → List ℕ → ℕ → ℕ → Filled
+chainAt m t from to = cond (ltb maxText (length t)) (refusing TextTooLong) (filledBy (one t) (readBlocks m from (slice from to t)))

@@ -4,13 +4,14 @@ use mathlib.Core.Path.{_≡_}
 use mathlib.Core.Bool.{not, cond}
 use mathlib.Core.List.{List, [], _∷_, _++_, map}
 use lib.Dec.{ltb}
-use lib.ListN.{length, drop}
+use lib.ListN.{length, take, drop}
 use lib.Seq.{slice}
 use Rattle.lists.specs.Lists.{run}
 use Rattle.ascii.specs.declared.Mode.{Mode}
 use Rattle.ascii.specs.Bytes.{isSpace}
 use Rattle.grammar.specs.Read.{Reading, readFrom}
 use Rattle.grammar.specs.Meaning.{rangesFrom}
+use Rattle.chain.specs.Chain.{blocksFrom}
 use Rattle.refusals.specs.declared.Refusal.{Refusal}
 use Rattle.refusals.specs.declared.Refusal.the-variants.{NoReading, TooManyClasses, TooManyKeys}
 use Rattle.sets.specs.declared.Text.{Text}
@@ -23,6 +24,8 @@ use Rattle.fill.specs.declared.Kind.the-variants.{Plain, Quoted, Empty}
 use Rattle.fill.specs.declared.Cursor.{Cursor}
 use Rattle.fill.specs.declared.Push as pushes
 use Rattle.fill.specs.declared.Push.the-variants.{End, Bad, Id, Class, Key}
+use Rattle.fill.specs.declared.Next as nexts
+use Rattle.fill.specs.declared.Next.the-variants.{Last, Unread, Closing}
 use Rattle.fill.specs.declared.Filled.{Filled}
 use Rattle.fill.specs.Fill.{refusing, limited}
 
@@ -58,6 +61,21 @@ piecesOf s c = map (pieceOf (kindOf (c .kind))) (rangesFrom (c .at) (c .at) (sli
 unfoldable pub restOf : Mode → List ℕ → Cursor → Rest
 restOf m s c = before (piecesOf s c) (tokensFrom m s (c .next))
 
+-- ---- in a line of blocks
+
+-- one rest after the other: refused if either is
+abbrev pub thenRest : Rest → Rest → Rest
+thenRest Rest.refused r = Rest.refused
+thenRest (Rest.puts ps) r = before ps r
+
+-- the blocks of w from i on
+abbrev pub blocksRest : Mode → List ℕ → ℕ → Rest
+blocksRest m w i = ofReading (blocksFrom m (drop i w) 0 i)
+
+-- the walk stands in the block of w that closes at e
+unfoldable pub chainRest : Mode → List ℕ → ℕ → Cursor → Rest
+chainRest m w e c = thenRest (restOf m (take e w) c) (blocksRest m w (e + 1))
+
 abbrev pub cursorOf : Kind → ℕ → ℕ → ℕ → Cursor
 cursorOf k at to next = record { at = at; to = to; next = next; kind = k }
 
@@ -80,6 +98,15 @@ pub record InText (s : List ℕ) (c : Cursor) : Type 0 where
   pub at : c .at ≤ c .to
   pub to : c .to ≤ c .next
   pub next : c .next ≤ length s
+
+-- ---- which block comes next: none, one that can't be read, or the one that closes at e
+abbrev pub Opens : Mode → List ℕ → ℕ → nexts.Next → Type 0
+Opens m w i Last = length w ≤ i
+Opens m w i Unread = blocksRest m w i ≡ Rest.refused
+Opens m w i (Closing e) = (i < e) × (e < length w) × (blocksRest m w i ≡ chainRest m w e (tokensAt (i + 1)))
+
+pub record Opened (m : Mode) (w : List ℕ) (i : ℕ) (n : nexts.Next) : Type 0 where
+  pub told : Opens m w i n
 
 -- ---- what is put next
 

@@ -1,5 +1,6 @@
-// A payload read into a set, which is changed where it stands.
+// A payload or a line of blocks read into a set, which is changed where it stands.
 use ascii::Mode;
+use grammar::Place;
 use refusals::Refusal;
 use sets::Attrs;
 use sets::Id;
@@ -14,16 +15,18 @@ use tokens::Token;
 ghost use mathlib.Core.Path.{_≡_};
 ghost use mathlib.Core.Bool.{not};
 ghost use Prim.Native.Nat.{_+_, _-_, _≤_, _<_};
-ghost use lib.ListN.{length, drop};
+ghost use lib.Dec.{ltb};
+ghost use lib.ListN.{length, take, drop};
 ghost use Rattle.lists.specs.Lists.{run};
 ghost use Rattle.ascii.specs.Bytes.{isSpace};
 ghost use Rattle.ascii.specs.declared.Mode.{Mode};
+ghost use Rattle.ascii.specs.declared.Mode.the-variants.{Loose};
 ghost use Rattle.refusals.specs.Numbers.{maxText};
 ghost use Rattle.sets.specs.Types.{one};
 ghost use Rattle.sets.specs.Rows.{noRows, isThere};
 ghost use Rattle.sets.specs.Puts.{valueOf};
-ghost use Rattle.fill.specs.Fill.{refusing, fillAt};
-ghost use Rattle.fill.specs.Walk.{kindOf, tokensFrom, restOf, cursorOf, tokensAt, InText, Yields, pieceFrom, classRest, namedRest, filledFrom, overBy, overOf};
+ghost use Rattle.fill.specs.Fill.{refusing, fillAt, chainAt};
+ghost use Rattle.fill.specs.Walk.{kindOf, tokensFrom, restOf, chainRest, cursorOf, tokensAt, InText, Opened, Yields, pieceFrom, classRest, namedRest, filledFrom, overBy, overOf};
 
 // What a value is: its bytes as they stand, bytes that were quoted, or nothing behind a bare name.
 enum Kind {
@@ -49,12 +52,19 @@ enum Push {
     Key(Name, Value, Cursor),
 }
 
+// The block that stands at a place: none, since the line ends there; one that has no reading; or the one that closes at a place.
+enum Next {
+    Last,
+    Unread,
+    Closing(usize),
+}
+
 pub enum Outcome {
     Refused(Refusal),
     Done,
 }
 
-// The set of a payload; the empty one where it is refused.
+// The set of what was read; the empty one where it is refused.
 pub struct Filled {
     pub outcome: Outcome,
     pub set: Attrs,
@@ -196,6 +206,35 @@ fn next_push(s: &[u8], c: Cursor, mode: Mode) -> Push
     piece(s, from, c)
 }
 
+// Which block of w begins at i. One without a token has no reading; the tokens are looked at later.
+fn next_block(w: &[u8], i: usize, mode: Mode) -> Next
+    ensures { λ r. ⌜ Opened mode (now (w .entry)) i r ⌝ }
+{
+    if w.len() <= i {
+        return Next::Last;
+    }
+    if w[i] != b'{' {
+        return Next::Unread;
+    }
+    match close::find_close(w, i + 1) {
+        Place::Nothing => Next::Unread,
+        Place::At(e) => {
+            if e <= tokens::blank_end(&w[..e], i + 1, mode) {
+                return Next::Unread;
+            }
+            Next::Closing(e)
+        }
+    }
+}
+
+// Which block of w stands behind the one that closes at `end`.
+fn block_behind(w: &[u8], end: usize, mode: Mode) -> Next
+    requires { ⌜ (end ≤ length (now w)) × (length (now w) ≤ maxText) ⌝ }
+    ensures { λ r. ⌜ Opened mode (now (w .entry)) (end + 1) r ⌝ }
+{
+    next_block(w, end + 1, mode)
+}
+
 // Which limit is passed, with so many classes.
 fn over(count: usize) -> Refusal
     ensures { λ r. ⌜ r ≡ overBy count ⌝ }
@@ -206,16 +245,25 @@ fn over(count: usize) -> Refusal
     Refusal::TooManyKeys
 }
 
-// A limit is passed, with n classes so far: the walk goes on to its end only for the refusal's number.
-fn passed_limit(s: &[u8], c: Cursor, mode: Mode, n: usize) -> Refusal
-    requires { ⌜ (InText (now s) c) × (length (now s) ≤ maxText) × (n ≤ maxText) ⌝ }
-    ensures { λ r. ⌜ r ≡ overOf n (restOf mode (now (s .entry)) c) ⌝ }
+// A limit is passed, with n classes so far, in the block of w that closes at `close`: the walk goes on to the end of w only for the refusal's number.
+fn passed_limit(w: &[u8], close: usize, c: Cursor, mode: Mode, n: usize) -> Refusal
+    requires { ⌜ (InText (take close (now w)) c) × (close ≤ length (now w)) × (length (now w) ≤ maxText) × (n ≤ maxText) ⌝ }
+    ensures { λ r. ⌜ r ≡ overOf n (chainRest mode (now (w .entry)) close c) ⌝ }
 {
     let mut count = n;
+    let mut end = close;
     let mut cur = c;
     'walk: loop {
-        match next_push(s, cur, mode) {
-            Push::End => break 'walk over(count),
+        match next_push(&w[..end], cur, mode) {
+            Push::End => match block_behind(w, end, mode) {
+                Next::Last => break 'walk over(count),
+                Next::Unread => break 'walk Refusal::NoReading,
+                Next::Closing(e) => {
+                    cur = before_tokens(end + 2);
+                    end = e;
+                    continue 'walk;
+                }
+            },
             Push::Bad => break 'walk Refusal::NoReading,
             Push::Id(_, next) => {
                 cur = next;
@@ -255,18 +303,28 @@ fn is_given(i: Ident) -> bool
     }
 }
 
-// The tokens of s, the front of the text, from `at` on. The set is changed where it stands; 34 slots are enough for 32 keys.
-fn fill_part(text: &[u8], s: &[u8], at: usize, mode: Mode) -> Filled
-    requires { ⌜ (at ≤ length (now s)) × (length (now s) ≤ maxText) ⌝ }
-    ensures { λ r. ⌜ r ≡ filledFrom (one (now (text .entry))) noRows (tokensFrom mode (now (s .entry)) at) ⌝ }
+// The tokens from `at` on of the block of w that closes at `close`, and then the blocks behind it; w is the text's front.
+// The set is changed where it stands; 34 slots are enough for 32 keys.
+fn fill_part(text: &[u8], w: &[u8], at: usize, close: usize, mode: Mode) -> Filled
+    requires { ⌜ (at ≤ close) × (close ≤ length (now w)) × (length (now w) ≤ maxText) ⌝ }
+    ensures { λ r. ⌜ r ≡ filledFrom (one (now (text .entry))) noRows (chainRest mode (now (w .entry)) close (tokensAt at)) ⌝ }
 {
     let mut set = Attrs::empty();
+    let mut end = close;
     let mut cur = before_tokens(at);
     'pushes: loop {
-        match next_push(s, cur, mode) {
-            Push::End => return Filled {
-                outcome: Outcome::Done,
-                set,
+        match next_push(&w[..end], cur, mode) {
+            Push::End => match block_behind(w, end, mode) {
+                Next::Last => return Filled {
+                    outcome: Outcome::Done,
+                    set,
+                },
+                Next::Unread => return refusing(Refusal::NoReading),
+                Next::Closing(e) => {
+                    cur = before_tokens(end + 2);
+                    end = e;
+                    continue 'pushes;
+                }
             },
             Push::Bad => return refusing(Refusal::NoReading),
             Push::Id(v, next) => {
@@ -286,7 +344,7 @@ fn fill_part(text: &[u8], s: &[u8], at: usize, mode: Mode) -> Filled
                 cur = next;
                 let n = set.nclass as usize;
                 if Attrs::CLASSES <= n {
-                    return refusing(passed_limit(s, next, mode, n + 1));
+                    return refusing(passed_limit(w, end, next, mode, n + 1));
                 }
                 set.classes[n] = v;
                 set.nclass = set.nclass + 1;
@@ -310,7 +368,7 @@ fn fill_part(text: &[u8], s: &[u8], at: usize, mode: Mode) -> Filled
                     continue 'pushes;
                 }
                 if Attrs::KEYS <= n {
-                    return refusing(passed_limit(s, next, mode, set.nclass as usize));
+                    return refusing(passed_limit(w, end, next, mode, set.nclass as usize));
                 }
                 let p = set.norder as usize;
                 set.keys[n] = Row { name, value: v };
@@ -325,16 +383,38 @@ fn fill_part(text: &[u8], s: &[u8], at: usize, mode: Mode) -> Filled
     }
 }
 
+// Whether places of the text don't fit a range.
+fn too_long(text: &[u8]) -> bool
+    ensures { λ r. ⌜ r ≡ ltb maxText (length (now (text .entry))) ⌝ }
+{
+    refusals::MAX_TEXT < text.len()
+}
+
 // The payload that stands from `at` up to `end` of the text.
 pub fn fill(text: &[u8], at: usize, end: usize, mode: Mode) -> Filled
     ensures { λ r. ⌜ r ≡ fillAt mode (now (text .entry)) at end ⌝ }
 {
-    if refusals::MAX_TEXT < text.len() {
+    if too_long(text) {
         return refusing(Refusal::TextTooLong);
     }
     let s = sets::bytes_of(text, 0, end);
     if s.len() <= tokens::blank_end(s, at, mode) {
         return refusing(Refusal::NoReading);
     }
-    fill_part(text, s, at, mode)
+    fill_part(text, s, at, s.len(), mode)
+}
+
+// The line of blocks that stands from `from` up to `to` of the text.
+pub fn fill_chain(text: &[u8], from: usize, to: usize) -> Filled
+    ensures { λ r. ⌜ r ≡ chainAt Loose (now (text .entry)) from to ⌝ }
+{
+    if too_long(text) {
+        return refusing(Refusal::TextTooLong);
+    }
+    let w = sets::bytes_of(text, 0, to);
+    match next_block(w, from, Mode::Loose) {
+        Next::Last => refusing(Refusal::NoReading),
+        Next::Unread => refusing(Refusal::NoReading),
+        Next::Closing(e) => fill_part(text, w, from + 1, e, Mode::Loose),
+    }
 }

@@ -5,3 +5,4 @@ pub mod Meaning
 pub mod Agrees
 pub mod Cases
 pub mod HandedOut
+pub mod ChainsOut

@@ -1,0 +1,3 @@
+-- The theorems about lines of blocks, and the laws that the proofs of chain cite.
+pub mod Blocks
+pub mod Good

@@ -1,0 +1,3 @@
+-- The definitions that the contracts of scanners cite, and the last open brace by rules.
+pub mod Scanners
+pub mod Rules
