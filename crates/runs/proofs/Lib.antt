@@ -1,0 +1,3 @@
+-- Laws of runs.
+pub mod Steps
+pub mod Joining
