@@ -1,7 +1,7 @@
 -- The loop of `join_run`: the state that code keeps shows the definition's, and the lent memory holds the joined text.
 -- Assumes nothing.
 use mathlib.Core.Path.{_≡_, refl, sym, _∙_, ap}
-use mathlib.Core.Bool.{Bool, true, false, cond, not, _&&_, _||_}
+use mathlib.Core.Bool.{Bool, true, false, cond, not, _&&_}
 use mathlib.Core.List.{List, [], _∷_, _++_, map}
 use Prim.Native.Nat.{ℕ, zero, suc, _+_, _-_, _<_, _≤_}
 use native.Mathlib.Numerals.{add-one}
@@ -9,7 +9,7 @@ use native.Mathlib.Omega.{arith}
 use borrow.Author.Tests.{eqb-false, ne-eqb, ltb-false, not-true}
 use lib.Dec.{eqb, ltb}
 use lib.ListN.{length, take, drop, length-append, length-drop}
-use lib.Seq.{slice, length-slice, take-at, drop-at, drop-drop, sets, sets-eq, length-sets}
+use lib.Seq.{length-slice, take-at, drop-at, drop-drop, sets, sets-eq, length-sets}
 use Rattle.lists.specs.Lists.{isIn}
 use Rattle.lists.proofs.Scan.{both}
 use Rattle.lists.proofs.Parts.{slice-part}
@@ -17,10 +17,11 @@ use Rattle.lines.specs.declared.LineEnd.{LineEnd}
 use Rattle.lines.specs.Trim.{trim, isBlankLine}
 use Rattle.lines.specs.Lines.{lines, lineFrom}
 use Rattle.lines.proofs.Lines.{lines-end, line-at, to-from, to-next, next-beyond, next-le}
-use Rattle.columns.specs.Columns.{capped, most}
-use Rattle.columns.proofs.Laws.{capped-id, capped-le}
-use Rattle.scanners.specs.Scanners.{lastOpenBrace, holdFrom, holdStart, isHeld, holdsOpen}
-use Rattle.scanners.proofs.Laws.{hold-append, holds-append, capped-twice}
+use Rattle.columns.specs.Columns.{capped}
+use Rattle.columns.proofs.Laws.{capped-id}
+use Rattle.scanners.specs.Scanners.{lastOpenBrace, holdFrom, holdStart, holdsOpen}
+use Rattle.scanners.specs.declared.Hold.{Hold}
+use Rattle.scanners.proofs.Laws.{hold-append, capped-twice}
 use Rattle.grammar.specs.declared.Quote.the-variants.{Out}
 use Rattle.grammar.specs.declared.Place.{Place}
 use Rattle.grammar.specs.declared.Place.the-variants.{Nothing, At}
@@ -43,6 +44,10 @@ pub record Shows (so : So) (st : State) : Type 0 where
   pub base : st .base ≡ so .base
   pub quote : st .quote ≡ so .quote
   pub hold : st .hold ≡ holdFrom holdStart (so .text)
+
+pub shows-start : (base : ℕ) {h : Hold} → h ≡ holdStart → Shows (start base) (record { len = 0; brace = 0; base = base; quote = Out; hold = h })
+unfolding holdFrom
+shows-start base e = record { len = refl; first = refl; brace = sym (capped-id 0 (omega arith)); base = refl; quote = refl; hold = e }
 
 -- a line that may be joined adds a byte at least
 added-some : (first : Bool) (s : List ℕ) → eqb (length s) 0 ≡ false → 0 < length (spaced first s)
@@ -186,13 +191,13 @@ pub record Joins (t : List ℕ) (at : ℕ) (buf₀ : List ℕ) (R : Run) (buf : 
   pub has : Has t at buf₀ buf st count lookahead from so
   pub rest : runFrom (length buf₀) so (map asIs (lines (drop from t))) ≡ R
 
-pub joins-start : (t : List ℕ) (at base : ℕ) (buf : List ℕ) {h : _} → h ≡ holdStart
+pub joins-start : (t : List ℕ) (at base : ℕ) (buf : List ℕ) {h : Hold} → h ≡ holdStart
     → Joins t at buf (runAt (length buf) base t at) buf (record { len = 0; brace = 0; base = base; quote = Out; hold = h }) 0 0 at
-unfolding runAt holdFrom pastLines
+unfolding runAt pastLines
 joins-start t at base buf e =
     record {
       so = start base;
-      has = record { shows = record { len = refl; first = refl; brace = sym (capped-id 0 (omega arith)); base = refl; quote = refl; hold = e }; room = omega arith; content = refl; counted = refl; ahead = refl; past = refl; few = omega arith; short = omega arith };
+      has = record { shows = shows-start base e; room = omega arith; content = refl; counted = refl; ahead = refl; past = refl; few = omega arith; short = omega arith };
       rest = refl;
     }
 

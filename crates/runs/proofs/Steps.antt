@@ -1,13 +1,13 @@
 -- One line of a run: its tests, its bytes in the lent memory, and the state behind it.
 -- Assumes nothing.
 use mathlib.Core.Path.{_≡_, refl, sym, _∙_, ap}
-use mathlib.Core.Bool.{Bool, true, false, cond, not, _&&_, _||_}
-use mathlib.Core.List.{List, [], _∷_, _++_}
+use mathlib.Core.Bool.{Bool, true, false, not}
+use mathlib.Core.List.{List, [], _∷_}
 use Prim.Native.Nat.{ℕ, suc, _+_, _-_, _<_, _≤_}
 use native.Mathlib.Nat.{zero-add}
 use native.Mathlib.Numerals.{add-one}
 use native.Mathlib.Omega.{arith}
-use borrow.Author.Tests.{eq-eqb, ne-eqb, lt-ltb, le-ltb, leb-true, leb-false, ltb-false}
+use borrow.Author.Tests.{ne-eqb, lt-ltb, le-ltb, leb-true, leb-false, ltb-false}
 use lib.Dec.{eqb, ltb, leb}
 use lib.ListN.{length, getD, take, drop, set, length-set, drop-of-length-le}
 use lib.Seq.{drop-cons, sets, length-sets}
@@ -17,7 +17,7 @@ use Rattle.lines.specs.declared.Range.{Range}
 use Rattle.lines.specs.Trim.{trim, trimRange, isBlankLine}
 use Rattle.lines.proofs.Trim.{trim-slice, trim-from, trim-to}
 use Rattle.columns.specs.Columns.{indentFrom, capped, most}
-use Rattle.columns.proofs.Laws.{capped-id, capped-is, capped-le, capped-top}
+use Rattle.columns.proofs.Laws.{capped-id, capped-top}
 use Rattle.payloads.specs.Payloads.{continues}
 use Rattle.scanners.specs.Scanners.{lastOpenBrace, openQuoteAtEnd, cappedAt, holdFrom, isHeld}
 use Rattle.scanners.specs.declared.Hold.{Hold}
@@ -28,7 +28,7 @@ use Rattle.grammar.specs.declared.Place.the-variants.{Nothing, At}
 use Rattle.runs.specs.declared.State.{State}
 use Rattle.runs.specs.declared.Step.{Step}
 use Rattle.runs.specs.declared.Step.the-variants.{Broken, Full, Go, Closes}
-use Rattle.runs.specs.Runs.{goesOn, passes, spaced, added, braceAfter, nextState, isLast, closesOr, lengthAfter, stepOf, laid, joinAfter}
+use Rattle.runs.specs.Runs.{goesOn, passes, spaced, added, braceAfter, nextState, isLast, closesOr, lengthAfter, stepOf, joinAfter}
 
 -- ---- a line's own tests
 

@@ -1,6 +1,6 @@
 -- "Runs of lines": "trimmed lines joined by one space", up to the line that closes the run or refuses it.
 use Prim.Native.Nat.{ℕ, zero, suc, _+_}
-use mathlib.Core.Bool.{Bool, true, false, cond, _&&_, _||_, not}
+use mathlib.Core.Bool.{Bool, cond, _&&_, _||_, not}
 use mathlib.Core.List.{List, [], _∷_, _++_, map}
 use lib.Dec.{eqb, ltb}
 use lib.ListN.{length, drop}
@@ -10,12 +10,13 @@ use Rattle.lines.specs.Trim.{trim, isBlankLine}
 use Rattle.lines.specs.Lines.{lines, lineFrom}
 use Rattle.columns.specs.Columns.{indentFrom, capped}
 use Rattle.payloads.specs.Payloads.{continues}
-use Rattle.scanners.specs.Scanners.{isQuoted, openQuoteAtEnd, lastOpenBrace, holdFrom, holdStart, isHeld, holdsOpen}
+use Rattle.scanners.specs.Scanners.{isQuoted, openQuoteAtEnd, lastOpenBrace, holdFrom, isHeld, holdsOpen}
 use Rattle.scanners.specs.declared.Hold.{Hold}
 use Rattle.grammar.specs.declared.Quote.{Quote}
 use Rattle.grammar.specs.declared.Quote.the-variants.{Out}
 use Rattle.grammar.specs.declared.Place.{Place}
 use Rattle.grammar.specs.declared.Place.the-variants.{Nothing, At}
+use Rattle.refusals.specs.Numbers.{numberOf}
 use Rattle.refusals.specs.declared.Refusal.the-variants.{NoReading, JoinFull}
 use Rattle.runs.specs.declared.Stop.{Stop}
 use Rattle.runs.specs.declared.Stop.the-variants.{Closed, Refused}
@@ -55,13 +56,18 @@ pub record Run : Type 0 where
   pub lines : ℕ
   pub lookahead : ℕ
 
+-- the number of a run's refusal, 0 where it closed
+abbrev pub stopNo : Stop → ℕ
+stopNo Closed = 0
+stopNo (Refused r) = numberOf r
+
 abbrev pub ended : Stop → So → Run
 ended x so = record { stop = x; text = so .text; lines = so .lines; lookahead = so .lookahead }
 
 -- ---- a line's own tests
 
 -- "Each later line must be indented beyond the last open brace's column, pass `valid_wrapped_attr_continuation`, and follow no open quote."
--- (Columns past 2^64-1 compare as that number, which the indentation of a line below 2^61 bytes doesn't reach.)
+-- (They compare as what a `usize` holds of them. The indentation of a line below 2^62 bytes is held whole, and then the true numbers compare so.)
 abbrev pub goesOn : ℕ → Quote → ℕ → List ℕ → Bool
 goesOn brace quote pad l = ltb (capped brace) (capped (indentFrom pad l)) && (not (isQuoted quote) && continues (trim l))
 

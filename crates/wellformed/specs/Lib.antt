@@ -1,2 +1,3 @@
 -- The definitions that the contracts of wellformed cite.
 pub mod WellFormed
+pub mod Decide

@@ -4,31 +4,22 @@ use Rattle.runs.proofs.Steps as laws
 use borrow.Author.Needs.{needs}
 use Rattle.runs.proofs.hold_line.Statement.{statement}
 use Rattle.runs.proofs.hold_line.Tie as tie
-use Rattle.runs.proofs.hold_line.Reads as reads
-use Rattle.runs.proofs.hold_line.Lts as lts
-use Rattle.scanners.proofs.hold_on.Reads as hold-on-reads
 
--- src/lib.rt:147:9
 hold-on-requires : tie.Need-hold-on-requires
 hold-on-requires c κs = search needs
 
--- src/lib.rt:147:9
 returns : tie.Need-returns
 returns c = ((c .hold-on .ensures)) ∙ laws.hold-first ((c .before .before .before .args .hold)) ((c .before .before .before .args .core .now)) ((c .before .if1 .taken))
 
--- src/lib.rt:150:36
 slice-aggregate-hold-on : tie.Need-slice-aggregate-hold-on
 slice-aggregate-hold-on c = search needs
 
--- src/lib.rt:150:9
 hold-on-requires-2 : tie.Need-hold-on-requires-2
 hold-on-requires-2 c κs = search needs
 
--- src/lib.rt:151:5
 hold-on-requires-3 : tie.Need-hold-on-requires-3
 hold-on-requires-3 c κs = search needs
 
--- src/lib.rt:143:1
 returns-2 : tie.Need-returns-2
 returns-2 c = ((c .hold-on3 .ensures)) ∙ ap (λ h. holdFrom h ((c .before .before .before .before .before .args .core .now))) ((c .before .hold-on2 .ensures)) ∙ laws.hold-later ((c .before .before .before .before .before .args .hold)) ((c .before .before .before .before .before .args .core .now)) ((c .before .before .before .if1 .left))
 

@@ -8,10 +8,6 @@ use Rattle.columns.specs.Columns.{indentFrom, capped}
 use Rattle.columns.proofs.Laws as laws
 use Rattle.runs.proofs.indent_from.Statement.{statement}
 use Rattle.runs.proofs.indent_from.Tie as tie
-use Rattle.runs.proofs.indent_from.Reads as reads
-use Rattle.runs.proofs.indent_from.Lts as lts
-use Rattle.ascii.proofs.is_indent.Reads as is-indent-reads
-use Rattle.columns.proofs.column_after.Reads as column-after-reads
 
 abbrev Inv-loop : tie.InvT-loop
 Inv-loop c s column₀ i₀ column i = laws.Indents s (capped (indentFrom c s)) column i
@@ -19,43 +15,33 @@ Inv-loop c s column₀ i₀ column i = laws.Indents s (capped (indentFrom c s)) 
 abbrev μ-loop : tie.MeasureT-loop
 μ-loop c s column₀ i₀ column i = length s - i
 
--- src/lib.rt:61:5
 loop-holds : tie.Need-loop-holds Inv-loop μ-loop
 loop-holds c = record { small = omega arith; rest = refl }
 
--- src/lib.rt:62:30
 shared-slice-read-is-indent : tie.Need-shared-slice-read-is-indent Inv-loop μ-loop
 shared-slice-read-is-indent c = omega arith
 
--- src/lib.rt:62:13
 is-indent-requires : tie.Need-is-indent-requires Inv-loop μ-loop
 is-indent-requires c κs = search needs
 
--- src/lib.rt:63:13
 returns : tie.Need-returns Inv-loop μ-loop
 returns c = laws.indents-stop ((c .before .before .before .before .loop .inv)) (omega arith) (sym ((c .before .is-indent .ensures)) ∙ not-true _ ((c .if1 .taken)))
 
--- src/lib.rt:65:48
 shared-slice-read-column-after : tie.Need-shared-slice-read-column-after Inv-loop μ-loop
 shared-slice-read-column-after c = omega arith
 
--- src/lib.rt:65:9
 column-after-requires : tie.Need-column-after-requires Inv-loop μ-loop
 column-after-requires c κs = search needs
 
--- src/lib.rt:66:9
 add-i : tie.Need-add-i Inv-loop μ-loop
 add-i c = omega arith
 
--- src/lib.rt:61:5
 loop-less : tie.Need-loop-less Inv-loop μ-loop
 loop-less c = omega arith
 
--- src/lib.rt:61:5
 loop-again : tie.Need-loop-again Inv-loop μ-loop
 loop-again c = laws.indents-go ((c .before .before .before .before .before .before .loop .inv)) (omega arith) (sym ((c .before .before .before .is-indent .ensures)) ∙ not-false _ ((c .before .before .if1 .left))) ((c .column-after .ensures))
 
--- src/lib.rt:56:1
 returns-2 : tie.Need-returns-2 Inv-loop μ-loop
 returns-2 c = laws.indents-end ((c .before .loop .inv)) (omega arith)
 

@@ -4,24 +4,16 @@ use Rattle.runs.proofs.Steps as laws
 use borrow.Author.Needs.{needs}
 use Rattle.runs.proofs.is_last.Statement.{statement}
 use Rattle.runs.proofs.is_last.Tie as tie
-use Rattle.runs.proofs.is_last.Reads as reads
-use Rattle.runs.proofs.is_last.Lts as lts
-use Rattle.scanners.proofs.contains_close.Reads as contains-close-reads
-use Rattle.scanners.proofs.is_held.Reads as is-held-reads
 
--- src/lib.rt:173:9
 contains-close-requires : tie.Need-contains-close-requires
 contains-close-requires c κs = search needs
 
--- src/lib.rt:174:9
 returns : tie.Need-returns
 returns c = laws.no-close ((c .before .before .before .args .line .now)) ((c .before .before .before .args .hold)) (sym ((c .before .contains-close .ensures)) ∙ not-true _ ((c .if1 .taken)))
 
--- src/lib.rt:176:6
 is-held-requires : tie.Need-is-held-requires
 is-held-requires c κs = search needs
 
--- src/lib.rt:170:1
 returns-2 : tie.Need-returns-2
 returns-2 c = laws.has-close ((c .before .before .before .before .args .line .now)) ((c .before .before .before .before .args .hold)) (sym ((c .before .before .contains-close .ensures)) ∙ not-false _ ((c .before .if1 .left))) ((c .is-held .ensures))
 

@@ -5,72 +5,49 @@ use Rattle.runs.proofs.Steps as laws
 use borrow.Author.Needs.{needs}
 use Rattle.runs.proofs.join_line.Statement.{statement}
 use Rattle.runs.proofs.join_line.Tie as tie
-use Rattle.runs.proofs.join_line.Reads as reads
-use Rattle.runs.proofs.join_line.Lts as lts
-use Rattle.lines.proofs.trim_ascii.Reads as trim-ascii-reads
-use Rattle.runs.proofs.is_last.Reads as is-last-reads
-use Rattle.runs.proofs.lacks_room.Reads as lacks-room-reads
-use Rattle.runs.proofs.passes_tests.Reads as passes-tests-reads
-use Rattle.runs.proofs.put_line.Reads as put-line-reads
-use Rattle.runs.proofs.state_after.Reads as state-after-reads
 
--- src/lib.rt:222:9
 trim-ascii-requires : tie.Need-trim-ascii-requires
 trim-ascii-requires c κs = search needs
 
--- src/lib.rt:225:16
 sub-core : tie.Need-sub-core
 sub-core c = laws.core-from ((c .before .before .before .args .line .now)) ((c .trim-ascii .ensures))
 
--- src/lib.rt:225:16
 part-core-start : tie.Need-part-core-start
 part-core-start c = omega (arith, laws.core-from ((c .before .before .before .args .line .now)) ((c .trim-ascii .ensures)), laws.core-to ((c .before .before .before .args .line .now)) ((c .trim-ascii .ensures)))
 
--- src/lib.rt:225:16
 part-core-end : tie.Need-part-core-end
 part-core-end c = omega (arith, laws.core-to ((c .before .before .before .args .line .now)) ((c .trim-ascii .ensures)))
 
--- src/lib.rt:226:9
 passes-tests-requires : tie.Need-passes-tests-requires
 passes-tests-requires c κs = laws.core-is ((c .before .before .before .before .args .line .now)) ((c .before .trim-ascii .ensures))
 
--- src/lib.rt:227:9
 returns : tie.Need-returns
 returns c = laws.step-broken ((c .before .before .before .before .before .before .args .st)) ((c .before .before .before .before .before .before .args .pad)) ((c .before .before .before .before .before .before .args .line .now)) ((c .before .before .before .before .before .before .args .join .now)) (sym (not-true _ ((c .if1 .taken))) ∙ ((c .before .passes-tests .ensures)))
 
--- src/lib.rt:229:8
 lacks-room-requires : tie.Need-lacks-room-requires
 lacks-room-requires c κs = search needs
 
--- src/lib.rt:230:9
 returns-2 : tie.Need-returns-2
 returns-2 c = laws.step-full ((c .before .before .before .before .before .before .before .before .args .st)) ((c .before .before .before .before .before .before .before .before .args .pad)) ((c .before .before .before .before .before .before .before .before .args .line .now)) ((c .before .before .before .before .before .before .before .before .args .join .now)) (sym (not-false _ ((c .before .before .if1 .left))) ∙ ((c .before .before .before .passes-tests .ensures))) (laws.core-is ((c .before .before .before .before .before .before .before .before .args .line .now)) ((c .before .before .before .before .before .trim-ascii .ensures))) (sym ((c .if2 .taken)) ∙ ((c .before .lacks-room .ensures)))
 
--- src/lib.rt:232:9
 put-line-requires : tie.Need-put-line-requires
 put-line-requires c κs = laws.step-room ((c .before .before .before .before .before .before .before .before .before .args .st)) ((c .before .before .before .before .before .before .before .before .before .args .pad)) ((c .before .before .before .before .before .before .before .before .before .args .line .now)) ((c .before .before .before .before .before .before .before .before .before .args .join .now)) (sym (not-false _ ((c .before .before .before .if1 .left))) ∙ ((c .before .before .before .before .passes-tests .ensures))) (laws.core-is ((c .before .before .before .before .before .before .before .before .before .args .line .now)) ((c .before .before .before .before .before .before .trim-ascii .ensures))) (sym ((c .before .if2 .left)) ∙ ((c .before .before .lacks-room .ensures)))
 
--- src/lib.rt:233:9
 state-after-requires : tie.Need-state-after-requires
 state-after-requires c κs = laws.core-is ((c .before .before .before .before .before .before .before .before .before .before .before .before .args .line .now)) ((c .before .before .before .before .before .before .before .before .before .trim-ascii .ensures))
 
--- src/lib.rt:235:8
 is-last-requires : tie.Need-is-last-requires
 is-last-requires c κs = search needs
 
--- src/lib.rt:236:9
 same-length : tie.Need-same-length
 same-length c = search needs
 
--- src/lib.rt:236:9
 returns-3 : tie.Need-returns-3
 returns-3 c = laws.step-closes ((c .before .before .before .before .before .before .before .before .before .before .before .before .before .before .before .args .st)) ((c .before .before .before .before .before .before .before .before .before .before .before .before .before .before .before .args .pad)) ((c .before .before .before .before .before .before .before .before .before .before .before .before .before .before .before .args .line .now)) ((c .before .before .before .before .before .before .before .before .before .before .before .before .before .before .before .args .join .now)) (sym (not-false _ ((c .before .before .before .before .before .before .before .before .before .if1 .left))) ∙ ((c .before .before .before .before .before .before .before .before .before .before .passes-tests .ensures))) (laws.core-is ((c .before .before .before .before .before .before .before .before .before .before .before .before .before .before .before .args .line .now)) ((c .before .before .before .before .before .before .before .before .before .before .before .before .trim-ascii .ensures))) (sym ((c .before .before .before .before .before .before .before .if2 .left)) ∙ ((c .before .before .before .before .before .before .before .before .lacks-room .ensures))) ((c .before .before .before .before .before .put-line .ensures)) ((c .before .before .state-after .ensures)) (sym ((c .if3 .taken)) ∙ ((c .before .is-last .ensures)))
 
--- src/lib.rt:218:1
 same-length-2 : tie.Need-same-length-2
 same-length-2 c = search needs
 
--- src/lib.rt:218:1
 returns-4 : tie.Need-returns-4
 returns-4 c = laws.step-go ((c .before .before .before .before .before .before .before .before .before .before .before .before .before .before .before .args .st)) ((c .before .before .before .before .before .before .before .before .before .before .before .before .before .before .before .args .pad)) ((c .before .before .before .before .before .before .before .before .before .before .before .before .before .before .before .args .line .now)) ((c .before .before .before .before .before .before .before .before .before .before .before .before .before .before .before .args .join .now)) (sym (not-false _ ((c .before .before .before .before .before .before .before .before .before .if1 .left))) ∙ ((c .before .before .before .before .before .before .before .before .before .before .passes-tests .ensures))) (laws.core-is ((c .before .before .before .before .before .before .before .before .before .before .before .before .before .before .before .args .line .now)) ((c .before .before .before .before .before .before .before .before .before .before .before .before .trim-ascii .ensures))) (sym ((c .before .before .before .before .before .before .before .if2 .left)) ∙ ((c .before .before .before .before .before .before .before .before .lacks-room .ensures))) ((c .before .before .before .before .before .put-line .ensures)) ((c .before .before .state-after .ensures)) (sym ((c .if3 .left)) ∙ ((c .before .is-last .ensures)))
 

@@ -6,13 +6,6 @@ use Rattle.runs.specs.Runs.{runAt}
 use Rattle.runs.proofs.Joining as laws
 use Rattle.runs.proofs.join_run.Statement.{statement}
 use Rattle.runs.proofs.join_run.Tie as tie
-use Rattle.runs.proofs.join_run.Reads as reads
-use Rattle.runs.proofs.join_run.Lts as lts
-use Rattle.lines.proofs.line_from.Reads as line-from-reads
-use Rattle.runs.proofs.closed.Reads as closed-reads
-use Rattle.runs.proofs.join_line.Reads as join-line-reads
-use Rattle.runs.proofs.refused.Reads as refused-reads
-use Rattle.scanners.proofs.hold_start.Reads as hold-start-reads
 
 abbrev Inv-lines : tie.InvT-lines
 Inv-lines text at base join₀ st₀ count₀ lookahead₀ from₀ join st count lookahead from = laws.Joins text at join₀ (runAt (length join₀) base text at) join st count lookahead from
@@ -20,127 +13,96 @@ Inv-lines text at base join₀ st₀ count₀ lookahead₀ from₀ join st count
 abbrev μ-lines : tie.MeasureT-lines
 μ-lines text at base join₀ st₀ count₀ lookahead₀ from₀ join st count lookahead from = length text - from
 
--- src/lib.rt:251:15
 hold-start-requires : tie.Need-hold-start-requires Inv-lines μ-lines
 hold-start-requires c κs = search needs
 
--- src/lib.rt:256:5
 lines-holds : tie.Need-lines-holds Inv-lines μ-lines
 lines-holds c = laws.joins-start _ _ _ _ ((c .hold-start .ensures))
 
--- src/lib.rt:258:26
 refused-requires : tie.Need-refused-requires Inv-lines μ-lines
 refused-requires c κs = search needs
 
--- src/lib.rt:260:13
 line-from-requires : tie.Need-line-from-requires Inv-lines μ-lines
 line-from-requires c κs = search needs
 
--- src/lib.rt:262:25
 sub-join-line : tie.Need-sub-join-line Inv-lines μ-lines
 sub-join-line c = laws.to-in ((c .before .before .lines .inv .has)) ((c .before .if1 .left)) ((c .line-from .ensures)) .0
 
--- src/lib.rt:262:25
 part-join-line-start : tie.Need-part-join-line-start Inv-lines μ-lines
 part-join-line-start c = omega (arith, laws.to-in ((c .before .before .lines .inv .has)) ((c .before .if1 .left)) ((c .line-from .ensures)))
 
--- src/lib.rt:262:25
 part-join-line-end : tie.Need-part-join-line-end Inv-lines μ-lines
 part-join-line-end c = omega (arith, laws.to-in ((c .before .before .lines .inv .has)) ((c .before .if1 .left)) ((c .line-from .ensures)))
 
--- src/lib.rt:262:15
 join-line-requires : tie.Need-join-line-requires Inv-lines μ-lines
 join-line-requires c κs = search needs
 
--- src/lib.rt:264:17
 enum-told : tie.Need-enum-told Inv-lines μ-lines
 enum-told c = search needs
 
--- src/lib.rt:263:42
 refused-requires-2 : tie.Need-refused-requires-2 Inv-lines μ-lines
 refused-requires-2 c κs = search needs
 
--- src/lib.rt:270:48
 enum-told-2 : tie.Need-enum-told-2 Inv-lines μ-lines
 enum-told-2 c = search needs
 
--- src/lib.rt:270:40
 refused-requires-3 : tie.Need-refused-requires-3 Inv-lines μ-lines
 refused-requires-3 c κs = search needs
 
--- src/lib.rt:271:26
 enum-known-v : tie.Need-enum-known-v Inv-lines μ-lines
 enum-known-v c = search needs
 
--- src/lib.rt:273:17
 add-closed : tie.Need-add-closed Inv-lines μ-lines
 add-closed c = omega (arith, (c .before .before .before .before .before .before .before .before .before .before .lines .inv .has .few), (c .before .before .before .before .before .before .before .before .before .if1 .left))
 
--- src/lib.rt:274:30
 sub-closed : tie.Need-sub-closed Inv-lines μ-lines
 sub-closed c = laws.to-in ((c .before .before .before .before .before .before .before .before .before .before .lines .inv .has)) ((c .before .before .before .before .before .before .before .before .before .if1 .left)) ((c .before .before .before .before .before .before .before .before .line-from .ensures)) .0
 
--- src/lib.rt:274:17
 add-closed-2 : tie.Need-add-closed-2 Inv-lines μ-lines
 add-closed-2 c = omega (arith, laws.to-in ((c .before .before .before .before .before .before .before .before .before .before .lines .inv .has)) ((c .before .before .before .before .before .before .before .before .before .if1 .left)) ((c .before .before .before .before .before .before .before .before .line-from .ensures)), (c .before .before .before .before .before .before .before .before .before .before .lines .inv .has .short))
 
--- src/lib.rt:271:45
 closed-requires : tie.Need-closed-requires Inv-lines μ-lines
 closed-requires c κs = search needs
 
--- src/lib.rt:277:22
 enum-known-v-2 : tie.Need-enum-known-v-2 Inv-lines μ-lines
 enum-known-v-2 c = search needs
 
--- src/lib.rt:279:17
 add-count : tie.Need-add-count Inv-lines μ-lines
 add-count c = omega (arith, (c .before .before .before .before .before .before .before .before .before .before .lines .inv .has .few), (c .before .before .before .before .before .before .before .before .before .if1 .left))
 
--- src/lib.rt:280:30
 sub-lookahead : tie.Need-sub-lookahead Inv-lines μ-lines
-sub-lookahead c = laws.to-in ((c .before .before .before .before .before .before .before .before .before .before .lines .inv .has)) ((c .before .before .before .before .before .before .before .before .before .if1 .left)) ((c .before .before .before .before .before .before .before .before .line-from .ensures)) .0
+sub-lookahead c = omega (arith, laws.to-in ((c .before .before .before .before .before .before .before .before .before .before .lines .inv .has)) ((c .before .before .before .before .before .before .before .before .before .if1 .left)) ((c .before .before .before .before .before .before .before .before .line-from .ensures)))
 
--- src/lib.rt:280:17
 add-lookahead : tie.Need-add-lookahead Inv-lines μ-lines
 add-lookahead c = omega (arith, laws.to-in ((c .before .before .before .before .before .before .before .before .before .before .lines .inv .has)) ((c .before .before .before .before .before .before .before .before .before .if1 .left)) ((c .before .before .before .before .before .before .before .before .line-from .ensures)), (c .before .before .before .before .before .before .before .before .before .before .lines .inv .has .short))
 
--- src/lib.rt:256:5
 lines-less : tie.Need-lines-less Inv-lines μ-lines
 lines-less c = omega (arith, laws.next-in ((c .before .before .before .before .before .before .before .before .before .before .lines .inv .has)) ((c .before .before .before .before .before .before .before .before .before .if1 .left)) ((c .before .before .before .before .before .before .before .before .line-from .ensures)))
 
--- src/lib.rt:256:5
 lines-again : tie.Need-lines-again Inv-lines μ-lines
 lines-again c = laws.joins-go ((c .before .before .before .before .before .before .before .before .before .before .lines .inv)) ((c .before .before .before .before .before .before .before .before .before .if1 .left)) ((c .before .before .before .before .before .before .before .before .line-from .ensures)) ((c .before .before .before .before .before .join-line .ensures)) ((c .before .v2 .given) .1)
 
--- src/lib.rt:242:1
 same-length : tie.Need-same-length Inv-lines μ-lines
 same-length c = laws.has-long ((c .before .before .lines .inv .has))
 
--- src/lib.rt:242:1
 returns : tie.Need-returns Inv-lines μ-lines
 returns c = laws.joins-end ((c .before .before .lines .inv)) ((c .before .if1 .taken)) ((c .refused .ensures))
 
--- src/lib.rt:242:1
 same-length-2 : tie.Need-same-length-2 Inv-lines μ-lines
 same-length-2 c = laws.joins-long ((c .before .before .before .before .before .before .before .before .before .before .lines .inv)) ((c .before .before .before .before .before .before .before .before .before .if1 .left)) ((c .before .before .before .before .before .before .before .before .line-from .ensures)) ((c .before .before .before .before .before .join-line .ensures))
 
--- src/lib.rt:242:1
 returns-2 : tie.Need-returns-2 Inv-lines μ-lines
 returns-2 c = laws.joins-broken ((c .before .before .before .before .before .before .before .before .before .before .lines .inv)) ((c .before .before .before .before .before .before .before .before .before .if1 .left)) ((c .before .before .before .before .before .before .before .before .line-from .ensures)) ((c .before .before .before .before .before .join-line .ensures)) ((c .before .enum-told .given) .1) ((c .refused2 .ensures))
 
--- src/lib.rt:242:1
 same-length-3 : tie.Need-same-length-3 Inv-lines μ-lines
 same-length-3 c = laws.joins-long ((c .before .before .before .before .before .before .before .before .before .before .lines .inv)) ((c .before .before .before .before .before .before .before .before .before .if1 .left)) ((c .before .before .before .before .before .before .before .before .line-from .ensures)) ((c .before .before .before .before .before .join-line .ensures))
 
--- src/lib.rt:242:1
 returns-3 : tie.Need-returns-3 Inv-lines μ-lines
 returns-3 c = laws.joins-full ((c .before .before .before .before .before .before .before .before .before .before .lines .inv)) ((c .before .before .before .before .before .before .before .before .before .if1 .left)) ((c .before .before .before .before .before .before .before .before .line-from .ensures)) ((c .before .before .before .before .before .join-line .ensures)) ((c .before .enum-told2 .given) .1) ((c .refused3 .ensures))
 
--- src/lib.rt:242:1
 same-length-4 : tie.Need-same-length-4 Inv-lines μ-lines
 same-length-4 c = laws.joins-long ((c .before .before .before .before .before .before .before .before .before .before .before .lines .inv)) ((c .before .before .before .before .before .before .before .before .before .before .if1 .left)) ((c .before .before .before .before .before .before .before .before .before .line-from .ensures)) ((c .before .before .before .before .before .before .join-line .ensures))
 
--- src/lib.rt:242:1
 returns-4 : tie.Need-returns-4 Inv-lines μ-lines
 returns-4 c = laws.joins-closed ((c .before .before .before .before .before .before .before .before .before .before .before .lines .inv)) ((c .before .before .before .before .before .before .before .before .before .before .if1 .left)) ((c .before .before .before .before .before .before .before .before .before .line-from .ensures)) ((c .before .before .before .before .before .before .join-line .ensures)) ((c .before .before .v .given) .1) ((c .closed .ensures))
 

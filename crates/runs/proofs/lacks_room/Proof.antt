@@ -1,18 +1,13 @@
 use Rattle.runs.proofs.Steps as laws
 use Rattle.runs.proofs.lacks_room.Statement.{statement}
 use Rattle.runs.proofs.lacks_room.Tie as tie
-use Rattle.runs.proofs.lacks_room.Reads as reads
-use Rattle.runs.proofs.lacks_room.Lts as lts
 
--- src/lib.rt:104:9
 returns : tie.Need-returns
 returns c = laws.lacks-first ((c .before .args .cap)) ((c .before .args .len)) ((c .before .args .core .now)) ((c .if1 .taken))
 
--- src/lib.rt:107:9
 returns-2 : tie.Need-returns-2
 returns-2 c = laws.lacks-before ((c .before .before .args .cap)) ((c .before .before .args .len)) ((c .before .before .args .core .now)) ((c .before .if1 .left)) ((c .if2 .taken))
 
--- src/lib.rt:100:1
 returns-3 : tie.Need-returns-3
 returns-3 c = laws.lacks-behind ((c .before .before .args .cap)) ((c .before .before .args .len)) ((c .before .before .args .core .now)) ((c .before .if1 .left)) ((c .if2 .left))
 

@@ -2,23 +2,16 @@ use Rattle.runs.proofs.Steps as laws
 use borrow.Author.Needs.{needs}
 use Rattle.runs.proofs.passes_tests.Statement.{statement}
 use Rattle.runs.proofs.passes_tests.Tie as tie
-use Rattle.runs.proofs.passes_tests.Reads as reads
-use Rattle.runs.proofs.passes_tests.Lts as lts
-use Rattle.runs.proofs.goes_on.Reads as goes-on-reads
 
--- src/lib.rt:92:9
 returns : tie.Need-returns
 returns c = laws.blank-refuses ((c .before .before .before .args .st)) ((c .before .before .before .args .pad)) ((c .before .before .before .args .line .now)) ((c .before .before .before .pre)) ((c .if1 .taken))
 
--- src/lib.rt:95:9
 returns-2 : tie.Need-returns-2
 returns-2 c = laws.first-passes ((c .before .before .before .before .before .args .st)) ((c .before .before .before .before .before .args .pad)) ((c .before .before .before .before .before .args .line .now)) ((c .before .before .before .before .before .pre)) ((c .before .before .if1 .left)) ((c .if2 .taken))
 
--- src/lib.rt:97:5
 goes-on-requires : tie.Need-goes-on-requires
 goes-on-requires c κs = search needs
 
--- src/lib.rt:87:1
 returns-3 : tie.Need-returns-3
 returns-3 c = laws.later-passes ((c .before .before .before .before .before .before .args .st)) ((c .before .before .before .before .before .before .args .pad)) ((c .before .before .before .before .before .before .args .line .now)) ((c .before .before .before .before .before .before .pre)) ((c .before .before .before .if1 .left)) ((c .before .if2 .left)) ((c .goes-on .ensures))
 

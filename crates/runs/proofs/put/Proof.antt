@@ -4,8 +4,6 @@ use native.Mathlib.Omega.{arith}
 use Rattle.runs.proofs.Steps as laws
 use Rattle.runs.proofs.put.Statement.{statement}
 use Rattle.runs.proofs.put.Tie as tie
-use Rattle.runs.proofs.put.Reads as reads
-use Rattle.runs.proofs.put.Lts as lts
 
 abbrev Inv-loop : tie.InvT-loop
 Inv-loop join₀ k s n₀ i₀ join n i = laws.Puts join₀ k s join n i
@@ -13,39 +11,30 @@ Inv-loop join₀ k s n₀ i₀ join n i = laws.Puts join₀ k s join n i
 abbrev μ-loop : tie.MeasureT-loop
 μ-loop join₀ k s n₀ i₀ join n i = length s - i
 
--- src/lib.rt:121:5
 loop-holds : tie.Need-loop-holds Inv-loop μ-loop
 loop-holds c = laws.puts-start _ _ _ ((c .pre))
 
--- src/lib.rt:122:19
 shared-slice-read-join : tie.Need-shared-slice-read-join Inv-loop μ-loop
 shared-slice-read-join c = omega arith
 
--- src/lib.rt:122:9
 slice-write-join : tie.Need-slice-write-join Inv-loop μ-loop
 slice-write-join c = laws.puts-room ((c .before .before .loop .inv)) ((c .before .loop-test .taken))
 
--- src/lib.rt:123:9
 add-n : tie.Need-add-n Inv-loop μ-loop
 add-n c = omega (arith, laws.puts-room ((c .before .before .loop .inv)) ((c .before .loop-test .taken)))
 
--- src/lib.rt:124:9
 add-i : tie.Need-add-i Inv-loop μ-loop
 add-i c = omega arith
 
--- src/lib.rt:121:5
 loop-less : tie.Need-loop-less Inv-loop μ-loop
 loop-less c = omega arith
 
--- src/lib.rt:121:5
 loop-again : tie.Need-loop-again Inv-loop μ-loop
 loop-again c = laws.puts-go ((c .before .before .loop .inv)) ((c .before .loop-test .taken))
 
--- src/lib.rt:114:1
 same-length : tie.Need-same-length Inv-loop μ-loop
 same-length c = (c .before .loop .inv .long)
 
--- src/lib.rt:114:1
 returns : tie.Need-returns Inv-loop μ-loop
 returns c = laws.puts-end ((c .before .loop .inv)) ((c .loop-test .left))
 

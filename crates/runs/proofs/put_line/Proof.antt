@@ -1,44 +1,31 @@
-use mathlib.Core.Path.{_∙_}
 use native.Mathlib.Omega.{arith}
 use lib.ListN.{length-set}
-use lib.Seq.{length-sets}
 use Rattle.runs.proofs.Steps as laws
 use borrow.Author.Needs.{needs}
 use Rattle.runs.proofs.put_line.Statement.{statement}
 use Rattle.runs.proofs.put_line.Tie as tie
-use Rattle.runs.proofs.put_line.Reads as reads
-use Rattle.runs.proofs.put_line.Lts as lts
-use Rattle.runs.proofs.put.Reads as put-reads
 
--- src/lib.rt:136:9
 put-requires : tie.Need-put-requires
 put-requires c κs = laws.room-first ((c .before .before .before .before .args .join .now)) ((c .before .before .before .before .args .len)) ((c .before .before .before .before .args .core .now)) ((c .before .if1 .taken)) ((c .before .before .before .before .pre))
 
--- src/lib.rt:136:9
 same-length : tie.Need-same-length
 same-length c = search needs
 
--- src/lib.rt:136:9
 returns : tie.Need-returns
 returns c = laws.put-first ((c .before .before .before .before .before .before .before .args .join .now)) ((c .before .before .before .before .before .before .before .args .len)) ((c .before .before .before .before .before .before .before .args .core .now)) ((c .before .before .before .before .if1 .taken)) ((c .before .before .put .ensures))
 
--- src/lib.rt:138:5
 slice-write-join : tie.Need-slice-write-join
 slice-write-join c = omega (arith, laws.room-later ((c .before .before .before .args .join .now)) ((c .before .before .before .args .len)) ((c .before .before .before .args .core .now)) ((c .if1 .left)) ((c .before .before .before .pre)), length-set ((c .before .before .before .args .join .now)) ((c .before .before .before .args .len)) 32)
 
--- src/lib.rt:139:15
 add-put : tie.Need-add-put
 add-put c = search needs
 
--- src/lib.rt:139:5
 put-requires-2 : tie.Need-put-requires-2
-put-requires-2 c κs = laws.room-later ((c .before .before .before .before .args .join .now)) ((c .before .before .before .before .args .len)) ((c .before .before .before .before .args .core .now)) ((c .before .if1 .left)) ((c .before .before .before .before .pre))
+put-requires-2 c κs = omega (arith, laws.room-later ((c .before .before .before .before .args .join .now)) ((c .before .before .before .before .args .len)) ((c .before .before .before .before .args .core .now)) ((c .before .if1 .left)) ((c .before .before .before .before .pre)))
 
--- src/lib.rt:130:1
 same-length-2 : tie.Need-same-length-2
 same-length-2 c = laws.same-length ((c .before .before .before .before .before .before .before .args .join .now)) ((c .before .before .before .before .before .before .before .args .len)) ((c .before .before .before .before .before .before .before .args .core .now)) ((c .before .before .put2 .ensures) .1)
 
--- src/lib.rt:130:1
 returns-2 : tie.Need-returns-2
 returns-2 c = laws.put-later ((c .before .before .before .before .before .before .before .args .join .now)) ((c .before .before .before .before .before .before .before .args .len)) ((c .before .before .before .before .before .before .before .args .core .now)) ((c .before .before .before .before .if1 .left)) ((c .before .before .put2 .ensures))
 

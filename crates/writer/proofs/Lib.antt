@@ -1,0 +1,7 @@
+-- What callers of writer cite beyond the contracts.
+pub mod Fills
+pub mod Values
+pub mod Items
+pub mod Walks
+pub mod Room
+pub mod Given

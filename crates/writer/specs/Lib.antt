@@ -1,0 +1,3 @@
+-- The definitions that the contracts of writer cite.
+pub mod Write
+pub mod Steps

@@ -1,0 +1,100 @@
+-- The canonical text part by part, as the code's own functions promise it. No definition of a public promise rests on these.
+use Prim.Native.Nat.{ℕ, _+_}
+use mathlib.Core.Bool.{Bool, true, false, cond}
+use mathlib.Core.List.{List, [], _∷_, map}
+use lib.Dec.{eqb, leb}
+use lib.ListN.{length, getD, take}
+use lib.Seq.{sets}
+use Rattle.lists.specs.Lists.{isIn}
+use Rattle.refusals.specs.declared.Refusal.the-variants.{CanonTooLong}
+use Rattle.escapes.specs.Unescape.{unescape, pieceAt}
+use Rattle.escapes.specs.declared.Piece.{Piece}
+use Rattle.escapes.specs.declared.Piece.the-variants.{End, Byte}
+use Rattle.grammar.specs.Meaning.{idName, className}
+use Rattle.canon.specs.Canon.{Pair, pairText, pairsText, pairsOf}
+use Rattle.sets.specs.Types.{Texts, rangeBytes, nameBytes, valueBytes}
+use Rattle.sets.specs.Rows.{idValues}
+use Rattle.sets.specs.declared.Value.{Value}
+use Rattle.sets.specs.declared.Row.{Row}
+use Rattle.sets.specs.declared.Ident.{Ident}
+use Rattle.sets.specs.declared.Text as texts
+use Rattle.sets.specs.declared.Text.the-variants as text
+use Rattle.writer.specs.declared.Wrote.{Wrote}
+use Rattle.writer.specs.declared.Wrote.the-variants.{Refused, Bytes}
+
+-- ---- a value
+
+-- the raw text of a value, and whether it is to be unescaped
+abbrev pub rawText : Texts → texts.Text → List ℕ
+rawText t (text.Plain from to) = rangeBytes t from to
+rawText t (text.Quoted from to) = rangeBytes t from to
+rawText t text.Empty = []
+
+unfoldable pub rawBytes : Texts → Value → List ℕ
+rawBytes t v = rawText t (v .text)
+
+abbrev pub isQuotedText : texts.Text → Bool
+isQuotedText (text.Plain from to) = false
+isQuotedText (text.Quoted from to) = true
+isQuotedText text.Empty = false
+
+unfoldable pub isQuoted : Value → Bool
+isQuoted v = isQuotedText (v .text)
+
+-- what a raw text stands for
+abbrev pub bytesIn : Bool → List ℕ → List ℕ
+bytesIn quoted s = cond quoted (unescape s) s
+
+-- its byte at i, and where the next one stands
+unfoldable pub pieceIn : Bool → List ℕ → ℕ → Piece
+pieceIn quoted s i = cond quoted (pieceAt s i) (cond (leb (length s) i) End (Byte (getD s i 0) (i + 1)))
+
+-- a byte with its backslash
+unfoldable pub marked : ℕ → List ℕ
+marked b = cond (isIn (34 ∷ 92 ∷ []) b) (92 ∷ (b ∷ [])) (b ∷ [])
+
+-- ---- an item
+
+-- the brace before the first item, where n bytes stand before it, and the space before each other one
+unfoldable pub leadOf : ℕ → ℕ
+leadOf n = cond (eqb n 0) 123 32
+
+-- an item behind n bytes
+abbrev pub itemText : ℕ → List ℕ → List ℕ → List ℕ
+itemText n name value = leadOf n ∷ pairText (record { name = name; value = value })
+
+-- items behind n bytes
+abbrev pub itemsText : ℕ → List Pair → List ℕ
+itemsText n [] = []
+itemsText n (p ∷ ps) = leadOf n ∷ pairsText (p ∷ ps)
+
+-- the items of the id, of a key and of the classes
+abbrev pub idPairs : Texts → Ident → List Pair
+idPairs t i = pairsOf idName (idValues t (i .id))
+
+abbrev pub keyPairs : Texts → Row → List Pair
+keyPairs t r = pairsOf (nameBytes t (r .name)) (valueBytes t (r .value) ∷ [])
+
+abbrev pub classPairs : Texts → ℕ → List Value → List Pair
+classPairs t n classes = pairsOf className (map (valueBytes t) (take n classes))
+
+-- what closes n bytes: the opening brace too where there is no item
+unfoldable pub closing : ℕ → List ℕ
+closing n = cond (eqb n 0) (123 ∷ (125 ∷ [])) (125 ∷ [])
+
+-- an item has no more bytes: a name, and a value in which each byte may take a backslash; nor have the items of 32 classes behind a text
+-- within the limit
+abbrev pub maxItem : ℕ
+maxItem = 200000
+
+abbrev pub maxItems : ℕ
+maxItems = 8000000
+
+-- ---- measuring and writing: xs at `at`, or nothing
+
+unfoldable pub put : Bool → List ℕ → ℕ → List ℕ → List ℕ
+put really buf at xs = cond really (sets buf at xs) buf
+
+-- n bytes, if they are no more than `cap`
+unfoldable pub wroteTo : ℕ → ℕ → Wrote
+wroteTo cap n = cond (leb n cap) (Bytes n) (Refused CanonTooLong)
