@@ -10,6 +10,7 @@ use Rattle.ascii.specs.declared.Mode.{Mode}
 use Rattle.ascii.specs.declared.Mode.the-variants.{Loose}
 use Rattle.grammar.specs.Grammar.{Placed, Payload}
 use Rattle.grammar.specs.Read.{Reading, oneOrMore, readPayload}
+use Rattle.grammar.specs.Meaning.{Entry, puts}
 use Rattle.grammar.specs.Close.{Covered, noLf, fresh, closeFrom}
 use Rattle.grammar.specs.declared.Place.{Place}
 use Rattle.grammar.specs.declared.Place.the-variants.{Nothing, At}
@@ -25,6 +26,16 @@ pub data Block (m : Mode) : ℕ → List ℕ → List Placed → Type 0 where
 pub data Blocks (m : Mode) : ℕ → List ℕ → List Placed → Type 0 where
   one : {at : ℕ} {b : List ℕ} {is : List Placed} → Block m at b is → Blocks m at b is
   more : {at : ℕ} {b s : List ℕ} {is js : List Placed} → Block m at b is → Blocks m (at + length b) s js → Blocks m at (b ++ s) (is ++ js)
+
+-- the items of each block
+abbrev pub blockItems : {m : Mode} {at : ℕ} {s : List ℕ} {is : List Placed} → Blocks m at s is → List (List Placed)
+blockItems (Blocks.one {is = is} b) = is ∷ []
+blockItems (Blocks.more {is = is} b p) = is ∷ blockItems p
+
+-- "merged left to right": each set in turn is put into what came before
+unfoldable pub merged : List Entry → List (List Entry) → List Entry
+merged m [] = m
+merged m (a ∷ rest) = merged (puts m a) rest
 
 -- ---- by computing
 
@@ -45,6 +56,7 @@ blocksFrom m [] k at = Reading.items []
 blocksFrom m (b ∷ s) zero at = cond (eqb b 123) (blockTo m s (suc at) (closeFrom s fresh (suc at)) (λ n. blocksFrom m s n (suc at))) Reading.refused
 blocksFrom m (b ∷ s) (suc k) at = blocksFrom m s k (suc at)
 
+-- "blocks stand back to back to its end": one or more
 unfoldable pub readBlocks : Mode → ℕ → List ℕ → Reading
 readBlocks m at s = oneOrMore (blocksFrom m s 0 at)
 

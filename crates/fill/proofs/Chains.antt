@@ -1,14 +1,13 @@
 -- A line of blocks: what is still to be put from a place in one of them on, and which block comes next.
 -- Assumes nothing.
-use mathlib.Core.Path.{_≡_, refl, sym, _∙_, ap}
+use mathlib.Core.Path.{_≡_, refl, sym, _∙_}
 use mathlib.Core.Bool.{Bool, true, false}
 use mathlib.Core.List.{List, [], _∷_, _++_, append-assoc, append-nil}
-use Prim.Native.Nat.{ℕ, suc, _+_, _-_, _<_, _≤_}
-use native.Mathlib.Numerals.{add-one}
+use Prim.Native.Nat.{ℕ, _+_, _-_, _<_, _≤_}
 use native.Mathlib.Omega.{arith}
 use lib.Dec.{leb}
 use borrow.Author.Tests.{leb-true, leb-false}
-use lib.ListN.{length, getD, take, drop, drop-of-length-le, length-take}
+use lib.ListN.{length, getD, take, drop, drop-of-length-le}
 use lib.Seq.{slice, length-take-le, take-length}
 use Rattle.lists.specs.Lists.{run}
 use Rattle.ascii.specs.declared.Mode.{Mode}
@@ -22,7 +21,6 @@ use Rattle.tokens.specs.Shown.{shown}
 use Rattle.tokens.proofs.Steps as steps
 use Rattle.chain.specs.Chain.{joined, blocksFrom}
 use Rattle.chain.proofs.Blocks as blocks
-use Rattle.refusals.specs.Numbers.{maxText}
 use Rattle.sets.specs.Rows.{Put}
 use Rattle.sets.specs.Puts.{putsOf, putsIn}
 use Rattle.fill.specs.declared.Cursor.{Cursor}

@@ -2,21 +2,18 @@
 -- Assumes nothing.
 use mathlib.Core.Path.{_≡_, refl, sym, ap, _∙_}
 use mathlib.Core.Bool.{Bool, true, false, cond}
-use mathlib.Core.List.{List, []}
+use mathlib.Core.List.{List}
 use Prim.Native.Nat.{ℕ, _+_, _<_, _≤_}
 use native.Mathlib.Omega.{arith}
-use lib.Dec.{leb, ltb}
-use lib.ListN.{length, drop, drop-of-length-le, length-take}
+use lib.Dec.{ltb}
+use lib.ListN.{length, drop, length-take}
 use lib.Seq.{slice}
-use borrow.Author.Tests.{leb-true, leb-false, ltb-false, lt-ltb, le-ltb}
+use borrow.Author.Tests.{ltb-false, le-ltb}
 use Rattle.lists.specs.Lists.{run}
 use Rattle.lists.proofs.More.{contra}
 use Rattle.ascii.specs.declared.Mode.{Mode}
 use Rattle.ascii.specs.Bytes.{isBlank}
-use Rattle.grammar.specs.Grammar.{Placed}
-use Rattle.grammar.specs.Read.{First, Reading, text, tokenOf, also, readFrom, oneOrMore, readPayload}
-use Rattle.tokens.specs.Shown.{shown}
-use Rattle.tokens.proofs.Steps as steps
+use Rattle.grammar.specs.Read.{Reading, readFrom, oneOrMore, readPayload}
 use Rattle.chain.specs.Chain.{blocksFrom, readBlocks}
 use Rattle.chain.proofs.Blocks.{some-read}
 use Rattle.refusals.specs.declared.Refusal.the-variants.{TextTooLong, NoReading, TooManyClasses, TooManyKeys, TooManySlots}

@@ -1,7 +1,7 @@
 -- The set of a payload and of a line of blocks: what the items put into it, within the limits.
 use Prim.Native.Nat.{ℕ}
 use mathlib.Core.Bool.{cond}
-use mathlib.Core.List.{List, [], _∷_}
+use mathlib.Core.List.{List}
 use lib.Dec.{ltb}
 use lib.ListN.{length}
 use lib.Seq.{slice}

@@ -1,8 +1,8 @@
 -- The first rows of an array with zero behind them, as a loop copies them, and the table that is so cleaned.
 -- Assumes nothing.
-use mathlib.Core.Path.{_≡_, refl, sym, _∙_}
-use mathlib.Core.List.{List, [], _∷_, _++_, map, map-map, map-id}
-use Prim.Native.Nat.{ℕ, suc, _+_, _-_, _<_, _≤_}
+use mathlib.Core.Path.{_≡_}
+use mathlib.Core.List.{List, map, map-map, map-id}
+use Prim.Native.Nat.{ℕ, _+_, _-_, _<_, _≤_}
 use native.Mathlib.Numerals.{add-one}
 use native.Mathlib.Omega.{arith}
 use lib.ListN.{length, getD, set, take, replicate, length-map}
@@ -40,14 +40,14 @@ order-again o = rw (map-map held slotIn o) (map-id o)
 module _ (a : Attrs) (c : length (a .classes) ≡ maxClasses) (k : length (a .keys) ≡ maxKeys) (o : length (a .order) ≡ maxSlots)
     (few : (a .nclass ≤ maxClasses) × (a .nkey ≤ maxKeys) × (a .norder ≤ maxSlots)) where
   pub cleaned-is : record {
-        id = a .id;
-        classes = firsts maxClasses zeroValue (a .nclass) (a .classes);
-        nclass = a .nclass;
-        keys = firsts maxKeys zeroRow (a .nkey) (a .keys);
-        nkey = a .nkey;
-        order = firsts maxSlots zeroSlot (a .norder) (a .order);
-        norder = a .norder;
-      }
+    id = a .id;
+    classes = firsts maxClasses zeroValue (a .nclass) (a .classes);
+    nclass = a .nclass;
+    keys = firsts maxKeys zeroRow (a .nkey) (a .keys);
+    nkey = a .nkey;
+    order = firsts maxSlots zeroSlot (a .norder) (a .order);
+    norder = a .norder;
+  }
       ≡ tableOf (rowsIn a)
   unfolding tableOf rowsIn
   cleaned-is =

@@ -1,5 +1,8 @@
--- The laws that the proofs of merge cite.
+-- The laws that the proofs of merge cite, and what is proved of a merge (Means).
 pub mod Fronts
 pub mod Tables
 pub mod Rest
 pub mod Whole
+pub mod ByNames
+pub mod Puts
+pub mod Means

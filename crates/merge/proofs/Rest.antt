@@ -2,21 +2,20 @@
 -- Assumes nothing.
 use mathlib.Core.Path.{_≡_, refl, sym, _∙_, ap}
 use mathlib.Core.Bool.{Bool, true, false, cond}
-use mathlib.Core.List.{List, [], _∷_, _++_, map}
+use mathlib.Core.List.{List, [], _∷_, map}
 use Prim.Native.Nat.{ℕ, zero, suc, _+_, _<_, _≤_}
 use native.Mathlib.Numerals.{add-one}
 use native.Mathlib.Omega.{arith}
-use lib.Dec.{ltb}
-use lib.ListN.{length, getD, take, drop, length-append, length-map, length-take, take-append-drop, drop-of-length-le}
+use lib.ListN.{length, getD, take, drop, length-append, length-map, take-append-drop, drop-of-length-le}
 use lib.Seq.{drop-cons, getD-take, length-take-le}
-use borrow.Author.Tests.{ltb-true, lt-ltb, le-ltb}
+use borrow.Author.Tests.{ne-eqb, ltb-true, lt-ltb, le-ltb}
 use Rattle.lists.proofs.Scan.{both}
 use Rattle.lists.proofs.More.{contra}
 use Rattle.canon.specs.Canon.{every}
 use Rattle.refusals.specs.declared.Refusal.the-variants.{TooManyClasses, TooManyKeys}
-use Rattle.sets.specs.Types.{Texts, maxClasses, maxKeys, maxSlots, zeroSlot}
-use Rattle.sets.specs.Rows.{Rows, Put, isSome, hasKey, withPut, withPuts, slotIn, rowsIn}
-use Rattle.sets.specs.Shape.{isSlot, times, isPresent}
+use Rattle.sets.specs.Types.{Texts, maxClasses, maxKeys, maxSlots, zeroRow, zeroSlot}
+use Rattle.sets.specs.Rows.{Rows, Put, noRows, isSome, hasKey, withPut, withPuts, slotIn, rowsIn}
+use Rattle.sets.specs.Shape.{isSlot, times, isPresent, Shaped}
 use Rattle.sets.specs.declared.Attrs.{Attrs}
 use Rattle.sets.specs.declared.Id as ids
 use Rattle.sets.specs.declared.Id.the-variants as id
@@ -24,7 +23,7 @@ use Rattle.sets.specs.declared.Slot.{Slot}
 use Rattle.sets.specs.declared.Slot.the-variants.{Id, Class, Key}
 use Rattle.sets.specs.declared.SlotRecord.{SlotRecord}
 use Rattle.sets.specs.declared.Value.{Value}
-use Rattle.sets.proofs.Slots.{slot-same}
+use Rattle.sets.proofs.Slots.{slot-same, slots-length}
 use Rattle.wellformed.proofs.PutsKept.{every-parts}
 use Rattle.fill.specs.declared.Filled.{Filled}
 use Rattle.fill.specs.declared.Outcome.the-variants.{Done}
@@ -32,12 +31,12 @@ use Rattle.fill.specs.Fill.{refusing, limited}
 use Rattle.fill.proofs.Slots.{key-count, one-le, slots}
 use Rattle.merge.specs.declared.Step.{Step}
 use Rattle.merge.specs.Merge.{putsOfId, putsAt, putsFrom, putsBy}
-use Rattle.merge.specs.Walk.{Held, After, Steps, Sound, Fits, Present}
+use Rattle.merge.specs.Walk.{Held, Steps, Sound, Fits, Present}
 use Rattle.merge.proofs.Tables.{holds, nclass, puts-after}
 
 -- ---- how many classes and keys there are behind puts
 module _ (t : Texts) where
-  put-grows : (s : Rows) (p : Put) → (length (s .classes) ≤ length (withPut t s p .classes)) × (length (s .keys) ≤ length (withPut t s p .keys))
+  pub put-grows : (s : Rows) (p : Put) → (length (s .classes) ≤ length (withPut t s p .classes)) × (length (s .keys) ≤ length (withPut t s p .keys))
   unfolding withPut
   put-grows s (Put.ident v) = omega arith
   put-grows s (Put.class v) = omega (arith, length-append (s .classes) (v ∷ []))
@@ -92,12 +91,44 @@ module _ (t : Texts) where
         go false q e none ih = omega (arith, ih e, none-at s x q)
 
     -- so its classes count once, if the order names them so
-    count-classes : (s : Rows) → times Class (b .order) ≡ cond (isSome (b .classes)) 1 0 → length (withPuts t s (putsBy b) .classes) ≡ length (s .classes) + length (b .classes)
+    pub count-classes : (s : Rows) → times Class (b .order) ≡ cond (isSome (b .classes)) 1 0 → length (withPuts t s (putsBy b) .classes) ≡ length (s .classes) + length (b .classes)
     count-classes s e = go (b .classes) refl e
       where
         go : (cs : List Value) → b .classes ≡ cs → times Class (b .order) ≡ cond (isSome cs) 1 0 → length (withPuts t s (putsBy b) .classes) ≡ length (s .classes) + length (b .classes)
         go [] q e = omega (arith, none-from (b .order) s e, ap length q)
         go (c ∷ cs) q e = once-from (b .order) s e
+
+  -- a key's slot puts at most one key more, the others none
+  module _ (b : Rows) where
+    class-keys : (s : Rows) (cs : List Value) → withPuts t s (map Put.class cs) .keys ≡ s .keys
+    unfolding withPuts withPut
+    class-keys s [] = refl
+    class-keys s (c ∷ cs) = class-keys (withPut t s (Put.class c)) cs
+
+    keys-at : (s : Rows) (x : Slot) → length (withPuts t s (putsAt b x) .keys) + cond (isSlot Id x) 1 0 + cond (isSlot Class x) 1 0 ≤ length (s .keys) + 1
+    unfolding putsAt withPuts withPut
+    keys-at s Id = go (b .ident)
+      where
+        go : (i : ids.Id) → length (withPuts t s (putsOfId i) .keys) + 1 + 0 ≤ length (s .keys) + 1
+        go id.Missing = omega arith
+        go (id.Given v) = omega arith
+    keys-at s Class = omega (arith, ap length (class-keys s (b .classes)))
+    keys-at s (Key k) =
+        let r = getD (b .keys) k zeroRow in
+        rw (ne-eqb 0 (suc (suc k)) (omega arith), ne-eqb 1 (suc (suc k)) (omega arith)) (omega (arith, key-count t (r .name) (r .value) (s .keys)))
+
+    keys-from : (o : List Slot) (s : Rows) → length (withPuts t s (putsFrom b o) .keys) + times Id o + times Class o ≤ length (s .keys) + length o
+    unfolding putsFrom times withPuts
+    keys-from [] s = omega arith
+    keys-from (x ∷ o) s = rw (puts-after t s (putsAt b x) (putsFrom b o)) (omega (arith, keys-at s x, keys-from o (withPuts t s (putsAt b x)), more (isSlot Id x) (times Id o), more (isSlot Class x) (times Class o)))
+      where
+        more : (q : Bool) (n : ℕ) → cond q (suc n) n ≡ n + cond q 1 0
+        more true n = omega arith
+        more false n = omega arith
+
+    -- so a shaped set puts at most its keys into a set with nothing in it
+    pub own-keys : Shaped t b → length (withPuts t noRows (putsBy b) .keys) ≤ length (b .keys)
+    own-keys h = omega (arith, keys-from (b .order) noRows, slots-length h, h .once Id, h .once Class)
 
 -- ---- the rows of a table that count
 get-map : (xs : List SlotRecord) (i : ℕ) → getD (map slotIn xs) i Id ≡ slotIn (getD xs i zeroSlot)

@@ -3,14 +3,14 @@
 use mathlib.Core.Path.{_≡_, refl, sym, _∙_, ap}
 use mathlib.Core.Bool.{Bool, true, false, cond}
 use mathlib.Core.List.{List, [], _∷_, _++_, map, map-append}
-use Prim.Native.Nat.{ℕ, suc, _+_, _<_, _≤_}
+use Prim.Native.Nat.{ℕ, _+_, _<_, _≤_}
 use native.Mathlib.Numerals.{add-one}
 use native.Mathlib.Omega.{arith}
 use lib.ListN.{length, getD, take}
 use lib.Seq.{take-suc, getD-take}
 use Rattle.lists.proofs.More.{contra}
 use Rattle.sets.specs.Types.{Texts, one, maxClasses, maxKeys, zeroValue, zeroRow}
-use Rattle.sets.specs.Rows.{Rows, Put, isThere, hasKey, keyAt, putRow, withPut, withPuts, tableOf, rowsIn}
+use Rattle.sets.specs.Rows.{Rows, Put, keyAt, withPut, withPuts, tableOf, rowsIn}
 use Rattle.sets.specs.declared.Attrs.{Attrs}
 use Rattle.sets.specs.declared.Id.the-variants as ids
 use Rattle.sets.specs.declared.Name.{Name}
@@ -19,7 +19,7 @@ use Rattle.sets.specs.declared.Slot.the-variants.{Id, Class, Key}
 use Rattle.sets.specs.declared.Value.{Value}
 use Rattle.sets.proofs.Keys.{key-none}
 use Rattle.sets.proofs.Whole.{rows-table}
-use Rattle.fill.proofs.Slots.{Shaped, one-if, key-count}
+use Rattle.fill.proofs.Slots.{one-if, key-count}
 use Rattle.fill.proofs.Fills.{Holds}
 use Rattle.merge.specs.declared.Step.{Step}
 use Rattle.merge.specs.Merge.{putOfRow, putsAt}
@@ -100,7 +100,7 @@ module _ {s : Attrs} {from : List Value} {m : ℕ} {set : Attrs} {i : ℕ} (inv 
           record {
             held = held (h t);
             rows = rows-of (h t)
-              ∙ (rw (add-one, take-suc from i zeroValue (omega arith), map-append, puts-after t (rowsIn s) (map Put.class (take i from)) (Put.class (getD from i zeroValue) ∷ []), inv .after t .rows))
+                ∙ (rw (add-one, take-suc from i zeroValue (omega arith), map-append, puts-after t (rowsIn s) (map Put.class (take i from)) (Put.class (getD from i zeroValue) ∷ []), inv .after t .rows));
           }
 
   pub joins-end : m ≤ i → (t : Texts) → After t s (map Put.class (take m from)) set

@@ -1,9 +1,9 @@
 -- From the checks of an entry to the merge.
 -- Assumes nothing.
-use mathlib.Core.Path.{_≡_, refl, sym, _∙_}
+use mathlib.Core.Path.{_≡_, refl, _∙_}
 use mathlib.Core.Bool.{Bool, true, false, cond, _&&_}
-use mathlib.Core.List.{List, [], _∷_, _++_, map}
-use Prim.Native.Nat.{ℕ, _+_, _≤_}
+use mathlib.Core.List.{List}
+use Prim.Native.Nat.{ℕ, _≤_}
 use native.Mathlib.Omega.{arith}
 use lib.Dec.{leb}
 use lib.ListN.{length, length-take}
@@ -14,59 +14,46 @@ use Rattle.refusals.specs.declared.Refusal.the-variants.{NotWellFormed}
 use Rattle.checks.specs.Check.{checkOf}
 use Rattle.checks.specs.declared.Check.{Check}
 use Rattle.checks.specs.declared.Check.the-variants.{Passed, Refused}
-use Rattle.canon.specs.Canon.{every}
 use Rattle.sets.specs.Types.{Texts, one, maxClasses, maxKeys, maxSlots}
-use Rattle.sets.specs.Rows.{Rows, withPuts, tableOf, rowsIn}
-use Rattle.sets.specs.Shape.{isPresent, Shaped}
+use Rattle.sets.specs.Rows.{withPuts, tableOf, rowsIn}
 use Rattle.sets.specs.declared.Attrs.{Attrs}
-use Rattle.sets.specs.declared.Slot.the-variants.{Id, Class, Key}
+use Rattle.sets.specs.declared.Slot.the-variants.{Class}
 use Rattle.sets.proofs.Slots.{slots-length}
 use Rattle.sets.proofs.Whole.{rows-table}
-use Rattle.wellformed.specs.WellFormed.{countsOk, isOnce, keysOnce, slotsOk, rowsOk, tableOk}
-use Rattle.wellformed.proofs.PutsKept.{rows-parts, rows-shaped}
+use Rattle.wellformed.specs.WellFormed.{countsOk, rowsOk, tableOk}
+use Rattle.wellformed.proofs.Shape.{slots-named, table-passed, shaped}
 use Rattle.fill.specs.declared.Filled.{Filled}
 use Rattle.fill.specs.Fill.{refusing, limited}
-use Rattle.merge.specs.Merge.{putsBy, mergedBy, mergeOf}
+use Rattle.merge.specs.Merge.{putsBy, mergeOf}
 use Rattle.merge.specs.Walk.{Held, Sound}
 
 -- ---- what a well-formed table has
 module _ (t : Texts) (a : Attrs) (h : tableOk t a ≡ true) where
-  parts : (countsOk a ≡ true) × (rowsOk t (rowsIn a) ≡ true)
-  unfolding tableOk
-  parts = both (countsOk a) (rowsOk t (rowsIn a)) h
-
-  pub good-rows : rowsOk t (rowsIn a) ≡ true
-  good-rows = parts .1
-
   pub counts : (a .nclass ≤ maxClasses) × (a .nkey ≤ maxKeys) × (a .norder ≤ maxSlots)
-  unfolding countsOk
+  unfolding tableOk countsOk
   counts =
-      let x = both (leb (a .nclass) maxClasses) (leb (a .nkey) maxKeys && leb (a .norder) maxSlots) (parts .0) in
+      let w = both (countsOk a) (rowsOk t (rowsIn a)) h in
+      let x = both (leb (a .nclass) maxClasses) (leb (a .nkey) maxKeys && leb (a .norder) maxSlots) (w .0) in
       let y = both (leb (a .nkey) maxKeys) (leb (a .norder) maxSlots) (x .1) in
       (leb-true (a .nclass) maxClasses (x .0), leb-true (a .nkey) maxKeys (y .0), leb-true (a .norder) maxSlots (y .1))
 
-  pub shape : Shaped t (rowsIn a)
-  shape = rows-shaped t (rowsIn a) good-rows
-
-  few : (length (rowsIn a .classes) ≤ maxClasses) × (length (rowsIn a .keys) ≤ maxKeys)
+  pub few : (length (rowsIn a .classes) ≤ maxClasses) × (length (rowsIn a .keys) ≤ maxKeys)
   unfolding rowsIn
   few = omega (arith, counts, length-take (a .nclass) (a .classes), length-take (a .nkey) (a .keys))
 
   pub held-clean : {r : Attrs} → r ≡ tableOf (rowsIn a) → Held r
   held-clean e =
       let q = rows-table (rowsIn a) in
-      rw e (record { is = rw q; classes = rw q (few .0); keys = rw q (few .1); slots = rw q (slots-length shape) })
+      rw e (record { is = rw q; classes = rw q (few .0); keys = rw q (few .1); slots = rw q (slots-length (shaped t a h)) })
 
   pub sound : Sound a
-  unfolding slotsOk
   sound =
-      let s = rowsIn a in
       record {
         nclass = counts .0;
         nkey = counts .1;
         norder = counts .2;
-        there = both (every (isPresent s) (s .order)) (isOnce s Id && (isOnce s Class && keysOnce s (length (s .keys)))) (rows-parts t s good-rows .slots) .0;
-        once = shape .once Class;
+        there = slots-named (rowsIn a) (table-passed t a h .slots);
+        once = shaped t a h .once Class;
       }
 
 -- ---- the entry

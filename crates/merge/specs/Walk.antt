@@ -1,12 +1,12 @@
 -- What private functions promise as a set is put into another: nothing that a reader of the public promises has to believe.
 use mathlib.Core.Path.{_≡_}
-use mathlib.Core.Bool.{Bool, true, false, cond}
+use mathlib.Core.Bool.{true, false, cond}
 use mathlib.Core.List.{List}
 use Prim.Native.Nat.{ℕ, _+_, _≤_, _<_}
 use lib.ListN.{length, take}
 use Rattle.canon.specs.Canon.{every}
 use Rattle.sets.specs.Types.{Texts, maxClasses, maxKeys, maxSlots}
-use Rattle.sets.specs.Rows.{Rows, Put, isThere, isSome, withPuts, padded, tableOf, rowsIn}
+use Rattle.sets.specs.Rows.{Put, isThere, isSome, withPuts, padded, tableOf, rowsIn}
 use Rattle.sets.specs.Shape.{isPresent, times}
 use Rattle.sets.specs.declared.Slot.{Slot}
 use Rattle.sets.specs.declared.Slot.the-variants.{Id, Class, Key}

@@ -14,25 +14,18 @@ use sets::Text;
 use sets::Value;
 ghost use mathlib.Core.Path.{_≡_};
 ghost use mathlib.Core.List.{[], _∷_, map};
-ghost use Prim.Native.Nat.{_+_, _≤_, _<_};
-ghost use lib.ListN.{length, take};
+ghost use Prim.Native.Nat.{_+_, _≤_};
+ghost use lib.ListN.{take};
 ghost use Rattle.sets.specs.Types.{Texts, one, zeroValue, zeroRow, zeroSlot, maxClasses, maxKeys, maxSlots};
 ghost use Rattle.sets.specs.Rows.{Put, withPuts, rowsIn, tableOf};
-ghost use Rattle.wellformed.specs.WellFormed.{countsOk, tableOk};
 ghost use Rattle.fill.specs.Fill.{refusing, limited};
-ghost use Rattle.merge.specs.Merge.{putOfRow, putsAt, putsBy, mergeOf};
+ghost use Rattle.merge.specs.Merge.{putsAt, putsBy, mergeOf};
 ghost use Rattle.merge.specs.Walk.{firsts, Held, After, Steps, Sound, Present};
 
 // What becomes of a set when something is put into it: whether that fits, and the set behind it.
 struct Step {
     pub fits: bool,
     pub set: Attrs,
-}
-
-fn table_ok(text: &[u8], set: Attrs) -> bool
-    ensures { λ r. ⌜ r ≡ tableOk (one (now (text .entry))) set ⌝ }
-{
-    text.len() == 0
 }
 
 // A refusal hands out no set.
@@ -257,10 +250,10 @@ pub fn merge_attrs(text: &[u8], target: Attrs, incoming: Attrs) -> Filled
     match checks::check_text(text) {
         Check::Refused(r) => refusing(r),
         Check::Passed => {
-            if !table_ok(text, target) {
+            if !wellformed::table_ok(text, target) {
                 return refusing(Refusal::NotWellFormed);
             }
-            if !table_ok(text, incoming) {
+            if !wellformed::table_ok(text, incoming) {
                 return refusing(Refusal::NotWellFormed);
             }
             merge_rows(text, cleaned(target), incoming)

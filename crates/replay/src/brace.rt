@@ -1,8 +1,10 @@
-// Requests at a brace, and for a payload alone.
+// Requests by the number of their fields: for a payload alone, at a brace, and by line.
+use crate::by_line;
 use crate::canon;
 use crate::fields;
 use crate::fields::Fields;
 use crate::fields::Said;
+use crate::merging;
 use crate::out;
 use ascii::Mode;
 use reader::Answer;
@@ -13,6 +15,7 @@ pub(crate) fn answer(
     f: Fields,
     count: usize,
     a: &mut [u8],
+    join: &mut [u8],
     canon: &mut [u8],
     output: &mut [u8],
     at: usize,
@@ -25,10 +28,10 @@ pub(crate) fn answer(
         return answer_payload(word, x, a, output, at);
     }
     if count == 3 {
-        return answer_part(word, x, y, a, output, at);
+        return answer_three(word, x, y, a, join, canon, output, at);
     }
     if count == 4 {
-        return answer_read(word, x, y, z, a, canon, output, at);
+        return answer_four(word, x, y, z, a, join, canon, output, at);
     }
     out::put(output, at, b"error")
 }
@@ -57,17 +60,22 @@ fn answer_payload<'a>(
     out::put(output, at, b"error")
 }
 
-// A word, a place and a text. The part that is handed back has no place in it, so the range is asked too.
-fn answer_part<'a>(
+// A word and two texts, or a word, a number and a text.
+fn answer_three<'a>(
     word: &'a [u8],
     x: &'a [u8],
     y: &'a [u8],
     a: &mut [u8],
+    join: &mut [u8],
+    canon: &mut [u8],
     output: &mut [u8],
     at: usize,
 ) -> usize {
-    if !lists::same_bytes(word, b"payload_at") {
-        return out::put(output, at, b"error");
+    if lists::same_bytes(word, b"merge") {
+        return merging::answer(x, y, false, a, canon, output, at);
+    }
+    if lists::same_bytes(word, b"merge_leading") {
+        return merging::answer(x, y, true, a, canon, output, at);
     }
     let Said::Number(place) = fields::number(x) else {
         return out::put(output, at, b"error");
@@ -76,6 +84,14 @@ fn answer_part<'a>(
         return out::put(output, at, b"error");
     };
     let text = fields::part(a, 0, n);
+    if lists::same_bytes(word, b"payload_at") {
+        return put_part(text, place, output, at);
+    }
+    by_line::answer_line(word, place, text, join, canon, output, at)
+}
+
+// The part that is handed back has no place in it, so the range is asked too.
+fn put_part(text: &[u8], place: usize, output: &mut [u8], at: usize) -> usize {
     let r = reader::payload_range(text, place);
     let handed = reader::payload_at(text, place);
     if !lists::same_bytes(handed, fields::part(text, r.from, r.to)) {
@@ -84,20 +100,18 @@ fn answer_part<'a>(
     out::put_two(output, at, b"from ", r.from, b" to ", r.to)
 }
 
-// A word, a place, a mode and a text.
-fn answer_read<'a>(
+// A word, a number, a mode or a number, and a text.
+fn answer_four<'a>(
     word: &'a [u8],
     x: &'a [u8],
     y: &'a [u8],
     z: &'a [u8],
     a: &mut [u8],
+    join: &mut [u8],
     canon: &mut [u8],
     output: &mut [u8],
     at: usize,
 ) -> usize {
-    if !lists::same_bytes(word, b"read_attrs_at") {
-        return out::put(output, at, b"error");
-    }
     let Said::Number(place) = fields::number(x) else {
         return out::put(output, at, b"error");
     };
@@ -105,10 +119,28 @@ fn answer_read<'a>(
         return out::put(output, at, b"error");
     };
     let text = fields::part(a, 0, n);
-    if lists::same_bytes(y, b"strict") {
+    if lists::same_bytes(word, b"read_attrs_at") {
+        return answer_read(y, place, text, canon, output, at);
+    }
+    let Said::Number(line) = fields::number(y) else {
+        return out::put(output, at, b"error");
+    };
+    by_line::answer_column(word, place, line, text, join, canon, output, at)
+}
+
+// A mode, a place and a text.
+fn answer_read<'a>(
+    mode: &'a [u8],
+    place: usize,
+    text: &'a [u8],
+    canon: &mut [u8],
+    output: &mut [u8],
+    at: usize,
+) -> usize {
+    if lists::same_bytes(mode, b"strict") {
         return put_read(text, place, Mode::Strict, canon, output, at);
     }
-    if lists::same_bytes(y, b"loose") {
+    if lists::same_bytes(mode, b"loose") {
         return put_read(text, place, Mode::Loose, canon, output, at);
     }
     out::put(output, at, b"error")

@@ -22,6 +22,7 @@ pub(crate) fn answer_all(
     input: &mut [u8],
     a: &mut [u8],
     b: &mut [u8],
+    join: &mut [u8],
     canon: &mut [u8],
     output: &mut [u8],
 ) {
@@ -32,7 +33,7 @@ pub(crate) fn answer_all(
     };
     let mut turns = u64::MAX;
     while turns > 0 {
-        s = turn(input, a, b, canon, output, s);
+        s = turn(input, a, b, join, canon, output, s);
         if !s.more {
             return;
         }
@@ -45,6 +46,7 @@ fn turn(
     input: &mut [u8],
     a: &mut [u8],
     b: &mut [u8],
+    join: &mut [u8],
     canon: &mut [u8],
     output: &mut [u8],
     s: State,
@@ -52,7 +54,15 @@ fn turn(
     let n = fill(input, s.read);
     let have = added(s.read, n);
     if n == 0 {
-        let at = answer_last(fields::part(input, 0, have), a, b, canon, output, s.at);
+        let at = answer_last(
+            fields::part(input, 0, have),
+            a,
+            b,
+            join,
+            canon,
+            output,
+            s.at,
+        );
         out::flush(output, at);
         return State {
             read: 0,
@@ -60,7 +70,15 @@ fn turn(
             more: false,
         };
     }
-    let done = answer_lines(fields::part(input, 0, have), a, b, canon, output, s.at);
+    let done = answer_lines(
+        fields::part(input, 0, have),
+        a,
+        b,
+        join,
+        canon,
+        output,
+        s.at,
+    );
     let left = shift(input, done.from, have);
     State {
         read: shortened(input, left),
@@ -92,6 +110,7 @@ fn answer_lines(
     lines: &[u8],
     a: &mut [u8],
     b: &mut [u8],
+    join: &mut [u8],
     canon: &mut [u8],
     output: &mut [u8],
     at: usize,
@@ -103,7 +122,15 @@ fn answer_lines(
         if lines.len() <= end {
             return Answered { from, at: to };
         }
-        to = answer_line(fields::part(lines, from, end), a, b, canon, output, to);
+        to = answer_line(
+            fields::part(lines, from, end),
+            a,
+            b,
+            join,
+            canon,
+            output,
+            to,
+        );
         from = end + 1;
     }
     Answered { from, at: to }
@@ -114,11 +141,12 @@ fn answer_line(
     line: &[u8],
     a: &mut [u8],
     b: &mut [u8],
+    join: &mut [u8],
     canon: &mut [u8],
     output: &mut [u8],
     at: usize,
 ) -> usize {
-    let end = answer(line, a, b, canon, output, at);
+    let end = answer(line, a, b, join, canon, output, at);
     let next = out::put_byte(output, end, b'\n');
     if next < 131072 {
         return next;
@@ -131,6 +159,7 @@ fn answer_last(
     line: &[u8],
     a: &mut [u8],
     b: &mut [u8],
+    join: &mut [u8],
     canon: &mut [u8],
     output: &mut [u8],
     at: usize,
@@ -138,7 +167,7 @@ fn answer_last(
     if line.len() == 0 {
         return at;
     }
-    answer_line(line, a, b, canon, output, at)
+    answer_line(line, a, b, join, canon, output, at)
 }
 
 // Moves what waits for its LF to the front of the buffer, and answers how much it is.

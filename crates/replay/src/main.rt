@@ -1,9 +1,11 @@
 // Answers request lines from standard input, one line for each: the Rattle side of the comparison with the Rust.
 mod brace;
+mod by_line;
 mod canon;
 mod fields;
 mod input;
 mod leaves;
+mod merging;
 mod out;
 
 use crate::fields::Said;
@@ -12,8 +14,8 @@ use crate::fields::Said;
 const INPUT: usize = 263000;
 // The longest text of a request.
 const TEXT: usize = 65600;
-// The longest canonical text of a set that is read: a backslash before each byte of its text, and the words around them.
-const CANON: usize = 140000;
+// The join buffer, and the one for canonical text.
+const JOIN: usize = 65535;
 // The longest answer is a sheet's, six times its text and in hex, and stands behind those that wait to be written.
 const OUTPUT: usize = 1048576;
 
@@ -21,9 +23,17 @@ fn main() {
     let mut input = [0u8; INPUT];
     let mut a = [0u8; TEXT];
     let mut b = [0u8; TEXT];
-    let mut canon = [0u8; CANON];
+    let mut join = [255u8; JOIN];
+    let mut canon = [0u8; JOIN];
     let mut output = [0u8; OUTPUT];
-    input::answer_all(&mut input, &mut a, &mut b, &mut canon, &mut output);
+    input::answer_all(
+        &mut input,
+        &mut a,
+        &mut b,
+        &mut join,
+        &mut canon,
+        &mut output,
+    );
 }
 
 // Answers one request, its text or texts laid into a and b, behind what stands in the output up to `at`.
@@ -31,6 +41,7 @@ pub(crate) fn answer(
     line: &[u8],
     a: &mut [u8],
     b: &mut [u8],
+    join: &mut [u8],
     canon: &mut [u8],
     output: &mut [u8],
     at: usize,
@@ -40,8 +51,20 @@ pub(crate) fn answer(
     if lists::same_bytes(first, b"leaf") {
         return leaves::answer(line, f, a, b, output, at);
     }
-    let Said::Number(_) = fields::cap_of(line, f) else {
+    let Said::Number(cap) = fields::cap_of(line, f) else {
         return out::put(output, at, b"error");
     };
-    brace::answer(line, f, fields::count_of(line, f), a, canon, output, at)
+    if join.len() < cap {
+        return out::put(output, at, b"error");
+    }
+    brace::answer(
+        line,
+        f,
+        fields::count_of(line, f),
+        a,
+        &mut join[..cap],
+        canon,
+        output,
+        at,
+    )
 }

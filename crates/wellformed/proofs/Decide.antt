@@ -8,7 +8,7 @@ use native.Mathlib.Nat.{zero-add, add-zero}
 use native.Mathlib.Numerals.{add-one}
 use native.Mathlib.Omega.{arith}
 use lib.Dec.{eqb, ltb}
-use lib.ListN.{length, getD, take, drop, length-take, drop-of-length-le}
+use lib.ListN.{length, getD, take, drop, drop-of-length-le}
 use lib.Seq.{drop-cons, getD-take, length-take-le}
 use borrow.Author.Tests.{ltb-true, ltb-false, lt-ltb, le-leb, not-true, eq-eqb, ne-eqb}
 use Rattle.lists.specs.Lists.{all, headed, same}
@@ -29,7 +29,7 @@ use Rattle.sets.specs.declared.SlotRecord.{SlotRecord}
 use Rattle.sets.specs.declared.Value.{Value}
 use Rattle.sets.specs.declared.Attrs.{Attrs}
 use Rattle.sets.proofs.Keys.{key-none, key-some, key-named, key-before}
-use Rattle.wellformed.specs.WellFormed.{countsOk, nameOk, valueOk, identOk, classOk, keyOk, keysApart, keysOnce, slotsOk, rowsOk, tableOk}
+use Rattle.wellformed.specs.WellFormed.{countsOk, nameOk, valueOk, keyOk, keysApart, keysOnce, slotsOk}
 use Rattle.wellformed.specs.Decide.{presentBy, keysIn, slotsIn}
 
 ands : (a b c d : Bool) → (a && (b && (c && d))) ≡ ((a && (b && c)) && d)

@@ -1,26 +1,28 @@
--- What a well-formed table means is well-formed: the writer's text of it reads back as the same meaning. And when the meaning is empty.
+-- What a well-formed table means is a well-formed meaning, so its canonical text reads back as it; and when it is empty.
 -- Assumes nothing.
 use mathlib.Core.Path.{_≡_, refl, sym, _∙_, ap}
 use mathlib.Core.Bool.{Bool, true, false, cond, not, _&&_}
 use mathlib.Core.List.{List, [], _∷_, map}
-use Prim.Native.Nat.{ℕ, zero, suc, _<_, _≤_}
+use Prim.Native.Nat.{ℕ, suc, _<_, _≤_}
 use native.Mathlib.Omega.{arith}
-use lib.Dec.{eqb, ltb, eqb·suc-suc}
-use lib.ListN.{length, getD, take, length-map}
+use lib.Dec.{ltb}
+use lib.ListN.{length, length-map}
 use lib.Seq.{length-take-le}
-use borrow.Author.Tests.{ltb-true, lt-ltb, eq-eqb, eqb-false}
+use borrow.Author.Tests.{ltb-true, lt-ltb, eqb-false}
 use Rattle.lists.specs.Lists.{all, headed, same}
 use Rattle.lists.proofs.Scan.{both}
 use Rattle.lists.proofs.More.{contra, same-sym}
 use Rattle.ascii.specs.Bytes.{within, isLetter, isDigit, isAlnum, isKeyStart, isNamePart}
+use Rattle.ascii.specs.declared.Mode.the-variants.{Strict}
 use Rattle.names.specs.Names.{isKey}
 use Rattle.grammar.specs.Close.{noLf}
-use Rattle.grammar.specs.Meaning.{Entry, idName, className, isClass, absent, distinct}
+use Rattle.grammar.specs.Meaning.{idName, className, isClass, absent, distinct}
 use Rattle.canon.specs.Canon as canon
-use Rattle.canon.specs.Canon.{every, isClassValue, entryOk, entriesOk, wf}
+use Rattle.canon.specs.Canon.{every, isClassValue, entryOk, entriesOk, wf, Answer, readAt}
+use Rattle.canon.proofs.Back.{back}
 use Rattle.canon.proofs.Parts.{entry-ok, classes-ok, value-ok, joined}
 use Rattle.sets.specs.Types.{Texts, valueBytes, zeroRow}
-use Rattle.sets.specs.Rows.{Rows, noRows, isThere, isSome, slotIn, idValues, slotEntry, meant, rowsIn, meaningOf}
+use Rattle.sets.specs.Rows.{Rows, noRows, isThere, isSome, idValues, slotEntry, meant, rowsIn, meaningOf}
 use Rattle.sets.specs.Shape.{times, isSlot, isPresent, nameAt, Shaped}
 use Rattle.sets.specs.declared.Attrs.{Attrs}
 use Rattle.sets.specs.declared.Id as ids
@@ -31,7 +33,7 @@ use Rattle.sets.specs.declared.Slot.the-variants.{Id, Class, Key}
 use Rattle.sets.specs.declared.Value.{Value}
 use Rattle.sets.proofs.Shaping.{free-parts}
 use Rattle.sets.proofs.Slots.{times-le, times-head}
-use Rattle.wellformed.specs.WellFormed.{textOk, valueOk, identOk, classOk, keyOk, slotsOk, tableOk}
+use Rattle.wellformed.specs.WellFormed.{textOk, valueOk, identOk, classOk, keyOk, tableOk}
 use Rattle.wellformed.proofs.Decide.{every-map}
 use Rattle.wellformed.proofs.Shape.{every-at, slots-named, Passed, keyed, passed-shaped, table-passed}
 
@@ -175,6 +177,10 @@ module _ (t : Texts) (a : Attrs) where
   pub means-wf : tableOk t a ≡ true → wf (meaningOf t a) ≡ true
   unfolding meaningOf
   means-wf e = passed-wf (table-passed t a e)
+
+  -- so its canonical text reads back as it
+  pub reads-back : tableOk t a ≡ true → (meaningOf t a ≡ [] → ⊥) → readAt Strict (canon.canon (meaningOf t a)) 0 ≡ Answer.read (meaningOf t a) (length (canon.canon (meaningOf t a)))
+  reads-back e n = back (meaningOf t a) (means-wf e) n
 
   meaning-length : a .norder ≤ length (a .order) → length (meaningOf t a) ≡ a .norder
   unfolding meaningOf meant rowsIn

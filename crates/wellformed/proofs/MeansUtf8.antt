@@ -1,20 +1,20 @@
 -- What a well-formed table means is UTF-8, name by name and value by value, and so is its canonical text: what is written can be read back.
 -- Assumes nothing.
-use mathlib.Core.Path.{_≡_, refl, sym, _∙_}
-use mathlib.Core.Bool.{Bool, true, false, cond, _&&_, _||_}
+use mathlib.Core.Path.{_≡_, refl, _∙_}
+use mathlib.Core.Bool.{Bool, true, false, cond, _&&_}
 use mathlib.Core.List.{List, [], _∷_, _++_, map}
-use Prim.Native.Nat.{ℕ, _<_, _≤_}
+use Prim.Native.Nat.{ℕ, _≤_}
 use native.Mathlib.Omega.{arith}
 use lib.Dec.{leb, eqb, ltb}
-use lib.ListN.{length, getD}
+use lib.ListN.{length}
 use borrow.Author.Tests.{ltb-true, leb-true, leb-false, le-leb, lt-leb, ne-eqb}
-use Rattle.lists.specs.Lists.{all, headed, isIn}
+use Rattle.lists.specs.Lists.{all, isIn}
 use Rattle.lists.proofs.Scan.{both}
 use Rattle.lists.proofs.More.{contra, all-weaker}
-use Rattle.ascii.specs.Bytes.{within, isLetter, isDigit, isAlnum, isKeyStart, isNamePart, isPunct}
+use Rattle.ascii.specs.Bytes.{within, isLetter, isDigit, isAlnum, isNamePart, isPunct}
 use Rattle.names.specs.Names.{isKey}
 use Rattle.utf8.specs.Grammar as utf8
-use Rattle.utf8.specs.Utf8.{isUtf8, octetsFrom, isBoundary}
+use Rattle.utf8.specs.Utf8.{isUtf8, isBoundary}
 use Rattle.utf8.proofs.Laws.{past-ascii}
 use Rattle.utf8.proofs.Grammar.{char, sound, utf8-append}
 use Rattle.utf8.proofs.Boundaries.{ascii, slice-utf8}
@@ -22,10 +22,10 @@ use Rattle.checks.specs.Check.{isText}
 use Rattle.refusals.specs.Numbers.{maxText}
 use Rattle.escapes.specs.Unescape.{unescape, unescapeFrom}
 use Rattle.grammar.specs.Close.{noLf}
-use Rattle.grammar.specs.Meaning.{Entry, idName, className, langName}
+use Rattle.grammar.specs.Meaning.{Entry, idName, className}
 use Rattle.grammar.proofs.Bytes.{key-parts}
 use Rattle.canon.specs.Canon.{every, escape, Pair, pairText, moreText, pairsText, pairsOf, pairs, canon}
-use Rattle.sets.specs.Types.{Texts, one, rangeBytes, nameBytes, textBytes, valueBytes, zeroRow}
+use Rattle.sets.specs.Types.{Texts, one, rangeBytes, textBytes, valueBytes, zeroRow}
 use Rattle.sets.specs.Rows.{Rows, isThere, idValues, slotEntry, meant, rowsIn, meaningOf}
 use Rattle.sets.specs.Shape.{isPresent}
 use Rattle.sets.specs.declared.Attrs.{Attrs}

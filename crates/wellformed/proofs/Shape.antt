@@ -1,11 +1,11 @@
 -- Rows that pass the tests are shaped as those that are put together, and shaped rows pass the tests that aren't of one row alone.
 -- Assumes nothing.
-use mathlib.Core.Path.{_≡_, refl, sym, _∙_}
+use mathlib.Core.Path.{_≡_, refl, _∙_}
 use mathlib.Core.Bool.{Bool, true, false, cond, _&&_}
 use mathlib.Core.List.{List, [], _∷_}
 use Prim.Native.Nat.{ℕ, zero, suc, _<_}
 use native.Mathlib.Omega.{arith}
-use lib.Dec.{eqb, ltb}
+use lib.Dec.{ltb}
 use lib.ListN.{length, getD}
 use borrow.Author.Tests.{ltb-true, ltb-false, eqb-true, eq-eqb}
 use Rattle.lists.specs.Lists.{same}
@@ -13,7 +13,7 @@ use Rattle.lists.proofs.Scan.{both}
 use Rattle.lists.proofs.More.{contra, same-sym}
 use Rattle.names.specs.Names.{isKey}
 use Rattle.canon.specs.Canon.{every}
-use Rattle.sets.specs.Types.{Texts, one, nameBytes, zeroRow}
+use Rattle.sets.specs.Types.{Texts, nameBytes, zeroRow}
 use Rattle.sets.specs.Rows.{Rows, rowsIn}
 use Rattle.sets.specs.Shape.{times, isSlot, isPresent, nameAt, isFree, Shaped}
 use Rattle.sets.specs.declared.Attrs.{Attrs}

@@ -1,6 +1,6 @@
 -- What is asked of a set that a caller gives, one check after the other.
 -- Assumes nothing.
-use mathlib.Core.Path.{_≡_, refl, sym, _∙_}
+use mathlib.Core.Path.{_≡_, refl, sym}
 use mathlib.Core.Bool.{true, false}
 use mathlib.Core.List.{List, [], _∷_}
 use Prim.Native.Nat.{ℕ, _<_}
@@ -12,18 +12,15 @@ use Rattle.checks.specs.Check.{checkOf}
 use Rattle.checks.specs.declared.Check.{Check}
 use Rattle.checks.specs.declared.Check.the-variants as checks
 use Rattle.canon.specs.Canon.{canon}
-use Rattle.sets.specs.Types.{Texts, one, maxSlots}
-use Rattle.sets.specs.Rows.{isSome, meant, rowsIn, meaningOf}
+use Rattle.sets.specs.Types.{one, maxSlots}
+use Rattle.sets.specs.Rows.{isSome, meaningOf}
 use Rattle.sets.specs.declared.Attrs.{Attrs}
 use Rattle.wellformed.specs.WellFormed.{tableOk}
+use Rattle.wellformed.proofs.Means.{none-means}
 use Rattle.writer.specs.declared.Wrote.{Wrote}
 use Rattle.writer.specs.declared.Wrote.the-variants.{Refused}
 use Rattle.writer.specs.Write.{wroteOf, contentAfter, writable, attrsWrote, attrsContent}
 use Rattle.writer.proofs.Walks.{slots-length}
-
-none-meant : (t : Texts) (a : Attrs) → a .norder ≡ 0 → meaningOf t a ≡ []
-unfolding meaningOf meant rowsIn
-none-meant t a e = rw e
 
 is-some : {A : Type 0} (s : List A) → 0 < length s → isSome s ≡ true
 is-some [] h = absurd (omega arith)
@@ -46,7 +43,7 @@ module _ (t : List ℕ) (a : Attrs) (buf : List ℕ) where
       module _ (f : tableOk (one t) a ≡ true) where
         pub by-none : a .norder ≡ 0 → Answers (Refused EmptySet) buf
         unfolding writable attrsWrote attrsContent
-        by-none z = rw (sym e, p, f, none-meant (one t) a z) (refl, refl)
+        by-none z = rw (sym e, p, f, none-means (one t) a z) (refl, refl)
 
         pub passed : length (a .order) ≡ maxSlots → (a .norder ≡ 0 → ⊥) → {w : Wrote} {b : List ℕ} → w ≡ wroteOf (canon (meaningOf (one t) a)) (length buf) → b ≡ contentAfter buf (canon (meaningOf (one t) a)) → Answers w b
         unfolding writable attrsWrote attrsContent

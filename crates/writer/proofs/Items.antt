@@ -1,10 +1,10 @@
 -- The items of a set one after the other, and what they are together.
 -- Assumes nothing.
 use mathlib.Core.Path.{_≡_, refl, sym, _∙_, ap}
-use mathlib.Core.Bool.{Bool, true, false, cond}
+use mathlib.Core.Bool.{Bool, true, false}
 use mathlib.Core.List.{List, [], _∷_, _++_, append-assoc, append-nil}
-use Prim.Native.Nat.{ℕ, zero, suc, _+_, _≤_, _<_}
-use native.Mathlib.Nat.{add-zero, add-suc, zero-add}
+use Prim.Native.Nat.{ℕ, suc, _+_, _≤_, _<_}
+use native.Mathlib.Nat.{add-zero, add-suc}
 use native.Mathlib.Omega.{arith}
 use borrow.Author.Tests.{ne-eqb, le-leb, lt-leb}
 use Rattle.refusals.specs.declared.Refusal.the-variants.{CanonTooLong}
@@ -12,7 +12,7 @@ use Rattle.writer.specs.declared.Wrote.the-variants.{Refused, Bytes}
 use lib.ListN.{length, set, length-append}
 use lib.Seq.{sets}
 use Rattle.grammar.specs.Meaning.{Entry}
-use Rattle.canon.specs.Canon.{Pair, escape, pairText, moreText, pairsText, pairs, pairsOf, canon}
+use Rattle.canon.specs.Canon.{Pair, escape, pairText, moreText, pairsText, pairs, canon}
 use Rattle.refusals.specs.Numbers.{maxText}
 use Rattle.writer.proofs.Fills.{sets-append}
 use Rattle.writer.proofs.Values.{escape-short, bytes-short, raw-value}

@@ -5,3 +5,5 @@ pub mod Items
 pub mod Walks
 pub mod Room
 pub mod Given
+pub mod Numbers
+pub mod Back

@@ -3,19 +3,19 @@
 use mathlib.Core.Path.{_≡_, refl, sym, _∙_}
 use mathlib.Core.Bool.{Bool, true, false, cond}
 use mathlib.Core.List.{List, [], _∷_, _++_}
-use Prim.Native.Nat.{ℕ, suc, _+_, _-_, _<_, _≤_, zero-le, min}
+use Prim.Native.Nat.{ℕ, suc, _+_, _-_, _<_, _≤_, zero-le}
 use native.Mathlib.Nat.{add-zero}
 use native.Mathlib.Numerals.{add-one}
 use native.Mathlib.Omega.{arith}
 use borrow.Author.Tests.{leb-true, leb-false}
 use lib.Dec.{leb}
-use lib.ListN.{length, getD, drop, take, drop-of-length-le, length-append, length-take}
+use lib.ListN.{length, getD, drop, drop-of-length-le, length-append, length-take}
 use lib.Seq.{drop-cons, sets}
 use Rattle.lists.proofs.Parts.{slice-part}
 use Rattle.lists.specs.Lists.{isIn}
 use Rattle.escapes.specs.declared.Piece.{Piece}
 use Rattle.escapes.specs.declared.Piece.the-variants.{End, Byte}
-use Rattle.escapes.specs.Unescape.{unescape, pieceAt}
+use Rattle.escapes.specs.Unescape.{unescape}
 use Rattle.escapes.proofs.Pieces.{byte-at, end-at, unescape-le}
 use Rattle.canon.specs.Canon.{escape}
 use Rattle.refusals.specs.Numbers.{maxText}

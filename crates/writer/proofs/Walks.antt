@@ -20,7 +20,6 @@ use Rattle.sets.specs.declared.Value.{Value}
 use Rattle.sets.specs.declared.Name.{Name}
 use Rattle.sets.specs.declared.Name.the-variants.{Range, Lang}
 use Rattle.sets.specs.declared.Attrs.{Attrs}
-use Rattle.sets.specs.declared.SlotRecord.{SlotRecord}
 use Rattle.sets.specs.declared.Row.{Row}
 use Rattle.sets.specs.declared.Slot.{Slot}
 use Rattle.sets.specs.declared.Slot.the-variants.{Id, Class, Key}

@@ -4,7 +4,7 @@ use mathlib.Core.Bool.{Bool, true, false, cond, _&&_}
 use mathlib.Core.List.{List, _++_}
 use lib.Dec.{leb}
 use lib.ListN.{length, drop}
-use Rattle.refusals.specs.Numbers.{maxText}
+use Rattle.refusals.specs.Numbers.{maxText, numberOf}
 use Rattle.refusals.specs.declared.Refusal.{Refusal}
 use Rattle.refusals.specs.declared.Refusal.the-variants.{CanonTooLong, NotWellFormed, EmptySet}
 use Rattle.checks.specs.Check.{checkOf}
@@ -17,6 +17,11 @@ use Rattle.sets.specs.declared.Attrs.{Attrs}
 use Rattle.wellformed.specs.WellFormed.{tableOk}
 use Rattle.writer.specs.declared.Wrote.{Wrote}
 use Rattle.writer.specs.declared.Wrote.the-variants.{Refused, Bytes}
+
+-- the number of an answer: 0 where the text is written
+abbrev pub wroteNo : Wrote → ℕ
+wroteNo (Refused r) = numberOf r
+wroteNo (Bytes n) = 0
 
 -- "canonical text above 65,535 bytes or the lent buffer": not so for a text of n bytes
 unfoldable pub hasRoom : ℕ → ℕ → Bool

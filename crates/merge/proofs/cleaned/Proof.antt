@@ -1,40 +1,27 @@
 use lib.ListN.{length-map}
-use native.Mathlib.Omega.{arith}
 use Rattle.merge.proofs.Fronts as fronts
 use borrow.Author.Needs.{needs}
 use Rattle.merge.proofs.cleaned.Statement.{statement}
 use Rattle.merge.proofs.cleaned.Tie as tie
-use Rattle.merge.proofs.cleaned.Reads as reads
-use Rattle.merge.proofs.cleaned.Lts as lts
-use Rattle.merge.proofs.first_classes.Reads as first-classes-reads
-use Rattle.merge.proofs.first_keys.Reads as first-keys-reads
-use Rattle.merge.proofs.first_slots.Reads as first-slots-reads
 
--- src/lib.rt:109:37
 cast-first-classes : tie.Need-cast-first-classes
 cast-first-classes c = search needs
 
--- src/lib.rt:109:9
 first-classes-requires : tie.Need-first-classes-requires
 first-classes-requires c κs = search needs
 
--- src/lib.rt:110:31
 cast-first-keys : tie.Need-cast-first-keys
 cast-first-keys c = search needs
 
--- src/lib.rt:110:9
 first-keys-requires : tie.Need-first-keys-requires
 first-keys-requires c κs = search needs
 
--- src/lib.rt:111:33
 cast-first-slots : tie.Need-cast-first-slots
 cast-first-slots c = search needs
 
--- src/lib.rt:111:9
 first-slots-requires : tie.Need-first-slots-requires
 first-slots-requires c κs = search needs
 
--- src/lib.rt:101:1
 returns : tie.Need-returns
 returns c = rw ((c .before .before .before .before .first-classes .ensures), (c .before .before .first-keys .ensures), (c .first-slots .ensures)) (fronts.cleaned-is _ (simp length-map at (c .before .before .before .before .before .before .before .before .before .before .good .0 .1 .1 .1 .0 .1 .0 .1)) (simp length-map at (c .before .before .before .before .before .before .before .before .before .before .good .0 .1 .1 .1 .1 .1 .0 .1 .0 .1)) (simp length-map at (c .before .before .before .before .before .before .before .before .before .before .good .0 .1 .1 .1 .1 .1 .1 .1 .0 .1 .0 .1)) (c .before .before .before .before .before .before .before .before .before .before .pre))
 

@@ -5,8 +5,6 @@ use Rattle.sets.specs.Types.{maxClasses, zeroValue}
 use Rattle.merge.proofs.Fronts as fronts
 use Rattle.merge.proofs.first_classes.Statement.{statement}
 use Rattle.merge.proofs.first_classes.Tie as tie
-use Rattle.merge.proofs.first_classes.Reads as reads
-use Rattle.merge.proofs.first_classes.Lts as lts
 
 abbrev Inv-loop : tie.InvT-loop
 Inv-loop n from out₀ i₀ out i = fronts.Copies maxClasses zeroValue from n out i
@@ -14,39 +12,30 @@ Inv-loop n from out₀ i₀ out i = fronts.Copies maxClasses zeroValue from n ou
 abbrev μ-loop : tie.MeasureT-loop
 μ-loop n from out₀ i₀ out i = n - i
 
--- src/lib.rt:35:5
 loop-holds : tie.Need-loop-holds Inv-loop μ-loop
 loop-holds c = fronts.start _ _ _ _
 
--- src/lib.rt:36:18
 mul-out : tie.Need-mul-out Inv-loop μ-loop
 mul-out c = omega (arith, (c .before .before .pre))
 
--- src/lib.rt:36:18
 array-copy-out-out : tie.Need-array-copy-out-out Inv-loop μ-loop
 array-copy-out-out c = omega (arith, (c .before .before .pre))
 
--- src/lib.rt:36:9
 mul-out-2 : tie.Need-mul-out-2 Inv-loop μ-loop
 mul-out-2 c = omega (arith, (c .before .before .before .pre))
 
--- src/lib.rt:36:9
 array-set-from-out : tie.Need-array-set-from-out Inv-loop μ-loop
 array-set-from-out c = omega (arith, (c .before .before .before .pre))
 
--- src/lib.rt:37:9
 add-i : tie.Need-add-i Inv-loop μ-loop
 add-i c = omega (arith, (c .before .before .before .pre))
 
--- src/lib.rt:35:5
 loop-less : tie.Need-loop-less Inv-loop μ-loop
 loop-less c = search needs
 
--- src/lib.rt:35:5
 loop-again : tie.Need-loop-again Inv-loop μ-loop
 loop-again c = fronts.go (c .before .before .loop .inv) ((c .before .before .before .good) .0 .1 .0 .1) (c .before .before .before .pre) (c .before .loop-test .taken)
 
--- src/lib.rt:26:1
 returns : tie.Need-returns Inv-loop μ-loop
 returns c = fronts.end (c .before .loop .inv) (omega arith)
 

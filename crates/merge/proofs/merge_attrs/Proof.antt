@@ -5,67 +5,46 @@ use Rattle.merge.proofs.Whole as whole
 use borrow.Author.Needs.{needs}
 use Rattle.merge.proofs.merge_attrs.Statement.{statement}
 use Rattle.merge.proofs.merge_attrs.Tie as tie
-use Rattle.merge.proofs.merge_attrs.Reads as reads
-use Rattle.merge.proofs.merge_attrs.Lts as lts
-use Rattle.checks.proofs.check_text.Reads as check-text-reads
-use Rattle.merge.proofs.cleaned.Reads as cleaned-reads
-use Rattle.merge.proofs.merge_rows.Reads as merge-rows-reads
-use Rattle.merge.proofs.refusing.Reads as refusing-reads
-use Rattle.merge.proofs.table_ok.Reads as table-ok-reads
 
--- src/lib.rt:257:11
 check-text-requires : tie.Need-check-text-requires
 check-text-requires c κs = search needs
 
--- src/lib.rt:258:24
 enum-known-r : tie.Need-enum-known-r
 enum-known-r c = search needs
 
--- src/lib.rt:258:30
 refusing-requires : tie.Need-refusing-requires
 refusing-requires c κs = search needs
 
--- src/lib.rt:260:17
 enum-told : tie.Need-enum-told
 enum-told c = search needs
 
--- src/lib.rt:260:17
 table-ok-requires : tie.Need-table-ok-requires
 table-ok-requires c κs = search needs
 
--- src/lib.rt:261:17
 refusing-requires-2 : tie.Need-refusing-requires-2
 refusing-requires-2 c κs = search needs
 
--- src/lib.rt:261:17
 returns : tie.Need-returns
 returns c = whole.first-bad _ _ _ (c .before .before .before .before .before .check-text .ensures) ((c .before .before .before .enum-told .given) .1) (sym (c .before .before .table-ok .ensures) ∙ not-true _ (c .before .if1 .taken)) (c .refusing2 .ensures)
 
--- src/lib.rt:263:17
 table-ok-requires-2 : tie.Need-table-ok-requires-2
 table-ok-requires-2 c κs = search needs
 
--- src/lib.rt:264:17
 refusing-requires-3 : tie.Need-refusing-requires-3
 refusing-requires-3 c κs = search needs
 
--- src/lib.rt:264:17
 returns-2 : tie.Need-returns-2
 returns-2 c = whole.second-bad _ _ _ (c .before .before .before .before .before .before .before .check-text .ensures) ((c .before .before .before .before .before .enum-told .given) .1) (sym (c .before .before .before .before .table-ok .ensures) ∙ not-false _ (c .before .before .before .if1 .left)) (sym (c .before .before .table-ok2 .ensures) ∙ not-true _ (c .before .if2 .taken)) (c .refusing3 .ensures)
 
--- src/lib.rt:266:30
 cleaned-requires : tie.Need-cleaned-requires
 cleaned-requires c κs = whole.counts (one ((c .before .before .before .before .before .before .before .before .args .text .now))) _ (sym (c .before .before .before .table-ok .ensures) ∙ not-false _ (c .before .before .if1 .left))
 
--- src/lib.rt:266:13
 merge-rows-requires : tie.Need-merge-rows-requires
 merge-rows-requires c κs = (whole.held-clean (one ((c .before .before .before .before .before .before .before .before .before .args .text .now))) _ (sym (c .before .before .before .before .table-ok .ensures) ∙ not-false _ (c .before .before .before .if1 .left)) (c .cleaned .ensures), whole.sound (one ((c .before .before .before .before .before .before .before .before .before .args .text .now))) _ (sym (c .before .before .table-ok2 .ensures) ∙ not-false _ (c .before .if2 .left)))
 
--- src/lib.rt:254:1
 returns-3 : tie.Need-returns-3
 returns-3 c = whole.by-check _ _ _ (c .before .before .before .before .check-text .ensures) ((c .before .before .r .given) .1) (c .refusing .ensures)
 
--- src/lib.rt:254:1
 returns-4 : tie.Need-returns-4
 returns-4 c = whole.both-good _ _ _ (c .before .before .before .before .before .before .before .before .check-text .ensures) ((c .before .before .before .before .before .before .enum-told .given) .1) (sym (c .before .before .before .before .before .table-ok .ensures) ∙ not-false _ (c .before .before .before .before .if1 .left)) (sym (c .before .before .before .table-ok2 .ensures) ∙ not-false _ (c .before .before .if2 .left)) (c .before .cleaned .ensures) (c .merge-rows .ensures)
 

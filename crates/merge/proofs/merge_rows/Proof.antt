@@ -1,5 +1,4 @@
 use native.Mathlib.Omega.{arith}
-use mathlib.Core.Path.{refl}
 use Prim.Native.Nat.{_-_}
 use borrow.Author.Needs.{needs}
 use borrow.Author.Tests.{not-true, not-false}
@@ -8,10 +7,6 @@ use Rattle.sets.specs.Types.{one}
 use Rattle.merge.proofs.Rest as rest
 use Rattle.merge.proofs.merge_rows.Statement.{statement}
 use Rattle.merge.proofs.merge_rows.Tie as tie
-use Rattle.merge.proofs.merge_rows.Reads as reads
-use Rattle.merge.proofs.merge_rows.Lts as lts
-use Rattle.merge.proofs.put_slot.Reads as put-slot-reads
-use Rattle.merge.proofs.refusing.Reads as refusing-reads
 
 abbrev Inv-loop : tie.InvT-loop
 Inv-loop text b n set₀ i₀ set i = rest.Merges (one text) set₀ b set i
@@ -19,67 +14,51 @@ Inv-loop text b n set₀ i₀ set i = rest.Merges (one text) set₀ b set i
 abbrev μ-loop : tie.MeasureT-loop
 μ-loop text b n set₀ i₀ set i = n - i
 
--- src/lib.rt:230:25
 cast-if1 : tie.Need-cast-if1 Inv-loop μ-loop
 cast-if1 c = search needs
 
--- src/lib.rt:230:45
 cast-if1-2 : tie.Need-cast-if1-2 Inv-loop μ-loop
 cast-if1-2 c = search needs
 
--- src/lib.rt:230:25
 add-if1 : tie.Need-add-if1 Inv-loop μ-loop
 add-if1 c = search needs
 
--- src/lib.rt:231:9
 refusing-requires : tie.Need-refusing-requires Inv-loop μ-loop
 refusing-requires c κs = search needs
 
--- src/lib.rt:231:9
 returns : tie.Need-returns Inv-loop μ-loop
 returns c = rest.over-classes _ ((c .before .before .before .before .pre) .0) ((c .before .before .before .before .pre) .1) (simp length-map at ((c .before .before .before .before .good) .1 .1 .0 .1 .1 .1 .0 .1 .0 .1)) (c .before .if1 .taken) (c .refusing .ensures)
 
--- src/lib.rt:233:13
 cast-n : tie.Need-cast-n Inv-loop μ-loop
 cast-n c = search needs
 
--- src/lib.rt:236:5
 loop-holds : tie.Need-loop-holds Inv-loop μ-loop
 loop-holds c = rest.start _ ((c .before .before .before .pre) .0) ((c .before .before .before .pre) .1) (simp length-map at ((c .before .before .before .good) .1 .1 .0 .1 .1 .1 .0 .1 .0 .1)) (c .if1 .left)
 
--- src/lib.rt:237:21
 mul-place : tie.Need-mul-place Inv-loop μ-loop
 mul-place c = omega (arith, (c .before .before .before .before .before .pre) .1 .norder)
 
--- src/lib.rt:237:21
 element-copy-out-place : tie.Need-element-copy-out-place Inv-loop μ-loop
 element-copy-out-place c = omega (arith, (c .before .before .before .before .before .pre) .1 .norder)
 
--- src/lib.rt:239:13
 put-slot-requires : tie.Need-put-slot-requires Inv-loop μ-loop
 put-slot-requires c κs = ((c .before .before .loop .inv .held), rest.present (c .before .before .loop .inv) ((c .before .before .before .before .before .before .pre) .1) (simp length-map at ((c .before .before .before .before .before .before .good) .1 .1 .0 .1 .1 .1 .1 .1 .1 .1 .0 .1 .0 .1)) (c .before .loop-test .taken) (simp length-map at ((c .before .before .before .before .before .before .good) .1 .1 .0 .1 .1 .1 .0 .1 .0 .1)) (simp length-map at ((c .before .before .before .before .before .before .good) .1 .1 .0 .1 .1 .1 .1 .1 .0 .1 .0 .1)))
 
--- src/lib.rt:241:13
 refusing-requires-2 : tie.Need-refusing-requires-2 Inv-loop μ-loop
 refusing-requires-2 c κs = search needs
 
--- src/lib.rt:241:13
 returns-2 : tie.Need-returns-2 Inv-loop μ-loop
 returns-2 c = rest.over-keys (c .before .before .before .before .before .before .loop .inv) ((c .before .before .before .before .before .before .before .before .before .before .pre) .1) (simp length-map at ((c .before .before .before .before .before .before .before .before .before .before .good) .1 .1 .0 .1 .1 .1 .1 .1 .1 .1 .0 .1 .0 .1)) (c .before .before .before .before .before .loop-test .taken) (c .before .before .before .put-slot .ensures) (not-true _ (c .before .if2 .taken)) (c .refusing2 .ensures)
 
--- src/lib.rt:244:9
 add-i : tie.Need-add-i Inv-loop μ-loop
 add-i c = omega (arith, (c .before .before .before .before .before .before .before .before .before .before .pre) .1 .norder)
 
--- src/lib.rt:236:5
 loop-less : tie.Need-loop-less Inv-loop μ-loop
 loop-less c = search needs
 
--- src/lib.rt:236:5
 loop-again : tie.Need-loop-again Inv-loop μ-loop
 loop-again c = rest.next (c .before .before .before .before .before .before .loop .inv) ((c .before .before .before .before .before .before .before .before .before .before .pre) .1) (simp length-map at ((c .before .before .before .before .before .before .before .before .before .before .good) .1 .1 .0 .1 .1 .1 .1 .1 .1 .1 .0 .1 .0 .1)) (c .before .before .before .before .before .loop-test .taken) (c .before .before .before .put-slot .ensures) (not-false _ (c .before .if2 .left))
 
--- src/lib.rt:226:1
 returns-3 : tie.Need-returns-3 Inv-loop μ-loop
 returns-3 c = rest.end (c .before .loop .inv) (simp length-map at ((c .before .before .before .before .before .good) .1 .1 .0 .1 .1 .1 .1 .1 .1 .1 .0 .1 .0 .1)) ((c .before .before .before .before .before .pre) .1 .norder) (omega arith)
 

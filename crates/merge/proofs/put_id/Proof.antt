@@ -6,38 +6,28 @@ use Rattle.merge.proofs.Tables as tables
 use borrow.Author.Needs.{needs}
 use Rattle.merge.proofs.put_id.Statement.{statement}
 use Rattle.merge.proofs.put_id.Tie as tie
-use Rattle.merge.proofs.put_id.Reads as reads
-use Rattle.merge.proofs.put_id.Lts as lts
 
--- src/lib.rt:126:25
 enum-told : tie.Need-enum-told
 enum-told c = search needs
 
--- src/lib.rt:128:21
 enum-told-2 : tie.Need-enum-told-2
 enum-told-2 c = search needs
 
--- src/lib.rt:128:21
 cast-p : tie.Need-cast-p
 cast-p c = search needs
 
--- src/lib.rt:129:13
 mul-t13 : tie.Need-mul-t13
 mul-t13 c = search needs
 
--- src/lib.rt:129:13
 element-set-from-set : tie.Need-element-set-from-set
 element-set-from-set c = omega (arith, fills.room-id (tables.holds (c .before .before .before .pre)) (ap isThere ((c .enum-told2 .given) .1)))
 
--- src/lib.rt:130:26
 add-set : tie.Need-add-set
 add-set c = omega (arith, fills.few (tables.holds (c .before .before .before .pre)))
 
--- src/lib.rt:116:1
 returns : tie.Need-returns
 returns c = λ t. tables.after (fills.id-again (tables.holds (c .before .before .before .pre)) t _ (ap isThere ((c .enum-told .given) .1)))
 
--- src/lib.rt:116:1
 returns-2 : tie.Need-returns-2
 returns-2 c = λ t. tables.after (fills.id-first (tables.holds (c .before .before .before .pre)) t _ (ap isThere ((c .enum-told2 .given) .1)))
 

@@ -4,73 +4,52 @@ use Rattle.merge.proofs.Tables as tables
 use borrow.Author.Needs.{needs}
 use Rattle.merge.proofs.put_slot.Statement.{statement}
 use Rattle.merge.proofs.put_slot.Tie as tie
-use Rattle.merge.proofs.put_slot.Reads as reads
-use Rattle.merge.proofs.put_slot.Lts as lts
-use Rattle.merge.proofs.put_classes.Reads as put-classes-reads
-use Rattle.merge.proofs.put_id.Reads as put-id-reads
-use Rattle.merge.proofs.put_key.Reads as put-key-reads
 
--- src/lib.rt:200:17
 enum-told : tie.Need-enum-told
 enum-told c = search needs
 
--- src/lib.rt:203:32
 enum-told-2 : tie.Need-enum-told-2
 enum-told-2 c = search needs
 
--- src/lib.rt:204:27
 enum-known-id : tie.Need-enum-known-id
 enum-known-id c = search needs
 
--- src/lib.rt:206:26
 put-id-requires : tie.Need-put-id-requires
 put-id-requires c κs = search needs
 
--- src/lib.rt:211:17
 enum-told-3 : tie.Need-enum-told-3
 enum-told-3 c = search needs
 
--- src/lib.rt:214:46
 cast-put-classes : tie.Need-cast-put-classes
 cast-put-classes c = search needs
 
--- src/lib.rt:214:22
 put-classes-requires : tie.Need-put-classes-requires
 put-classes-requires c κs = ((c .before .before .before .before .pre) .0, tables.class-fits ((c .before .before .before .before .pre) .1) ((c .before .enum-told3 .given) .1))
 
--- src/lib.rt:217:19
 enum-known-slot : tie.Need-enum-known-slot
 enum-known-slot c = search needs
 
--- src/lib.rt:218:30
 cast-row : tie.Need-cast-row
 cast-row c = search needs
 
--- src/lib.rt:218:23
 mul-row : tie.Need-mul-row
 mul-row c = search needs
 
--- src/lib.rt:218:23
 element-copy-out-row : tie.Need-element-copy-out-row
 element-copy-out-row c = omega (arith, tables.key-there ((c .before .before .before .before .pre) .1) ((c .before .slot .given) .1), (c .before .before .before .before .pre) .1 .nkey)
 
--- src/lib.rt:220:13
 put-key-requires : tie.Need-put-key-requires
 put-key-requires c κs = search needs
 
--- src/lib.rt:194:1
 returns : tie.Need-returns
 returns c = rw (tables.puts-none (c .before .before .before .before .before .before .args .t3) ((c .before .before .before .enum-told .given) .1) ((c .enum-told2 .given) .1)) (tables.fits refl (tables.after-none ((c .before .before .before .before .before .before .pre) .0)))
 
--- src/lib.rt:194:1
 returns-2 : tie.Need-returns-2
 returns-2 c = rw (tables.puts-id (c .before .before .before .before .before .before .before .before .args .t3) ((c .before .before .before .before .before .enum-told .given) .1) ((c .before .before .id .given) .1)) (tables.fits refl ((c .put-id .ensures) _))
 
--- src/lib.rt:194:1
 returns-3 : tie.Need-returns-3
 returns-3 c = rw (tables.puts-classes (c .before .before .before .before .before .args .t3) ((c .before .before .enum-told3 .given) .1)) (tables.fits refl ((c .put-classes .ensures) _))
 
--- src/lib.rt:194:1
 returns-4 : tie.Need-returns-4
 returns-4 c = rw (tables.puts-key (c .before .before .before .before .before .before .args .t3) ((c .before .before .before .slot .given) .1) (tables.key-there ((c .before .before .before .before .before .before .pre) .1) ((c .before .before .before .slot .given) .1))) (c .put-key .ensures)
 

@@ -1,5 +1,4 @@
 use Prim.Native.Nat.{_-_}
-use mathlib.Core.Path.{sym, _∙_}
 use native.Mathlib.Omega.{arith}
 use mathlib.Core.List.{map}
 use borrow.Author.Needs.{needs}
@@ -26,13 +25,13 @@ times-in-requires : tie.Need-times-in-requires Inv-loop μ-loop
 times-in-requires c κs = search needs
 
 returns : tie.Need-returns Inv-loop μ-loop
-returns c = laws.once-stop (c .before .before .before .loop .inv) (omega arith) (λ e. (c .if1 .taken) ((c .before .times-in .ensures) ∙ e))
+returns c = laws.once-stop (c .before .before .before .loop .inv) (omega arith) (λ e. absurd (omega (arith, (c .if1 .taken), (c .before .times-in .ensures), e)))
 
 loop-less : tie.Need-loop-less Inv-loop μ-loop
 loop-less c = omega arith
 
 loop-again : tie.Need-loop-again Inv-loop μ-loop
-loop-again c = laws.once-go (c .before .before .before .loop .inv) (omega arith) (sym (c .before .times-in .ensures) ∙ (c .if1 .left))
+loop-again c = laws.once-go (c .before .before .before .loop .inv) (omega arith) (omega (arith, (c .before .times-in .ensures), (c .if1 .left)))
 
 returns-2 : tie.Need-returns-2 Inv-loop μ-loop
 returns-2 c = laws.once-end (c .before .loop .inv) (omega arith)

@@ -1,0 +1,4 @@
+-- The laws about blocks that later crates cite.
+pub mod Trimmed
+pub mod Finds
+pub mod Starts

@@ -1,0 +1,191 @@
+-- Blocks by lines: which lines a block takes, what it reads, and the entries by line number.
+use Prim.Native.Nat.{ℕ, suc, _+_}
+use mathlib.Core.Bool.{Bool, true, false, cond}
+use mathlib.Core.List.{List, [], _∷_, _++_, map}
+use lib.Dec.{eqb, ltb}
+use lib.ListN.{length, drop}
+use Rattle.ascii.specs.Bytes.{isIndent}
+use Rattle.ascii.specs.declared.Mode.the-variants.{Loose}
+use Rattle.refusals.specs.Numbers.{maxText, numberOf}
+use Rattle.refusals.specs.declared.Refusal.{Refusal}
+use Rattle.refusals.specs.declared.Refusal.the-variants.{TextTooLong, NothingThere, NoReading}
+use Rattle.checks.specs.Check.{checkOf}
+use Rattle.checks.specs.declared.Check as checks
+use Rattle.checks.specs.declared.Check.the-variants as check
+use Rattle.lines.specs.Lines.{lines, firstOf, lineFrom, lineOf}
+use Rattle.lines.specs.Trim.{trim, trimRange}
+use Rattle.lines.specs.declared.Line as places
+use Rattle.lines.specs.declared.Line.the-variants as place
+use Rattle.payloads.specs.Payloads.{beginsOpen, endsInClose}
+use Rattle.chain.specs.Chain.{goodLine}
+use Rattle.fill.specs.Fill.{refusing, chainAt}
+use Rattle.fill.specs.declared.Filled.{Filled}
+use Rattle.fill.specs.declared.Outcome as outcomes
+use Rattle.fill.specs.declared.Outcome.the-variants as outcome
+use Rattle.runs.specs.Runs.{Run, runAt, pastLines}
+use Rattle.runs.specs.declared.Stop as stops
+use Rattle.runs.specs.declared.Stop.the-variants as stop
+use Rattle.blocks.specs.declared.Front.{Front}
+use Rattle.blocks.specs.declared.Length as lengths
+use Rattle.blocks.specs.declared.Length.the-variants as lengthIs
+use Rattle.blocks.specs.declared.Start as starts
+use Rattle.blocks.specs.declared.Start.the-variants as start
+use Rattle.blocks.specs.declared.Measure.{Measure}
+use Rattle.blocks.specs.declared.Block.{Block}
+
+-- ---- the line that begins at a place, trimmed
+
+unfoldable pub lineAt : List ℕ → ℕ → List ℕ
+lineAt t at = firstOf (lines (drop at t))
+
+unfoldable pub frontOf : List ℕ → ℕ → Front
+frontOf t at = record { from = at + trimRange (lineAt t at) .from; to = at + trimRange (lineAt t at) .to; next = lineFrom t at .next }
+
+-- "trimmed line doesn't start with `{`"
+unfoldable pub opensAt : List ℕ → ℕ → Bool
+opensAt t at = beginsOpen (trim (lineAt t at))
+
+-- ---- which lines a block takes
+
+-- one good line; a good run; or neither, with what was joined by then and the lookahead
+pub data Found : Type 0 where
+  line : Found
+  run : Run → Found
+  none : Refusal → List ℕ → ℕ → Found
+
+abbrev pub nothing : Refusal → Found
+nothing r = Found.none r [] 0
+
+-- "The run ends at the first line with a `}` after which the joined text holds no open block; that text must then be a good line."
+abbrev pub closedRun : Run → Bool → Found
+closedRun r good = cond good (Found.run r) (Found.none NoReading (r .text) (r .lookahead))
+
+abbrev pub ended : Run → stops.Stop → Found
+ended r stop.Closed = closedRun r (goodLine (r .text) 0 (length (r .text)))
+ended r (stop.Refused q) = Found.none q (r .text) (r .lookahead)
+
+-- the run from the line at `at` on, in a join buffer of `cap` bytes; the first line's brace column is `base` more
+unfoldable pub runFound : List ℕ → ℕ → ℕ → ℕ → Found
+runFound t at base cap = ended (runAt cap base t at) (runAt cap base t at .stop)
+
+-- "A block is one good line, else, if the first line's trimmed end isn't `}`, a wrapped run"
+unfoldable pub found : List ℕ → ℕ → ℕ → ℕ → Found
+found t at base cap =
+    cond (opensAt t at)
+    (cond (goodLine t (frontOf t at .from) (frontOf t at .to)) Found.line
+    (cond (endsInClose (trim (lineAt t at))) (nothing NoReading)
+    (runFound t at base cap)))
+    (nothing NothingThere)
+
+-- `wrapped_attrs_run_at`: a run, also of one good line
+unfoldable pub wrapped : List ℕ → ℕ → ℕ → ℕ → Found
+wrapped t at base cap = cond (opensAt t at) (runFound t at base cap) (nothing NothingThere)
+
+-- ---- what is joined: "After every call the join buffer holds the joined lines at its front, the rest untouched."
+
+abbrev pub joinedIn : Found → List ℕ
+joinedIn Found.line = []
+joinedIn (Found.run r) = r .text
+joinedIn (Found.none q x n) = x
+
+abbrev pub lookaheadOf : Found → ℕ
+lookaheadOf Found.line = 0
+lookaheadOf (Found.run r) = r .lookahead
+lookaheadOf (Found.none q x n) = n
+
+abbrev pub linesOf : Found → ℕ
+linesOf Found.line = 1
+linesOf (Found.run r) = r .lines
+linesOf (Found.none q x n) = 0
+
+unfoldable pub joinHolds : List ℕ → Found → List ℕ
+joinHolds buf f = joinedIn f ++ drop (length (joinedIn f)) buf
+
+-- ---- measuring: "Measuring never gives 6 to 8"
+
+abbrev pub lengthOf : Found → lengths.Length
+lengthOf Found.line = lengthIs.Lines 1
+lengthOf (Found.run r) = lengthIs.Lines (r .lines)
+lengthOf (Found.none q x n) = lengthIs.Refused q
+
+-- with the place behind the block
+unfoldable pub measured : List ℕ → ℕ → Found → Measure
+measured t at f = record { length = lengthOf f; lookahead = lookaheadOf f; joined = length (joinedIn f); next = pastLines (linesOf f) t at }
+
+-- ---- reading: a good line over the lent text, a run over the joined text
+
+abbrev pub filledBy : List ℕ → ℕ → Found → Filled
+filledBy t at Found.line = chainAt Loose t (frontOf t at .from) (frontOf t at .to)
+filledBy t at (Found.run r) = chainAt Loose (r .text) 0 (length (r .text))
+filledBy t at (Found.none q x n) = refusing q
+
+-- whether the grammar refuses: 5
+abbrev pub isUnread : outcomes.Outcome → Bool
+isUnread outcome.Done = false
+isUnread (outcome.Refused r) = eqb (numberOf r) (numberOf NoReading)
+
+abbrev pub blockBy : Filled → ℕ → ℕ → ℕ → ℕ → Block
+blockBy f n look joined next = record { outcome = f .outcome; set = f .set; lines = n; lookahead = look; joined = joined; next = next }
+
+abbrev pub unread : Refusal → ℕ → ℕ → ℕ → Block
+unread r look joined at = blockBy (refusing r) 0 look joined at
+
+unfoldable pub blockOf : List ℕ → ℕ → Found → Block
+blockOf t at f = blockBy (filledBy t at f) (linesOf f) (lookaheadOf f) (length (joinedIn f)) (pastLines (linesOf f) t at)
+
+-- a text above the size is refused before anything is read
+unfoldable pub sized : List ℕ → Found → Found
+sized t f = cond (ltb maxText (length t)) (nothing TextTooLong) f
+
+-- ---- the entries by line number: "elsewhere 1, 2, 3, .."
+
+-- where the line of a number begins, or 1, 2, or 3: "no such line"
+abbrev pub begun : checks.Check → places.Line → starts.Start
+begun (check.Refused r) l = start.Refused r
+begun check.Passed place.Missing = start.Refused NothingThere
+begun check.Passed (place.At r) = start.At (r .from)
+
+unfoldable pub startAt : List ℕ → ℕ → starts.Start
+startAt t n = begun (checkOf t) (lineOf n t)
+
+abbrev pub onStart : {A : Type 0} → (Refusal → A) → (ℕ → A) → starts.Start → A
+onStart f g (start.Refused r) = f r
+onStart f g (start.At at) = g at
+
+-- the line's place, 0 where there is none
+abbrev pub placeOf : List ℕ → ℕ → ℕ
+placeOf t n = onStart (λ r. 0) (λ at. at) (startAt t n)
+
+-- `parse_standalone_attrs`: the line alone, no run
+unfoldable pub lineRead : List ℕ → ℕ → Filled
+lineRead t at = cond (opensAt t at) (chainAt Loose t (frontOf t at .from) (frontOf t at .to)) (refusing NothingThere)
+
+unfoldable pub parseStandalone : List ℕ → ℕ → Filled
+parseStandalone t n = onStart refusing (lineRead t) (startAt t n)
+
+-- `parse_standalone_attrs_block`, and `attrs_block_len_at` of a column: "adds its column to the first line's brace column"
+unfoldable pub blockFound : List ℕ → ℕ → ℕ → ℕ → Found
+blockFound t n base cap = onStart nothing (λ at. found t at base cap) (startAt t n)
+
+unfoldable pub wrappedFound : List ℕ → ℕ → ℕ → ℕ → Found
+wrappedFound t n base cap = onStart nothing (λ at. wrapped t at base cap) (startAt t n)
+
+-- "for `standalone_attrs_block_len`, first line starts with space or tab"
+abbrev pub beginsIndented : List ℕ → Bool
+beginsIndented [] = false
+beginsIndented (b ∷ s) = isIndent b
+
+unfoldable pub flushLeft : List ℕ → ℕ → ℕ → Found
+flushLeft t cap at = cond (beginsIndented (lineAt t at)) (nothing NothingThere) (found t at 0 cap)
+
+unfoldable pub standaloneFound : List ℕ → ℕ → ℕ → Found
+standaloneFound t n cap = onStart nothing (flushLeft t cap) (startAt t n)
+
+-- "`indented_wrapped_attrs_block_len` answers 5 for a block of one line."
+abbrev pub unlessLine : Found → Found
+unlessLine Found.line = nothing NoReading
+unlessLine (Found.run r) = Found.run r
+unlessLine (Found.none q x n) = Found.none q x n
+
+unfoldable pub indentedFound : List ℕ → ℕ → ℕ → Found
+indentedFound t n cap = unlessLine (blockFound t n 0 cap)

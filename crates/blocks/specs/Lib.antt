@@ -1,0 +1,2 @@
+-- The definitions that the contracts of blocks cite.
+pub mod Blocks

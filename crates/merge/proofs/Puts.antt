@@ -1,0 +1,92 @@
+-- What a well-formed set puts may be put, and says what the set means.
+-- Assumes nothing.
+use mathlib.Core.Path.{_≡_, refl}
+use mathlib.Core.Bool.{true, false}
+use mathlib.Core.List.{List, [], _∷_, map, map-append}
+use lib.ListN.{length}
+use borrow.Author.Tests.{ltb-true}
+use Rattle.lists.proofs.Scan.{both}
+use Rattle.lists.proofs.More.{contra}
+use Rattle.canon.specs.Canon.{every}
+use Rattle.grammar.specs.Meaning.{Entry, put, puts, idName, className}
+use Rattle.grammar.proofs.Views.{puts-append}
+use Rattle.sets.specs.Types.{Texts, valueBytes, zeroRow}
+use Rattle.sets.specs.Rows.{Rows, Put, isSome, isThere, idValues, slotEntry, meant}
+use Rattle.sets.specs.Shape.{isPresent, isAllowed, allAllowed}
+use Rattle.sets.specs.declared.Id as ids
+use Rattle.sets.specs.declared.Id.the-variants as id
+use Rattle.sets.specs.declared.Slot.{Slot}
+use Rattle.sets.specs.declared.Slot.the-variants.{Id, Class, Key}
+use Rattle.sets.specs.declared.Value.{Value}
+use Rattle.sets.proofs.Shaping.{putEntry}
+use Rattle.sets.proofs.Items.{entry, classes-puts}
+use Rattle.wellformed.specs.WellFormed.{identOk, classOk, keyOk}
+use Rattle.wellformed.proofs.Shape.{Passed, every-at, slots-named, keyed}
+use Rattle.wellformed.proofs.PutsKept.{putOk, every-append}
+use Rattle.merge.specs.Merge.{putsOfId, putsAt, putsFrom, putsBy}
+
+module _ {t : Texts} {s : Rows} (h : Passed t s) where
+  -- ---- what is put is good, and so may be put
+  good-at : (x : Slot) → isPresent s x ≡ true → every (putOk t) (putsAt s x) ≡ true
+  unfolding putsAt putOk every
+  good-at Id p = go (s .ident) (h .ident)
+    where
+      go : (i : ids.Id) → identOk t i ≡ true → every (putOk t) (putsOfId i) ≡ true
+      go id.Missing k = refl
+      go (id.Given v) k = rw k
+  good-at Class p = go (s .classes) (h .classes)
+    where
+      go : (cs : List Value) → every (classOk t) cs ≡ true → every (putOk t) (map Put.class cs) ≡ true
+      go [] k = refl
+      go (c ∷ cs) k = let z = both (classOk t c) (every (classOk t) cs) k in rw (z .0) (go cs (z .1))
+  good-at (Key k) p = rw (every-at (keyOk t) zeroRow (s .keys) (h .keys) k (ltb-true k (length (s .keys)) p))
+
+  good-from : (o : List Slot) → every (isPresent s) o ≡ true → every (putOk t) (putsFrom s o) ≡ true
+  unfolding putsFrom every
+  good-from [] a = refl
+  good-from (x ∷ o) a = let z = both (isPresent s x) (every (isPresent s) o) a in every-append (putOk t) (putsAt s x) (putsFrom s o) (good-at x (z .0)) (good-from o (z .1))
+
+  pub good-puts : every (putOk t) (putsBy s) ≡ true
+  good-puts = good-from (s .order) (slots-named s (h .slots))
+
+  -- ---- what is put says what the slots mean
+  says-at : (m : List Entry) (x : Slot) → isPresent s x ≡ true → puts m (map (putEntry t) (putsAt s x)) ≡ put m (slotEntry t s x)
+  unfolding putsAt putEntry slotEntry puts
+  says-at m Id p = go (s .ident) p
+    where
+      go : (i : ids.Id) → isThere i ≡ true → puts m (map (putEntry t) (putsOfId i)) ≡ put m (record { name = idName; values = idValues t i })
+      go id.Missing q = contra false q refl
+      go (id.Given v) q = refl
+  says-at m Class p = go (s .classes) p
+    where
+      each : (cs : List Value) → map (putEntry t) (map Put.class cs) ≡ map (λ u. entry className (u ∷ [])) (map (valueBytes t) cs)
+      each [] = refl
+      each (c ∷ cs) = rw (each cs)
+
+      go : (cs : List Value) → isSome cs ≡ true → puts m (map (putEntry t) (map Put.class cs)) ≡ put m (record { name = className; values = map (valueBytes t) cs })
+      go [] q = contra false q refl
+      go (c ∷ cs) q = rw (each (c ∷ cs)) (classes-puts (map (valueBytes t) cs) (valueBytes t c) m)
+  says-at m (Key k) p = refl
+
+  says-from : (o : List Slot) (m : List Entry) → every (isPresent s) o ≡ true → puts m (map (putEntry t) (putsFrom s o)) ≡ puts m (map (slotEntry t s) o)
+  unfolding putsFrom puts every
+  says-from [] m a = refl
+  says-from (x ∷ o) m a =
+      let z = both (isPresent s x) (every (isPresent s) o) a in
+      rw (map-append, puts-append m (map (putEntry t) (putsAt s x)) (map (putEntry t) (putsFrom s o)), says-at m x (z .0)) (says-from o (put m (slotEntry t s x)) (z .1))
+
+  pub says : (m : List Entry) → puts m (map (putEntry t) (putsBy s)) ≡ puts m (meant t s)
+  unfolding meant
+  says m = says-from (s .order) m (slots-named s (h .slots))
+
+-- a good put is one that may be put
+allowed : (t : Texts) (p : Put) → putOk t p ≡ true → isAllowed t p ≡ true
+unfolding putOk isAllowed
+allowed t (Put.ident v) h = refl
+allowed t (Put.class v) h = refl
+allowed t (Put.key n v) h = keyed h .free
+
+pub all-allowed : (t : Texts) (ps : List Put) → every (putOk t) ps ≡ true → allAllowed t ps ≡ true
+unfolding every allAllowed
+all-allowed t [] h = refl
+all-allowed t (p ∷ ps) h = let z = both (putOk t p) (every (putOk t) ps) h in rw (allowed t p (z .0)) (all-allowed t ps (z .1))
