@@ -2,3 +2,6 @@
 pub mod Trimmed
 pub mod Finds
 pub mod Starts
+pub mod Agree
+pub mod Wraps
+pub mod SetsOk

@@ -8,7 +8,7 @@ use Prim.Native.Nat.{ℕ, suc, _+_, _-_, _<_, _≤_}
 use native.Mathlib.Nat.{add-zero}
 use native.Mathlib.Omega.{arith}
 use lib.Dec.{eqb, ltb}
-use lib.ListN.{length, getD, take, drop, length-drop, take-append-drop, drop-of-length-le}
+use lib.ListN.{length, getD, take, drop, length-drop, take-append-drop}
 use lib.Seq.{slice, slice-cons, slice-empty, length-slice, drop-drop, drop-append-le, take-append-le, getD-take, getD-drop, drop-cons}
 use Rattle.lists.proofs.Parts.{slice-part, slice-add}
 use Rattle.lists.proofs.Scan.{both}

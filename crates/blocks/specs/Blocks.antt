@@ -1,7 +1,7 @@
 -- Blocks by lines: which lines a block takes, what it reads, and the entries by line number.
-use Prim.Native.Nat.{ℕ, suc, _+_}
-use mathlib.Core.Bool.{Bool, true, false, cond}
-use mathlib.Core.List.{List, [], _∷_, _++_, map}
+use Prim.Native.Nat.{ℕ, _+_}
+use mathlib.Core.Bool.{Bool, false, cond}
+use mathlib.Core.List.{List, [], _∷_, _++_}
 use lib.Dec.{eqb, ltb}
 use lib.ListN.{length, drop}
 use Rattle.ascii.specs.Bytes.{isIndent}
@@ -108,11 +108,25 @@ lengthOf Found.line = lengthIs.Lines 1
 lengthOf (Found.run r) = lengthIs.Lines (r .lines)
 lengthOf (Found.none q x n) = lengthIs.Refused q
 
+-- the number of an answer, 0 where a block is there, and its lines
+abbrev pub lengthNo : lengths.Length → ℕ
+lengthNo (lengthIs.Refused r) = numberOf r
+lengthNo (lengthIs.Lines n) = 0
+
+abbrev pub linesIn : lengths.Length → ℕ
+linesIn (lengthIs.Refused r) = 0
+linesIn (lengthIs.Lines n) = n
+
 -- with the place behind the block
 unfoldable pub measured : List ℕ → ℕ → Found → Measure
 measured t at f = record { length = lengthOf f; lookahead = lookaheadOf f; joined = length (joinedIn f); next = pastLines (linesOf f) t at }
 
--- ---- reading: a good line over the lent text, a run over the joined text
+-- ---- reading: "A set has ranges of one text: the lent one or, for a wrapped run, the joined text"
+
+abbrev pub textIn : List ℕ → Found → List ℕ
+textIn t Found.line = t
+textIn t (Found.run r) = r .text
+textIn t (Found.none q x n) = t
 
 abbrev pub filledBy : List ℕ → ℕ → Found → Filled
 filledBy t at Found.line = chainAt Loose t (frontOf t at .from) (frontOf t at .to)

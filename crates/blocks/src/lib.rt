@@ -7,14 +7,13 @@ use refusals::Refusal;
 use runs::Stop;
 use sets::Attrs;
 ghost use mathlib.Core.Path.{_≡_};
-ghost use Prim.Native.Nat.{_+_, _≤_, _<_};
+ghost use Prim.Native.Nat.{_≤_};
 ghost use lib.ListN.{length};
 ghost use Rattle.lines.specs.Trim.{trim};
 ghost use Rattle.payloads.specs.Payloads.{endsInClose};
-ghost use Rattle.ascii.specs.declared.Mode.the-variants.{Loose};
 ghost use Rattle.refusals.specs.Numbers.{maxText};
-ghost use Rattle.fill.specs.Fill.{refusing, chainAt};
-ghost use Rattle.blocks.specs.Blocks.{lineAt, frontOf, opensAt, runFound, found, wrapped, joinHolds, measured, blockOf, nothing, unread, isUnread, blockBy, sized, startAt, placeOf, lineRead, parseStandalone, blockFound, wrappedFound, beginsIndented, flushLeft, standaloneFound, unlessLine, indentedFound};
+ghost use Rattle.fill.specs.Fill.{refusing};
+ghost use Rattle.blocks.specs.Blocks.{lineAt, frontOf, opensAt, runFound, found, wrapped, joinHolds, measured, blockOf, nothing, unread, isUnread, blockBy, sized, startAt, placeOf, lineRead, parseStandalone, blockFound, wrappedFound, beginsIndented, standaloneFound, unlessLine, indentedFound};
 
 // A line without the whitespace at its ends, and where the next one begins.
 pub struct Front {

@@ -1,4 +1,5 @@
 -- The theorems about canonical text.
+pub mod Every
 pub mod Values
 pub mod Parts
 pub mod Puts

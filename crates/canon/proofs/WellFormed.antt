@@ -21,31 +21,20 @@ use Rattle.grammar.proofs.Bytes.{name-parts, bare-key}
 use Rattle.grammar.proofs.Chain.{Chain, payload-chain}
 use Rattle.grammar.proofs.Views.{put-distinct, put-some}
 use Rattle.canon.specs.Canon.{isClassValue, every, isSome, entryOk, entriesOk, wf}
+use Rattle.canon.proofs.Every.{every-weaker, every-append}
 use Rattle.canon.proofs.Parts.{Okay, okay, entry-ok, classes-some, classes-ok, value-ok, joined}
 
-abbrev notLf : ℕ → Bool
+abbrev pub notLf : ℕ → Bool
 notLf b = not (eqb b 10)
 
-abbrev solid : ℕ → Bool
+abbrev pub solid : ℕ → Bool
 solid b = not (isSpace b)
 
--- ---- every
-every-weaker : (f g : List ℕ → Bool) → ((v : List ℕ) → f v ≡ true → g v ≡ true) → (vs : List (List ℕ)) → every f vs ≡ true → every g vs ≡ true
-unfolding every
-every-weaker f g w [] h = refl
-every-weaker f g w (v ∷ vs) h = let k = both (f v) (every f vs) h in rw (w v (k .0)) (every-weaker f g w vs (k .1))
-
-every-append : (g : List ℕ → Bool) (us vs : List (List ℕ)) → every g us ≡ true → every g vs ≡ true → every g (us ++ vs) ≡ true
-unfolding every
-every-append g [] vs h k = k
-every-append g (u ∷ us) vs h k = let a = both (g u) (every g us) h in rw (a .0) (every-append g us vs (a .1) k)
-
+-- ---- pieces
 every-flush : (g : List ℕ → Bool) (c : List ℕ) (ps : List (List ℕ)) → g c ≡ true → every g ps ≡ true → every g (flush c ps) ≡ true
 unfolding every
 every-flush g [] ps h k = k
 every-flush g (a ∷ c) ps h k = rw h k
-
--- ---- pieces
 
 -- each byte of a piece passes, where each byte of the value that isn't whitespace does
 every-pieces : (f : ℕ → Bool) (c s : List ℕ) → all f c ≡ true → all (λ b. isSpace b || f b) s ≡ true → every (all f) (piecesFrom c s) ≡ true
@@ -92,11 +81,11 @@ no-pieces (b ∷ s) e = go (isSpace b) refl e (no-pieces s)
     go true p e ih = rw p (ih e)
     go false p e ih = absurd (begun [] s b e)
 
-solid-class : (v : List ℕ) → all solid v ≡ true → isClassValue v ≡ true
+pub solid-class : (v : List ℕ) → all solid v ≡ true → isClassValue v ≡ true
 unfolding isClassValue
 solid-class v h = rw h
 
-white-class : (v : List ℕ) → all isSpace v ≡ true → isClassValue v ≡ true
+pub white-class : (v : List ℕ) → all isSpace v ≡ true → isClassValue v ≡ true
 unfolding isClassValue
 white-class v h = or-right (all solid v) (all isSpace v) h
 
@@ -138,7 +127,7 @@ part-solid : (b : ℕ) → isNamePart b ≡ true → solid b ≡ true
 unfolding isSpace isNamePart isAlnum isLetter isDigit within all
 part-solid b h = rw (not-in isNamePart (32 ∷ 9 ∷ 10 ∷ 12 ∷ 13 ∷ []) b refl h)
 
-name-class : (n : List ℕ) → isName n ≡ true → isClassValue n ≡ true
+pub name-class : (n : List ℕ) → isName n ≡ true → isClassValue n ≡ true
 name-class n h = solid-class n (all-weaker isNamePart solid part-solid n (name-parts n h))
 
 said-good : {t : List ℕ} {i : Item} → Token t i → noLf t ≡ true → entryOk (said i) ≡ true

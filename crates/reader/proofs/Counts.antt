@@ -164,7 +164,7 @@ module _ {t : Texts} {s : Rows} (h : Shaped t s) where
       go y l true e = refl
       go y l false e = absurd (omega arith)
 
-  class-rows : classCount (meant t s) ≡ length (s .classes)
+  pub class-rows : classCount (meant t s) ≡ length (s .classes)
   unfolding meant
   class-rows = class-slots (s .order) present ∙ ap (λ k. many k (length (s .classes))) (h .once Class) ∙ go (s .classes)
     where
@@ -176,6 +176,9 @@ module _ {t : Texts} {s : Rows} (h : Shaped t s) where
   unfolding meant
   free-rows = omega (arith, free-slots (s .order) present, h .once Id, h .once Class, slots-length h)
 
+  pub key-rows : distinct (meant t s) ≡ true → keyCount (meant t s) ≡ length (s .keys)
+  key-rows d = key-distinct (meant t s) d ∙ free-rows
+
 -- ======== what the items of a payload fill
 module _ {w : List ℕ} {is : List Placed} (h : Standing w is) where
   shaped : Shaped (one w) (withPuts (one w) noRows (putsIn is))
@@ -186,4 +189,4 @@ module _ {w : List ℕ} {is : List Placed} (h : Standing w is) where
 
   pub key-fill : length (withPuts (one w) noRows (putsIn is) .keys) ≡ keyCount (entriesOf is)
   unfolding meaning distinct
-  key-fill = sym (free-rows shaped) ∙ ap freeCount (rows-mean h) ∙ sym (key-distinct (meaning is) (puts-distinct [] (entriesOf is) refl)) ∙ key-meaning is
+  key-fill = sym (key-rows shaped (rw (rows-mean h) (puts-distinct [] (entriesOf is) refl))) ∙ ap keyCount (rows-mean h) ∙ key-meaning is

@@ -15,6 +15,7 @@ pub(crate) fn answer(
     f: Fields,
     count: usize,
     a: &mut [u8],
+    b: &mut [u8],
     join: &mut [u8],
     canon: &mut [u8],
     output: &mut [u8],
@@ -28,7 +29,7 @@ pub(crate) fn answer(
         return answer_payload(word, x, a, output, at);
     }
     if count == 3 {
-        return answer_three(word, x, y, a, join, canon, output, at);
+        return answer_three(word, x, y, a, b, join, canon, output, at);
     }
     if count == 4 {
         return answer_four(word, x, y, z, a, join, canon, output, at);
@@ -66,16 +67,17 @@ fn answer_three<'a>(
     x: &'a [u8],
     y: &'a [u8],
     a: &mut [u8],
+    b: &mut [u8],
     join: &mut [u8],
     canon: &mut [u8],
     output: &mut [u8],
     at: usize,
 ) -> usize {
     if lists::same_bytes(word, b"merge") {
-        return merging::answer(x, y, false, a, canon, output, at);
+        return merging::answer(x, y, false, a, b, canon, output, at);
     }
     if lists::same_bytes(word, b"merge_leading") {
-        return merging::answer(x, y, true, a, canon, output, at);
+        return merging::answer(x, y, true, a, b, canon, output, at);
     }
     let Said::Number(place) = fields::number(x) else {
         return out::put(output, at, b"error");

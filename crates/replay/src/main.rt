@@ -62,6 +62,7 @@ pub(crate) fn answer(
         f,
         fields::count_of(line, f),
         a,
+        b,
         &mut join[..cap],
         canon,
         output,

@@ -6,45 +6,42 @@ use crate::out;
 use fill::Filled;
 use fill::Outcome;
 
-// Lays A, LF and B into the buffer and answers how many bytes they are. Neither text may hold an LF.
-fn lay_lines<'a>(x: &'a [u8], y: &'a [u8], a: &mut [u8]) -> Said {
+// Lays a text into a buffer and answers how many bytes it has. It may hold no LF.
+fn lay_line(x: &[u8], a: &mut [u8]) -> Said {
     let Said::Number(n) = fields::unhex(x, a) else {
         return Said::Bad;
     };
-    if a.len() <= n {
-        return Said::Bad;
-    }
     if fields::find(fields::part(a, 0, n), 0, b'\n') < n {
         return Said::Bad;
     }
-    a[n] = b'\n';
-    let Said::Number(m) = fields::unhex(y, &mut a[n + 1..]) else {
-        return Said::Bad;
-    };
-    if a.len() - n - 1 < m {
-        return Said::Bad;
-    }
-    let end = n + 1 + m;
-    if fields::find(fields::part(a, n + 1, end), 0, b'\n') < m {
-        return Said::Bad;
-    }
-    Said::Number(end)
+    Said::Number(n)
 }
 
-// Two texts of a line each: `leading` says that the second set stands before the first.
+// Adds an LF and a text.
+fn put_behind(a: &mut [u8], at: usize, s: &[u8]) -> usize {
+    let next = out::put_byte(a, at, b'\n');
+    out::put(a, next, s)
+}
+
+// Two texts of a line each, laid one behind the other (what has no room makes the text too long all the same): `leading` says that the second set stands before the first.
 pub(crate) fn answer<'a>(
     x: &'a [u8],
     y: &'a [u8],
     leading: bool,
     a: &mut [u8],
+    b: &mut [u8],
     canon: &mut [u8],
     output: &mut [u8],
     at: usize,
 ) -> usize {
-    let Said::Number(n) = lay_lines(x, y, a) else {
+    let Said::Number(n) = lay_line(x, a) else {
         return out::put(output, at, b"error");
     };
-    let text = fields::part(a, 0, n);
+    let Said::Number(m) = lay_line(y, b) else {
+        return out::put(output, at, b"error");
+    };
+    let end = put_behind(a, n, fields::part(b, 0, m));
+    let text = fields::part(a, 0, end);
     let first = blocks::parse_standalone_attrs(text, 1);
     let second = blocks::parse_standalone_attrs(text, 2);
     put_first(text, first, second, leading, canon, output, at)

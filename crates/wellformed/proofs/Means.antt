@@ -20,6 +20,7 @@ use Rattle.grammar.specs.Meaning.{idName, className, isClass, absent, distinct}
 use Rattle.canon.specs.Canon as canon
 use Rattle.canon.specs.Canon.{every, isClassValue, entryOk, entriesOk, wf, Answer, readAt}
 use Rattle.canon.proofs.Back.{back}
+use Rattle.canon.proofs.Every.{every-weaker}
 use Rattle.canon.proofs.Parts.{entry-ok, classes-ok, value-ok, joined}
 use Rattle.sets.specs.Types.{Texts, valueBytes, zeroRow}
 use Rattle.sets.specs.Rows.{Rows, noRows, isThere, isSome, idValues, slotEntry, meant, rowsIn, meaningOf}
@@ -36,11 +37,6 @@ use Rattle.sets.proofs.Slots.{times-le, times-head}
 use Rattle.wellformed.specs.WellFormed.{textOk, valueOk, identOk, classOk, keyOk, tableOk}
 use Rattle.wellformed.proofs.Decide.{every-map}
 use Rattle.wellformed.proofs.Shape.{every-at, slots-named, Passed, keyed, passed-shaped, table-passed}
-
-pub every-weaker : {A : Type 0} (f g : A → Bool) → ((x : A) → f x ≡ true → g x ≡ true) → (xs : List A) → every f xs ≡ true → every g xs ≡ true
-unfolding every
-every-weaker f g w [] e = refl
-every-weaker f g w (x ∷ xs) e = let h = both (f x) (every f xs) e in rw (w x (h .0)) (every-weaker f g w xs (h .1))
 
 -- ---- one value, one class
 flat : (t : Texts) (v : Value) → valueOk t v ≡ true → noLf (valueBytes t v) ≡ true

@@ -25,6 +25,7 @@ use Rattle.grammar.specs.Close.{noLf}
 use Rattle.grammar.specs.Meaning.{Entry, idName, className}
 use Rattle.grammar.proofs.Bytes.{key-parts}
 use Rattle.canon.specs.Canon.{every, escape, Pair, pairText, moreText, pairsText, pairsOf, pairs, canon}
+use Rattle.canon.proofs.Every.{every-weaker, every-append}
 use Rattle.sets.specs.Types.{Texts, one, rangeBytes, textBytes, valueBytes, zeroRow}
 use Rattle.sets.specs.Rows.{Rows, isThere, idValues, slotEntry, meant, rowsIn, meaningOf}
 use Rattle.sets.specs.Shape.{isPresent}
@@ -39,7 +40,7 @@ use Rattle.sets.specs.declared.Value.{Value}
 use Rattle.wellformed.specs.WellFormed.{rangeOk, textOk, valueOk, identOk, classOk, keyOk, tableOk, wellFormed}
 use Rattle.wellformed.proofs.Decide.{every-map}
 use Rattle.wellformed.proofs.Shape.{every-at, slots-named, Passed, keyed, table-passed}
-use Rattle.wellformed.proofs.Means.{every-weaker, class-value}
+use Rattle.wellformed.proofs.Means.{class-value}
 
 -- ---- a character is one ASCII byte, or bytes that are all above ASCII
 abbrev isHigh : ℕ → Bool
@@ -161,11 +162,6 @@ pairs-text-utf8 : (ps : List Pair) → every pairUtf8 ps ≡ true → isUtf8 (pa
 unfolding pairsText every all
 pairs-text-utf8 [] e = ascii [] refl
 pairs-text-utf8 (p ∷ ps) e = let h = both (pairUtf8 p) (every pairUtf8 ps) e in append-utf8 (pairText p) (moreText ps) (pair-utf8 p (h .0)) (more-utf8 ps (h .1))
-
-every-append : {A : Type 0} (f : A → Bool) (xs ys : List A) → every f xs ≡ true → every f ys ≡ true → every f (xs ++ ys) ≡ true
-unfolding every
-every-append f [] ys e q = q
-every-append f (x ∷ xs) ys e q = let h = both (f x) (every f xs) e in rw (h .0) (every-append f xs ys (h .1) q)
 
 values-utf8 : (n : List ℕ) (vs : List (List ℕ)) → isUtf8 n ≡ true → every isUtf8 vs ≡ true → every pairUtf8 (pairsOf n vs) ≡ true
 unfolding every pairsOf

@@ -1,27 +1,29 @@
 -- What the items of a payload without LF put into a set is good, where the payload stands in a text between character boundaries.
 -- Assumes nothing.
 use mathlib.Core.Path.{_≡_, refl, _∙_}
-use mathlib.Core.Bool.{Bool, true, false, cond, not, _&&_}
+use mathlib.Core.Bool.{Bool, true, false, cond, _&&_}
 use mathlib.Core.List.{List, [], _∷_, _++_, map, append-nil, append-assoc}
 use Prim.Native.Nat.{ℕ, suc, _+_, _<_, _≤_}
 use native.Mathlib.Omega.{arith}
-use lib.Dec.{eqb, leb, ltb}
+use lib.Dec.{leb, ltb}
 use lib.ListN.{length, length-append}
 use borrow.Author.Tests.{leb-false, lt-ltb, le-ltb}
 use Rattle.lists.specs.Lists.{all, headed, same}
 use Rattle.lists.proofs.Scan.{both, all-append}
-use Rattle.lists.proofs.More.{contra, or-right, not-in, among-not, all-parts, all-weaker}
+use Rattle.lists.proofs.More.{contra, among-not, all-parts}
 use Rattle.ascii.specs.declared.Mode.{Mode}
 use Rattle.ascii.specs.Bytes.{within, isLetter, isDigit, isAlnum, isNamePart, isKeyStart, isSpace, isQuote, isBlank}
-use Rattle.names.specs.Names.{isName, isKey}
+use Rattle.names.specs.Names.{isKey}
 use Rattle.escapes.specs.Unescape.{unescape}
 use Rattle.escapes.proofs.Pieces.{no-lf, no-space, only-space}
 use Rattle.grammar.specs.Grammar.{Item, Placed, Token, Payload}
 use Rattle.grammar.specs.Meaning.{Range, mark, rangesFrom, idName, className}
 use Rattle.grammar.specs.Close.{noLf}
-use Rattle.grammar.proofs.Bytes.{blank-not, name-parts, bare-key}
+use Rattle.grammar.proofs.Bytes.{blank-not, bare-key}
 use Rattle.grammar.proofs.Chain.{Chain, payload-chain}
 use Rattle.canon.specs.Canon.{every, isClassValue}
+use Rattle.canon.proofs.Every.{every-append, every-parts}
+use Rattle.canon.proofs.WellFormed.{notLf, solid, solid-class, white-class, name-class}
 use Rattle.sets.specs.Types.{one, nameBytes, textBytes, valueBytes, rangeBytes}
 use Rattle.sets.specs.Rows.{Put}
 use Rattle.sets.specs.Puts.{valueOf, pieceOf, orWhole, byName, valued, putsOf, putsIn}
@@ -30,14 +32,8 @@ use Rattle.sets.specs.declared.Text.{Text}
 use Rattle.sets.specs.declared.Text.the-variants as texts
 use Rattle.sets.specs.declared.Name.the-variants as name
 use Rattle.wellformed.specs.WellFormed.{rangeOk, textOk, nameOk, valueOk, classOk, keyOk}
-use Rattle.wellformed.proofs.PutsKept.{putOk, every-append, every-parts}
+use Rattle.wellformed.proofs.PutsKept.{putOk}
 use Rattle.wellformed.proofs.PutsParts.{Part, range-ok, range-is, before, behind}
-
-abbrev notLf : ℕ → Bool
-notLf b = not (eqb b 10)
-
-abbrev solid : ℕ → Bool
-solid b = not (isSpace b)
 
 -- ---- the bytes that part a payload are ASCII
 blank-low : (m : Mode) (b : ℕ) → isBlank m b ≡ true → b ≤ 0x7F
@@ -53,21 +49,6 @@ unfolding isQuote all
 quote-low q h = let z = leb-false 0x80 q (among-not (λ x. leb 0x80 x) (34 ∷ 39 ∷ []) q refl h) in omega arith
 
 -- ---- classes
-solid-class : (v : List ℕ) → all solid v ≡ true → isClassValue v ≡ true
-unfolding isClassValue
-solid-class v h = rw h
-
-white-class : (v : List ℕ) → all isSpace v ≡ true → isClassValue v ≡ true
-unfolding isClassValue
-white-class v h = or-right (all solid v) (all isSpace v) h
-
-part-solid : (b : ℕ) → isNamePart b ≡ true → solid b ≡ true
-unfolding isSpace isNamePart isAlnum isLetter isDigit within all
-part-solid b h = rw (not-in isNamePart (32 ∷ 9 ∷ 10 ∷ 12 ∷ 13 ∷ []) b refl h)
-
-name-class : (n : List ℕ) → isName n ≡ true → isClassValue n ≡ true
-name-class n h = solid-class n (all-weaker isNamePart solid part-solid n (name-parts n h))
-
 -- with no piece there is nothing but whitespace
 begun : (s : List ℕ) (from at : ℕ) → from < at → rangesFrom from at s ≡ [] → ⊥
 unfolding rangesFrom

@@ -10,7 +10,6 @@ use lib.Dec.{leb}
 use lib.ListN.{length, getD, drop, length-append, length-drop, take-append-drop}
 use lib.Seq.{slice, drop-drop, getD-drop, drop-append-seam, take-append-seam, getD-append-seam}
 use borrow.Author.Tests.{le-leb, leb-true, leb-false}
-use Rattle.lists.specs.Lists.{all}
 use Rattle.lists.proofs.Parts.{slice-part, slice-add, drop-past}
 use Rattle.lists.proofs.Scan.{both}
 use Rattle.utf8.specs.Utf8.{isUtf8, isBoundary}

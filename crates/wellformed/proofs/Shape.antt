@@ -32,11 +32,6 @@ module _ {A : Type 0} (f : A → Bool) (d : A) where
   every-at (x ∷ xs) e zero h = both (f x) (every f xs) e .0
   every-at (x ∷ xs) e (suc k) h = every-at xs (both (f x) (every f xs) e .1) k (omega arith)
 
-  pub every-of : (xs : List A) → ((k : ℕ) → k < length xs → f (getD xs k d) ≡ true) → every f xs ≡ true
-  unfolding every
-  every-of [] h = refl
-  every-of (x ∷ xs) h = rw (h 0 (omega arith)) (every-of xs (λ k l. h (suc k) (omega arith)))
-
 -- ---- every slot stands once where it is there, and never where it isn't
 module _ (s : Rows) where
   never : (f : Slot → Bool) (x : Slot) → f x ≡ false → (o : List Slot) → every f o ≡ true → times x o ≡ 0
@@ -167,7 +162,7 @@ module _ {t : Texts} {s : Rows} where
   pub rows-shaped : rowsOk t s ≡ true → Shaped t s
   rows-shaped e = passed-shaped (rows-passed t s e)
 
-  -- ---- and shaped rows pass: the id, the classes and each row of a key are to be looked at alone, and no more
+  -- ---- and shaped rows pass: the id, the classes and each row of a key are left to be looked at alone
   pub shaped-apart : Shaped t s → keysApart t (s .keys) ≡ true
   shaped-apart h = differ-apart t (s .keys) (λ j k i l. go j k i l (same (nameAt t (s .keys) k) (nameAt t (s .keys) j)) refl)
     where
@@ -177,20 +172,6 @@ module _ {t : Texts} {s : Rows} where
 
   pub shaped-slots : Shaped t s → slotsOk s ≡ true
   shaped-slots h = once-slots s (h .once)
-
-  pub shaped-keys : Shaped t s → every (λ r. nameOk t (r .name) && (isKey (nameBytes t (r .name)) && valueOk t (r .value))) (s .keys) ≡ true → every (keyOk t) (s .keys) ≡ true
-  unfolding nameAt
-  shaped-keys h e = every-of (keyOk t) zeroRow (s .keys) at
-    where
-      at : (k : ℕ) → k < length (s .keys) → keyOk t (getD (s .keys) k zeroRow) ≡ true
-      at k l =
-          let a = both _ _ (every-at (λ r. nameOk t (r .name) && (isKey (nameBytes t (r .name)) && valueOk t (r .value))) zeroRow (s .keys) e k l) in
-          let b = both _ _ (a .1) in
-          keyed-ok (record { range = a .0; key = b .0; free = h .free k l; value = b .1 })
-
-  pub shaped-rows : Shaped t s → identOk t (s .ident) ≡ true → every (classOk t) (s .classes) ≡ true
-      → every (λ r. nameOk t (r .name) && (isKey (nameBytes t (r .name)) && valueOk t (r .value))) (s .keys) ≡ true → rowsOk t s ≡ true
-  shaped-rows h i c k = passed-rows (record { ident = i; classes = c; keys = shaped-keys h k; apart = shaped-apart h; slots = shaped-slots h })
 
 -- ---- of a table
 module _ (t : Texts) (a : Attrs) (e : tableOk t a ≡ true) where

@@ -6,4 +6,3 @@ pub mod Walks
 pub mod Room
 pub mod Given
 pub mod Numbers
-pub mod Back

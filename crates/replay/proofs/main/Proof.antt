@@ -17,10 +17,13 @@ slice-aggregate-answer-all-3 : tie.Need-slice-aggregate-answer-all-3
 slice-aggregate-answer-all-3 c = sym (length-replicate {A = ℕ} 65600 0)
 
 slice-aggregate-answer-all-4 : tie.Need-slice-aggregate-answer-all-4
-slice-aggregate-answer-all-4 c = sym (length-replicate {A = ℕ} 140000 0)
+slice-aggregate-answer-all-4 c = sym (length-replicate {A = ℕ} 65535 255)
 
 slice-aggregate-answer-all-5 : tie.Need-slice-aggregate-answer-all-5
-slice-aggregate-answer-all-5 c = sym (length-replicate {A = ℕ} 1048576 0)
+slice-aggregate-answer-all-5 c = sym (length-replicate {A = ℕ} 65535 0)
+
+slice-aggregate-answer-all-6 : tie.Need-slice-aggregate-answer-all-6
+slice-aggregate-answer-all-6 c = sym (length-replicate {A = ℕ} 1048576 0)
 
 answer-all-requires : tie.Need-answer-all-requires
 answer-all-requires c κs = search needs
@@ -37,5 +40,6 @@ main-spec =
     slice-aggregate-answer-all-3
     slice-aggregate-answer-all-4
     slice-aggregate-answer-all-5
+    slice-aggregate-answer-all-6
     answer-all-requires
     returns)

@@ -8,10 +8,10 @@ use Rattle.replay.proofs.input.answer_lines.Statement.{statement}
 use Rattle.replay.proofs.input.answer_lines.Tie as tie
 
 abbrev Inv-loop : tie.InvT-loop
-Inv-loop lines a₀ b₀ canon₀ output₀ at from₀ to₀ a b canon output from to = (length a ≡ length a₀) × (length b ≡ length b₀) × (length canon ≡ length canon₀) × (length output ≡ length output₀)
+Inv-loop lines a₀ b₀ join₀ canon₀ output₀ at from₀ to₀ a b join canon output from to = (length a ≡ length a₀) × (length b ≡ length b₀) × (length join ≡ length join₀) × (length canon ≡ length canon₀) × (length output ≡ length output₀)
 
 abbrev μ-loop : tie.MeasureT-loop
-μ-loop lines a₀ b₀ canon₀ output₀ at from₀ to₀ a b canon output from to = length lines - from
+μ-loop lines a₀ b₀ join₀ canon₀ output₀ at from₀ to₀ a b join canon output from to = length lines - from
 
 loop-holds : tie.Need-loop-holds Inv-loop μ-loop
 loop-holds c = search needs
@@ -31,6 +31,9 @@ same-length-3 c = search needs
 same-length-4 : tie.Need-same-length-4 Inv-loop μ-loop
 same-length-4 c = search needs
 
+same-length-5 : tie.Need-same-length-5 Inv-loop μ-loop
+same-length-5 c = search needs
+
 returns : tie.Need-returns Inv-loop μ-loop
 returns c = search needs
 
@@ -49,9 +52,6 @@ loop-less c = search needs
 loop-again : tie.Need-loop-again Inv-loop μ-loop
 loop-again c = search needs
 
-same-length-5 : tie.Need-same-length-5 Inv-loop μ-loop
-same-length-5 c = search needs
-
 same-length-6 : tie.Need-same-length-6 Inv-loop μ-loop
 same-length-6 c = search needs
 
@@ -60,6 +60,12 @@ same-length-7 c = search needs
 
 same-length-8 : tie.Need-same-length-8 Inv-loop μ-loop
 same-length-8 c = search needs
+
+same-length-9 : tie.Need-same-length-9 Inv-loop μ-loop
+same-length-9 c = search needs
+
+same-length-10 : tie.Need-same-length-10 Inv-loop μ-loop
+same-length-10 c = search needs
 
 returns-2 : tie.Need-returns-2 Inv-loop μ-loop
 returns-2 c = search needs
@@ -76,14 +82,16 @@ answer-lines-spec =
     same-length-2
     same-length-3
     same-length-4
+    same-length-5
     returns
     part-requires
     answer-line-requires
     add-from
     loop-less
     loop-again
-    same-length-5
     same-length-6
     same-length-7
     same-length-8
+    same-length-9
+    same-length-10
     returns-2)

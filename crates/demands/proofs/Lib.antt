@@ -1,0 +1,2 @@
+-- The demands.
+pub mod Canonical

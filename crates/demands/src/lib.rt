@@ -1,0 +1,1 @@
+// What the scope demands of several crates together: theorems over their promises, and no code.
