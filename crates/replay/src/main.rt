@@ -8,6 +8,7 @@ mod leaves;
 mod merging;
 mod out;
 
+use crate::fields::Fields;
 use crate::fields::Said;
 
 // A request line fits the input buffer with its LF: two texts in hex, and the words around them.
@@ -54,18 +55,25 @@ pub(crate) fn answer(
     let Said::Number(cap) = fields::cap_of(line, f) else {
         return out::put(output, at, b"error");
     };
-    if join.len() < cap {
-        return out::put(output, at, b"error");
+    answer_capped(line, f, a, b, join, cap, canon, output, at)
+}
+
+// With a join buffer of `cap` bytes.
+fn answer_capped(
+    line: &[u8],
+    f: Fields,
+    a: &mut [u8],
+    b: &mut [u8],
+    join: &mut [u8],
+    cap: usize,
+    canon: &mut [u8],
+    output: &mut [u8],
+    at: usize,
+) -> usize {
+    let count = fields::count_of(line, f);
+    if cap <= join.len() {
+        let part = &mut join[..cap];
+        return brace::answer(line, f, count, a, b, part, canon, output, at);
     }
-    brace::answer(
-        line,
-        f,
-        fields::count_of(line, f),
-        a,
-        b,
-        &mut join[..cap],
-        canon,
-        output,
-        at,
-    )
+    out::put(output, at, b"error")
 }

@@ -23,7 +23,7 @@ fn put_behind(a: &mut [u8], at: usize, s: &[u8]) -> usize {
     out::put(a, next, s)
 }
 
-// Two texts of a line each, laid one behind the other (what has no room makes the text too long all the same): `leading` says that the second set stands before the first.
+// Two texts of a line each: `leading` says that the second set stands before the first.
 pub(crate) fn answer<'a>(
     x: &'a [u8],
     y: &'a [u8],
@@ -34,14 +34,30 @@ pub(crate) fn answer<'a>(
     output: &mut [u8],
     at: usize,
 ) -> usize {
-    let Said::Number(n) = lay_line(x, a) else {
-        return out::put(output, at, b"error");
-    };
     let Said::Number(m) = lay_line(y, b) else {
         return out::put(output, at, b"error");
     };
-    let end = put_behind(a, n, fields::part(b, 0, m));
-    let text = fields::part(a, 0, end);
+    answer_first(x, fields::part(b, 0, m), leading, a, canon, output, at)
+}
+
+// The first text is laid before the second; what has no room makes the text too long all the same.
+fn answer_first(
+    x: &[u8],
+    second: &[u8],
+    leading: bool,
+    a: &mut [u8],
+    canon: &mut [u8],
+    output: &mut [u8],
+    at: usize,
+) -> usize {
+    let Said::Number(n) = lay_line(x, a) else {
+        return out::put(output, at, b"error");
+    };
+    let end = put_behind(a, n, second);
+    put_sets(fields::part(a, 0, end), leading, canon, output, at)
+}
+
+fn put_sets(text: &[u8], leading: bool, canon: &mut [u8], output: &mut [u8], at: usize) -> usize {
     let first = blocks::parse_standalone_attrs(text, 1);
     let second = blocks::parse_standalone_attrs(text, 2);
     put_first(text, first, second, leading, canon, output, at)

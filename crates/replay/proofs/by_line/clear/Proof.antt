@@ -2,12 +2,10 @@
 -- Assumes nothing.
 use mathlib.Core.Path.{_≡_}
 use lib.ListN.{length}
-use Prim.Native.Nat.{_≤_, _-_}
+use Prim.Native.Nat.{_-_}
 use borrow.Author.Needs.{needs}
 use Rattle.replay.proofs.by_line.clear.Statement.{statement}
 use Rattle.replay.proofs.by_line.clear.Tie as tie
-use Rattle.replay.proofs.by_line.clear.Reads as reads
-use Rattle.replay.proofs.by_line.clear.Lts as lts
 
 abbrev Inv-loop : tie.InvT-loop
 Inv-loop join₀ i₀ join i = length join ≡ length join₀

@@ -1,13 +1,10 @@
 -- `least` ends, since each turn passes a byte.
 -- Assumes nothing.
-use mathlib.Core.Path.{_≡_}
 use lib.ListN.{length}
 use Prim.Native.Nat.{_≤_, _-_}
 use borrow.Author.Needs.{needs}
 use Rattle.replay.proofs.by_line.least.Statement.{statement}
 use Rattle.replay.proofs.by_line.least.Tie as tie
-use Rattle.replay.proofs.by_line.least.Reads as reads
-use Rattle.replay.proofs.by_line.least.Lts as lts
 
 abbrev Inv-loop : tie.InvT-loop
 Inv-loop s all₀ i₀ all i = i₀ ≤ i
