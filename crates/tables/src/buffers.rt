@@ -1,0 +1,80 @@
+// Buffers of exactly the canonical text's length and one short, and the longest canonical text.
+use crate::MARK;
+use crate::good;
+use crate::good::plain;
+use crate::good::slot;
+use crate::is_kept;
+use crate::say;
+use crate::say_number;
+use crate::say_wrote;
+use sets::Attrs;
+use sets::Slot;
+use writer::Wrote;
+
+pub(crate) fn run(text: &[u8]) {
+    exact(text);
+    short(text);
+    none(text);
+    longest();
+}
+
+// `{class="wheel" id="v17" a="\"\\" side="left"}` has 45 bytes.
+fn exact(text: &[u8]) {
+    let mut out = [MARK; 45];
+    say(b"45 bytes lent");
+    let wrote = writer::write_attrs(text, good::set(), &mut out);
+    say_wrote(wrote, &out);
+    say(b"\n");
+}
+
+fn short(text: &[u8]) {
+    let mut out = [MARK; 44];
+    say(b"44 bytes lent");
+    let wrote = writer::write_attrs(text, good::set(), &mut out);
+    say_wrote(wrote, &out);
+    say(b"\n");
+}
+
+fn none(text: &[u8]) {
+    let mut out = [MARK; 1];
+    say(b"no byte lent");
+    let wrote = writer::write_attrs(text, good::set(), &mut out[..0]);
+    say_wrote(wrote, &out[..0]);
+    say(b"\n");
+}
+
+// One class of the text's bytes: `{class="` and `"}` are ten bytes more.
+fn class_of(n: u16) -> Attrs {
+    let mut s = Attrs::empty();
+    s.classes[0] = plain(0, n);
+    s.nclass = 1;
+    s.order[0] = slot(Slot::Class);
+    s.norder = 1;
+    s
+}
+
+fn longest() {
+    let text = [b'a'; 65535];
+    let mut out = [MARK; 65540];
+    say(b"a canonical text of 65,536 bytes: ");
+    say_length(writer::write_attrs(&text, class_of(65526), &mut out));
+    if is_kept(&out) {
+        say(b", memory kept");
+    }
+    say(b"\na canonical text of 65,535 bytes: ");
+    say_length(writer::write_attrs(&text, class_of(65525), &mut out));
+    if is_kept(&out[65535..]) {
+        say(b", rest kept");
+    }
+    say(b"\n");
+}
+
+fn say_length(wrote: Wrote) {
+    match wrote {
+        Wrote::Refused(r) => {
+            say(b"refused ");
+            say_number(refusals::number(r) as usize);
+        }
+        Wrote::Bytes(n) => say_number(n),
+    }
+}
