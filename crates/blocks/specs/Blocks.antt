@@ -81,7 +81,7 @@ found t at base cap =
 unfoldable pub wrapped : List ℕ → ℕ → ℕ → ℕ → Found
 wrapped t at base cap = cond (opensAt t at) (runFound t at base cap) (nothing NothingThere)
 
--- ---- what is joined: "After every call the join buffer holds the joined lines at its front, the rest untouched."
+-- ---- what is joined: "After every call the join buffer holds the joined lines at its front, the rest untouched"
 
 abbrev pub joinedIn : Found → List ℕ
 joinedIn Found.line = []
@@ -147,7 +147,7 @@ unread r look joined at = blockBy (refusing r) 0 look joined at
 unfoldable pub blockOf : List ℕ → ℕ → Found → Block
 blockOf t at f = blockBy (filledBy t at f) (linesOf f) (lookaheadOf f) (length (joinedIn f)) (pastLines (linesOf f) t at)
 
--- a text above the size is refused before anything is read
+-- a text above the size is refused before anything is read (by `read_at`, since a set's places are 16-bit numbers)
 unfoldable pub sized : List ℕ → Found → Found
 sized t f = cond (ltb maxText (length t)) (nothing TextTooLong) f
 

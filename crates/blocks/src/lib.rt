@@ -142,7 +142,7 @@ fn measure_run(text: &[u8], at: usize, base: usize, join: &mut [u8]) -> Measure
     }
 }
 
-// The block at the place: one good line, or a run.
+// The block at the place: one good line, or a run. The caller has checked the text.
 pub fn measure_at(text: &[u8], at: usize, base: usize, join: &mut [u8]) -> Measure
     ensures { λ r. ⌜ r ≡ measured (now (text .entry)) at (found (now (text .entry)) at base (length (now (join .entry)))) ⌝ }
     ensures { λ r. ⌜ now (join .exit) ≡ joinHolds (now (join .entry)) (found (now (text .entry)) at base (length (now (join .entry)))) ⌝ }
@@ -189,7 +189,7 @@ fn is_unread(outcome: Outcome) -> bool
     }
 }
 
-// The set of a block that takes so many lines, a limit that it passes too.
+// What a block of so many lines answers; it keeps its lines where a limit refuses its set.
 fn block_of(filled: Filled, lines: usize, lookahead: usize, joined: usize, next: usize) -> Block
     ensures { λ b. ⌜ b ≡ blockBy filled lines lookahead joined next ⌝ }
 {
@@ -226,7 +226,7 @@ fn read_run(text: &[u8], at: usize, base: usize, join: &mut [u8]) -> Block
     }
 }
 
-// The block at the place, read: one good line over the text, or a run over the joined bytes.
+// The block at the place, read: one good line over the text, or a run over the joined bytes. The caller has checked the text.
 pub fn read_at(text: &[u8], at: usize, join: &mut [u8]) -> Block
     ensures { λ r. ⌜ r ≡ blockOf (now (text .entry)) at (sized (now (text .entry)) (found (now (text .entry)) at 0 (length (now (join .entry))))) ⌝ }
     ensures { λ r. ⌜ now (join .exit) ≡ joinHolds (now (join .entry)) (sized (now (text .entry)) (found (now (text .entry)) at 0 (length (now (join .entry))))) ⌝ }

@@ -16,14 +16,14 @@ use Rattle.grammar.specs.Read.{Reading, readPayload}
 use Rattle.grammar.specs.Meaning.{Entry, isClass, meaning, distinct}
 use Rattle.grammar.specs.Close.{findClose, noLf, Closes}
 
--- ---- reading at a brace
+-- ---- reading at a brace without sizes, limits and UTF-8, with which canonical text is read back; the table of refusals is reader/specs/Table
 
 -- a refusal by its number, or the meaning and the place behind the close
 pub data Answer : Type 0 where
   refused : ℕ → Answer
   read : List Entry → ℕ → Answer
 
--- by rules, of the brace at i: "Given exactly when"
+-- by rules, of the brace at i
 pub data AtBrace (m : Mode) (s : List ℕ) (i : ℕ) : Answer → Type 0 where
   -- "no `{` at the place"
   none : (getD s i 0 ≡ 123 → ⊥) → AtBrace m s i (Answer.refused 3)

@@ -1,5 +1,5 @@
--- "Two non-empty well-formed sets whose canonical text fits have equal canonical texts exactly when they mean the same; a canonical text reads
--- back, to its last byte, with that meaning." Said of what the writer and the reader promise.
+-- Two non-empty well-formed sets whose canonical text fits have equal canonical texts exactly when they mean the same; a canonical text reads
+-- back, to its last byte, with that meaning. Said of what the writer and the reader promise.
 -- Assumes nothing.
 use mathlib.Core.Path.{_≡_, refl, sym, _∙_, ap}
 use mathlib.Core.Bool.{Bool, true, false, cond}

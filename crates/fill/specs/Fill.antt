@@ -17,7 +17,7 @@ use Rattle.sets.specs.Puts.{putsIn}
 use Rattle.fill.specs.declared.Outcome.the-variants.{Refused, Done}
 use Rattle.fill.specs.declared.Filled.{Filled}
 
--- "hands out no set": the set of a refusal is the empty one
+-- the set of a refusal is the empty one
 abbrev pub refusing : Refusal → Filled
 refusing r = record { outcome = Refused r; set = emptySet }
 
@@ -42,7 +42,7 @@ filledOf m t at s = filledBy t (readPayload m at s)
 unfoldable pub fillAt : Mode → List ℕ → ℕ → ℕ → Filled
 fillAt m t at end = cond (ltb maxText (length t)) (refusing TextTooLong) (filledOf m (one t) at (slice at end t))
 
--- the line of blocks from `from` up to `to` of a text. "5 .. not a good line": asked of the whole line, before its items are counted, so that
--- a block which overflows and stands before an ungrammatical one isn't refused for its number
+-- the line of blocks from `from` up to `to` of a text. "elsewhere, not a good line": asked of the whole line, before its items are counted. So this is
+-- shut out: "Reporting 6 for an ungrammatical chain whose early blocks overflow."
 unfoldable pub chainAt : Mode → List ℕ → ℕ → ℕ → Filled
 chainAt m t from to = cond (ltb maxText (length t)) (refusing TextTooLong) (filledBy (one t) (readBlocks m from (slice from to t)))

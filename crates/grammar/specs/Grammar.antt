@@ -56,7 +56,7 @@ pub record Blanks (m : Mode) (s : List ℕ) : Type 0 where
 pub record Gap (m : Mode) (s : List ℕ) : Type 0 where
   pub each : headed (isBlank m) (isBlank m) s ≡ true
 
--- "one or more tokens parted by blanks", the first byte at `at`. So "after the closing quote comes a blank or the end."
+-- "one or more tokens parted by blanks", the first byte at `at`. So "After the closing quote comes a blank or the end."
 pub data Tokens (m : Mode) : ℕ → List ℕ → List Placed → Type 0 where
   one : {at : ℕ} {t : List ℕ} {i : Item} → Token t i → Tokens m at t (record { at = at; item = i } ∷ [])
   more : {at : ℕ} {t b s : List ℕ} {i : Item} {is : List Placed} → Token t i → Gap m b → Tokens m (at + length t + length b) s is → Tokens m at (t ++ (b ++ s)) (record { at = at; item = i } ∷ is)

@@ -29,7 +29,7 @@ abbrev pub answerNo : Answer → ℕ
 answerNo (Refused r) = numberOf r
 answerNo (Next n) = 0
 
--- "hands out no set": the set of a refusal is the empty one
+-- the set of a refusal is the empty one
 abbrev pub refusing : Refusal → Read
 refusing r = record { answer = Refused r; set = emptySet }
 
@@ -41,7 +41,7 @@ opensAt t i = ltb i (length t) && eqb (getD t i 0) 123
 abbrev pub payloadOf : List ℕ → ℕ → ℕ → List ℕ
 payloadOf t i e = slice (suc i) e t
 
--- "with the set and the place after the close"
+-- the set, and the place behind the close
 abbrev pub handedOut : outcomes.Outcome → Attrs → ℕ → Read
 handedOut (outcome.Refused r) s next = refusing r
 handedOut outcome.Done s next = record { answer = Next next; set = s }

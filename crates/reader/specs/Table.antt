@@ -66,5 +66,5 @@ pub data Given (m : Mode) (t : List ℕ) (i : ℕ) : Answer → List Entry → T
   classes : {e : ℕ} {is : List Placed} → Reads m t i e is → maxClasses < classCount (entriesOf is) → Given m t i (Refused TooManyClasses) []
   -- 7: "grammatical, more than 32 distinct keys"
   keys : {e : ℕ} {is : List Placed} → Reads m t i e is → classCount (entriesOf is) ≤ maxClasses → maxKeys < keyCount (entriesOf is) → Given m t i (Refused TooManyKeys) []
-  -- "with the set and the place after the close"; 8 is never given, since 32 keys, the id and the classes are 34 slots
+  -- the set, and the place behind the close; 8 is never given, since 32 keys, the id and the classes are 34 slots
   read : {e : ℕ} {is : List Placed} → Reads m t i e is → classCount (entriesOf is) ≤ maxClasses → keyCount (entriesOf is) ≤ maxKeys → Given m t i (Next (suc e)) (meaning is)

@@ -6,6 +6,7 @@ use crate::fields::Fields;
 use crate::fields::Said;
 use crate::merging;
 use crate::out;
+use crate::refusing;
 use ascii::Mode;
 use reader::Answer;
 
@@ -26,7 +27,7 @@ pub(crate) fn answer(
     let y = fields::field(line, f, 2);
     let z = fields::field(line, f, 3);
     if count == 2 {
-        return answer_payload(word, x, a, output, at);
+        return answer_payload(word, x, a, join, output, at);
     }
     if count == 3 {
         return answer_three(word, x, y, a, b, join, canon, output, at);
@@ -37,11 +38,12 @@ pub(crate) fn answer(
     out::put(output, at, b"error")
 }
 
-// A word and a payload.
+// A word and a payload, or a word and a text.
 fn answer_payload<'a>(
     word: &'a [u8],
     x: &'a [u8],
     a: &mut [u8],
+    join: &mut [u8],
     output: &mut [u8],
     at: usize,
 ) -> usize {
@@ -57,6 +59,9 @@ fn answer_payload<'a>(
     }
     if lists::same_bytes(word, b"valid_wrapped_attr_continuation") {
         return out::put_yes(output, at, payloads::valid_wrapped_attr_continuation(text));
+    }
+    if lists::same_bytes(word, b"ends_in_refused_brace_run") {
+        return refusing::answer_ends(text, join, output, at);
     }
     out::put(output, at, b"error")
 }

@@ -3,6 +3,7 @@
 use crate::canon;
 use crate::fields;
 use crate::out;
+use crate::refusing;
 use blocks::Block;
 use blocks::Length;
 use blocks::Measure;
@@ -34,6 +35,9 @@ pub(crate) fn answer_line<'a>(
     if lists::same_bytes(word, b"indented_wrapped_attrs_block_len") {
         let measure = blocks::indented_wrapped_attrs_block_len(text, line, join);
         return put_measure(measure, join, output, at);
+    }
+    if lists::same_bytes(word, b"refused_brace_run") {
+        return refusing::answer_run(text, line, join, output, at);
     }
     out::put(output, at, b"error")
 }
@@ -134,7 +138,7 @@ fn put_measure(measure: Measure, join: &mut [u8], output: &mut [u8], at: usize) 
 }
 
 // Adds the lookahead and what was joined, and makes the join buffer as it was.
-fn put_run(lookahead: usize, join: &mut [u8], output: &mut [u8], at: usize) -> usize {
+pub(crate) fn put_run(lookahead: usize, join: &mut [u8], output: &mut [u8], at: usize) -> usize {
     let words = out::put(output, at, b" lookahead ");
     let number = out::put_number(output, words, lookahead);
     let behind = out::put(output, number, b" joined ");

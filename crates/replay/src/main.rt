@@ -7,6 +7,7 @@ mod input;
 mod leaves;
 mod merging;
 mod out;
+mod refusing;
 
 use crate::fields::Fields;
 use crate::fields::Said;

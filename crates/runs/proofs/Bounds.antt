@@ -80,13 +80,13 @@ module _ (cap base : ℕ) (ls : List Lined) where
   lookahead-sum = rw (← first-lines) (omega (arith, took cap (start base) ls .ahead))
 
 -- "at most the text's length"
-sizes-take : (n : ℕ) (ls : List Lined) → sizes (take n ls) ≤ sizes ls
+pub sizes-take : (n : ℕ) (ls : List Lined) → sizes (take n ls) ≤ sizes ls
 unfolding sizes
 sizes-take zero ls = zero-le
 sizes-take (suc n) [] = zero-le
 sizes-take (suc n) (l ∷ ls) = omega (arith, sizes-take n ls)
 
-sizes-lines : (s : List ℕ) → sizes (map asIs (lines s)) ≤ length s
+pub sizes-lines : (s : List ℕ) → sizes (map asIs (lines s)) ≤ length s
 unfolding sizes lines
 sizes-lines [] = zero-le
 sizes-lines (b ∷ s) = go (eqb b 10) (isDropped b s) (lines s) (sizes-lines s)
@@ -126,7 +126,7 @@ costs (l ∷ ls) = suc (length (l .line)) + costs ls
 abbrev spent : So → ℕ
 spent so = cond (isFirst so) 0 (suc (length (so .text)))
 
-trim-le : (l : List ℕ) → length (trim l) ≤ length l
+pub trim-le : (l : List ℕ) → length (trim l) ≤ length l
 trim-le l = rw (trim-rest l) (omega (arith, trim-end-le (drop (run isSpace l) l), length-drop (run isSpace l) l))
 
 spends : (so : So) (l : Lined) → (isFirst so ≡ true → so .text ≡ []) → suc (length (after so l .text)) ≤ spent so + suc (length (l .line))
@@ -155,13 +155,13 @@ not-first so l e = contra (isFirst (after so l)) e (later so l)
 abbrev Grows : So → List Lined → Run → Type 0
 Grows so ls R = (isFirst so ≡ true → so .text ≡ []) → length (R .text) ≤ (spent so + costs ls) - 1
 
-grows : (cap : ℕ) (so : So) (ls : List Lined) → Grows so ls (runFrom cap so ls)
+pub grows : (cap : ℕ) (so : So) (ls : List Lined) → Grows so ls (runFrom cap so ls)
 unfolding costs
 grows cap =
     run-by cap Grows (λ so ls. still so (costs ls)) (λ so l ls f. still so (costs (l ∷ ls))) (λ so ls. still so (costs ls))
     (λ so l ls R p f ih e. let h = ih (not-first so l) in omega (arith, h, spends so l e, spent-later so l))
 
-costs-lines : (s : List ℕ) → costs (map asIs (lines s)) ≤ suc (length s)
+pub costs-lines : (s : List ℕ) → costs (map asIs (lines s)) ≤ suc (length s)
 unfolding costs lines
 costs-lines [] = zero-le
 costs-lines (b ∷ s) = go (eqb b 10) (isDropped b s) (lines s) (costs-lines s)

@@ -37,7 +37,7 @@ pub record Lined : Type 0 where
 abbrev pub asIs : List ℕ → Lined
 asIs l = record { pad = 0; line = l; size = length l }
 
--- What a run has when the next line comes: the text joined so far, of so many lines, the column of the last open brace, what is added to
+-- What a run has when the next line comes: the text joined so far, of so many lines and so many untrimmed bytes, the column of the last open brace, what is added to
 -- the first line's brace column (0 behind that line), and the quote that is left open.
 pub record So : Type 0 where
   pub text : List ℕ
@@ -103,6 +103,7 @@ after so l =
       lines = suc (so .lines);
       -- "the sum of the untrimmed lengths of the lines joined"
       lookahead = so .lookahead + l .size;
+      -- outside quotes: 000 starts in the quote left open, but refuses a line behind one
       brace = braceAfter (so .brace) (so .base) (lastOpenBrace Out (l .pad) (l .line));
       base = 0;
       quote = openQuoteAtEnd (trim (l .line));

@@ -38,7 +38,7 @@ leads [] = []
 leads ([] ∷ ks) = leads ks
 leads ((b ∷ k) ∷ ks) = b ∷ leads ks
 
--- no byte that goes on a character is the quote
+-- the quote is no byte that goes on a character
 abbrev pub isSound : Quote → Bool
 isSound Out = true
 isSound (In k) = not (isTail k)

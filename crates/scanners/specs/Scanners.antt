@@ -61,7 +61,7 @@ openQuoteAtEnd s = scanFrom honoured fresh s .quote
 
 -- ---- "the last open brace's column": that of the last `{` outside quotes
 
--- "Columns count characters, not bytes.": a tab that a backslash covers takes one column, as a space does
+-- 000: in quotes a backslash and the character behind it are two columns, a tab too; so a tab that a backslash covers takes one column, as a space does
 abbrev pub columnBehind : Bool → ℕ → ℕ → ℕ
 columnBehind escaped c b = columnAfter c (cond (escaped && eqb b 9) 32 b)
 

@@ -62,7 +62,7 @@ fn covers(outside: bool, q: Quote, b: u8) -> bool
 }
 
 // A byte of a scan in which a backslash covers the next one in quotes and, if `outside` says so, anywhere.
-fn pass(outside: bool, st: Scan, b: u8) -> Scan
+pub fn pass(outside: bool, st: Scan, b: u8) -> Scan
     ensures { λ r. ⌜ r ≡ passed outside st b ⌝ }
 {
     let q = st.quote;
@@ -85,7 +85,7 @@ fn pass(outside: bool, st: Scan, b: u8) -> Scan
 }
 
 // Whether the byte is c, and no quote and no backslash covers it.
-fn is_bare(st: Scan, b: u8, c: u8) -> bool
+pub fn is_bare(st: Scan, b: u8, c: u8) -> bool
     ensures { λ r. ⌜ r ≡ isBare st b c ⌝ }
 {
     let q = st.quote;
@@ -115,7 +115,7 @@ pub fn open_quote_at_end(s: &[u8]) -> Quote
 }
 
 // The column behind the byte b at column c, where a backslash may cover it.
-fn column_behind(escaped: bool, c: usize, b: u8) -> usize
+pub fn column_behind(escaped: bool, c: usize, b: u8) -> usize
     ensures { λ r. ⌜ r ≡ capped (columnBehind escaped c b) ⌝ }
 {
     if !escaped {

@@ -47,7 +47,7 @@ pub struct Ident {
     pub id: Id,
 }
 
-// The first `nclass` classes, `nkey` keys and `norder` slots count; the rows past them are zero.
+// The first `nclass` classes, `nkey` keys and `norder` slots count; in a set handed out the rows past them are zero.
 pub struct Attrs {
     pub id: Ident,
     pub classes: [Value; Attrs::CLASSES],

@@ -1,0 +1,3 @@
+-- The definitions that the contracts of refused cite.
+pub mod Refused
+pub mod Shown

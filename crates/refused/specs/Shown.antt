@@ -1,0 +1,51 @@
+-- What private functions promise as they walk over a run: nothing that a reader of the public promises has to believe.
+use Prim.Native.Nat.{ℕ, _-_, _<_}
+use mathlib.Core.Path.{_≡_}
+use mathlib.Core.Bool.{Bool, true, false}
+use mathlib.Core.Logic.{_⊎_}
+use mathlib.Core.List.{List, [], _∷_}
+use lib.ListN.{length, drop, getD}
+use Rattle.lines.specs.Lines.{lines, lineFrom}
+use Rattle.runs.specs.Runs.{Lined, Run, runOf}
+use Rattle.refused.specs.declared.Spot.{Spot}
+use Rattle.refused.specs.declared.Walk.{Walk}
+use Rattle.refused.specs.declared.Walk.the-variants as walks
+use Rattle.refused.specs.declared.Ran.{Ran}
+use Rattle.refused.specs.Refused.{Found, spotAfter, onFirst, walkFrom}
+
+-- over a line without a stray brace
+unfoldable pub spotsFrom : Spot → List ℕ → Spot
+spotsFrom p [] = p
+spotsFrom p (b ∷ s) = spotsFrom (spotAfter p b) s
+
+unfoldable pub walkAt : ℕ → List ℕ → ℕ → Found
+walkAt opener t at = walkFrom opener (onFirst opener) (lines (drop at t))
+
+-- the padded lines are many and needn't be kept
+abbrev pub shownWalk : Found → Walk
+shownWalk Found.none = walks.No 0
+shownWalk (Found.block shallow ls) = walks.Block (length ls) shallow
+
+abbrev pub isBlock : Found → Bool
+isBlock Found.none = false
+isBlock (Found.block shallow ls) = true
+
+abbrev pub linesIn : Found → List Lined
+linesIn Found.none = []
+linesIn (Found.block shallow ls) = ls
+
+unfoldable pub paddedRun : ℕ → ℕ → List ℕ → ℕ → Run
+paddedRun cap opener t at = runOf cap 0 (linesIn (walkAt opener t at))
+
+abbrev pub ranOf : Run → Ran
+ranOf r = record { stop = r .stop; len = length (r .text); lines = r .lines; lookahead = r .lookahead }
+
+-- ---- upwards: a line begins at the place, or the text ends there
+abbrev pub Edge : List ℕ → ℕ → Type 0
+Edge t at = (at ≡ 0) ⊎ ((at ≡ length t) ⊎ (getD t (at - 1) 0 ≡ 10))
+
+-- the line before `at` begins at `from`
+pub record Before (t : List ℕ) (at from : ℕ) : Type 0 where
+  pub below : from < at
+  pub edge : Edge t from
+  pub next : lineFrom t from .next ≡ at

@@ -1,0 +1,633 @@
+// Brace runs that are refused only for a line too far left, and whether a text ends in one.
+use checks::Check;
+use grammar::Quote;
+use grammar::Scan;
+use lines::Line;
+use refusals::Refusal;
+use runs::State;
+use runs::Step;
+use runs::Stop;
+ghost use mathlib.Core.Path.{_≡_};
+ghost use mathlib.Core.Bool.{true, false, _&&_};
+ghost use Prim.Native.Nat.{_+_, _-_, _*_, _<_, _≤_, max};
+ghost use lib.Dec.{eqb};
+ghost use lib.ListN.{length, drop};
+ghost use Rattle.lines.specs.Lines.{lines};
+ghost use Rattle.lines.specs.Trim.{trimStart};
+ghost use Rattle.chain.specs.Chain.{goodLine};
+ghost use Rattle.runs.specs.Runs.{over};
+ghost use Rattle.runs.specs.declared.Stop.the-variants.{Closed, Refused};
+ghost use Rattle.scanners.specs.Scanners.{holdStart};
+ghost use Rattle.grammar.specs.declared.Quote.the-variants.{Out};
+ghost use Rattle.refused.specs.Refused.{isStray, insideAfter, opensAt, spotAfter, opens, beginsPair, closesComment, halts, shallowOr, padOf, enteredAt, commentBy, commentFrom, answerBy, unjoined, judged, refusedOf, refusedRun, handedOut, nextOr, verdictOf, backFrom, endedBy, endsOf, endsIn, endsShown};
+ghost use Rattle.refused.specs.declared.Walk.the-variants.{No};
+ghost use Rattle.refused.specs.Shown.{spotsFrom, walkAt, shownWalk, isBlock, paddedRun, ranOf, Edge, Before};
+
+// What is said of a run: it is refused and takes so many lines; it isn't, and a comment run was looked at over so many lines, or to the
+// end; or a refusal.
+pub enum Answer {
+    No(usize),
+    Lines(usize),
+    NoEnd,
+    Refused(Refusal),
+}
+
+// The answer, with the lookahead and how many bytes are joined.
+pub struct RefusedRun {
+    pub answer: Answer,
+    pub lookahead: usize,
+    pub joined: usize,
+}
+
+pub enum Ends {
+    No,
+    Yes,
+    Refused(Refusal),
+}
+
+// Whether a text ends in a refused run, with the lookahead of the runs made.
+pub struct EndsRun {
+    pub answer: Ends,
+    pub lookahead: usize,
+}
+
+// Where a walk stands in a line: the column of the next byte, whether a block is open, and the column of the last brace that opened one.
+struct Spot {
+    scan: Scan,
+    column: usize,
+    inside: bool,
+    brace: usize,
+}
+
+// What a run that was tried says of the text's end, or that the next is tried.
+enum Verdict {
+    Told(Ends),
+    Next,
+}
+
+// What the first walk finds: no block, or one of so many lines, and whether one of them stands too far left.
+enum Walk {
+    No(usize),
+    Block(usize, bool),
+}
+
+// How the run over padded lines ends, and what it joined.
+struct Ran {
+    stop: Stop,
+    len: usize,
+    lines: usize,
+    lookahead: usize,
+}
+
+// Whether the byte is a stray close.
+fn is_stray(p: Spot, b: u8) -> bool
+    ensures { λ r. ⌜ r ≡ isStray p b ⌝ }
+{
+    let st = p.scan;
+    if p.inside {
+        return false;
+    }
+    scanners::is_bare(st, b, b'}')
+}
+
+// Whether a block is open behind the byte.
+fn inside_after(p: Spot, b: u8) -> bool
+    ensures { λ r. ⌜ r ≡ insideAfter p b ⌝ }
+{
+    let st = p.scan;
+    if p.inside {
+        return !scanners::is_bare(st, b, b'}');
+    }
+    scanners::is_bare(st, b, b'{')
+}
+
+// Whether the byte opens a block.
+fn opens_at(p: Spot, b: u8) -> bool
+    ensures { λ r. ⌜ r ≡ opensAt p b ⌝ }
+{
+    let st = p.scan;
+    if p.inside {
+        return false;
+    }
+    scanners::is_bare(st, b, b'{')
+}
+
+// The column of the last brace that opened a block.
+fn brace_after(p: Spot, b: u8) -> usize
+    ensures { λ r. ⌜ r ≡ spotAfter p b .brace ⌝ }
+{
+    if opens_at(p, b) { p.column } else { p.brace }
+}
+
+// The walk passes a byte.
+fn spot_after(p: Spot, b: u8) -> Spot
+    requires { ⌜ p .column < 4294967296 ⌝ }
+    ensures { λ r. ⌜ r ≡ spotAfter p b ⌝ }
+{
+    let st = p.scan;
+    Spot {
+        scan: scanners::pass(false, st, b),
+        column: scanners::column_behind(st.escaped, p.column, b),
+        inside: inside_after(p, b),
+        brace: brace_after(p, b),
+    }
+}
+
+// The walk passes a line without a stray close.
+fn pass_over(s: &[u8], p: Spot) -> Spot
+    requires { ⌜ p .column + 4 * length (now s) < 4294967296 ⌝ }
+    ensures { λ r. ⌜ r ≡ spotsFrom p (now (s .entry)) ⌝ }
+{
+    let mut spot = p;
+    let mut i = 0;
+    while i < s.len() {
+        spot = spot_after(spot, s[i]);
+        i += 1;
+    }
+    spot
+}
+
+// Whether the line's first byte that is no whitespace is a brace.
+fn opens_brace(line: &[u8]) -> bool
+    ensures { λ r. ⌜ r ≡ opens (now (line .entry)) ⌝ }
+{
+    let from = lines::trim_ascii_start(line);
+    if line.len() <= from {
+        return false;
+    }
+    line[from] == b'{'
+}
+
+// Whether the bytes b and c stand at i.
+fn pair_at(s: &[u8], i: usize, b: u8, c: u8) -> bool
+    requires { ⌜ i ≤ length (now s) ⌝ }
+    ensures { λ r. ⌜ r ≡ beginsPair b c (drop i (now (s .entry))) ⌝ }
+{
+    if s.len() - i < 2 {
+        return false;
+    }
+    if s[i] != b {
+        return false;
+    }
+    s[i + 1] == c
+}
+
+// Whether the line opens a comment.
+fn opens_comment(line: &[u8]) -> bool
+    ensures { λ r. ⌜ r ≡ beginsPair 123 37 (trimStart (now (line .entry))) ⌝ }
+{
+    let from = lines::trim_ascii_start(line);
+    pair_at(line, from, b'{', b'%')
+}
+
+// Whether a comment closes in the line.
+fn closes_comment(s: &[u8]) -> bool
+    ensures { λ r. ⌜ r ≡ closesComment (now (s .entry)) ⌝ }
+{
+    let mut i = 0;
+    while i < s.len() {
+        if pair_at(s, i, b'%', b'}') {
+            return true;
+        }
+        i += 1;
+    }
+    false
+}
+
+// Whether the line is too far left, or one before it was.
+fn shallow_or(shallow: bool, n: usize, column: usize, brace: usize) -> bool
+    ensures { λ r. ⌜ r ≡ shallowOr shallow (eqb n 0) column brace ⌝ }
+{
+    if shallow {
+        return true;
+    }
+    if n == 0 {
+        return false;
+    }
+    column <= brace
+}
+
+// Whether the run is at its end before the line.
+fn halts_at(n: usize, brace: usize, opener: usize, line: &[u8]) -> bool
+    requires { ⌜ brace < 4294967296 ⌝ }
+    ensures { λ r. ⌜ r ≡ halts (eqb n 0) brace opener (now (line .entry)) ⌝ }
+{
+    if lines::is_blank_line(line) {
+        return true;
+    }
+    if n == 0 {
+        return false;
+    }
+    if brace + 1 < opener {
+        return true;
+    }
+    opens_brace(line)
+}
+
+// The larger of two numbers.
+fn larger(a: usize, b: usize) -> usize
+    ensures { λ r. ⌜ r ≡ max a b ⌝ }
+{
+    if a < b { b } else { a }
+}
+
+// By how much a is the larger one, or 0.
+fn beyond(a: usize, b: usize) -> usize
+    ensures { λ r. ⌜ r ≡ a - b ⌝ }
+{
+    if a < b {
+        return 0;
+    }
+    a - b
+}
+
+// How many columns are put before the line.
+fn pad_of(n: usize, column: usize, brace: usize, opener: usize) -> usize
+    requires { ⌜ brace < 4294967296 ⌝ }
+    ensures { λ r. ⌜ r ≡ padOf (eqb n 0) column brace opener ⌝ }
+{
+    if n == 0 {
+        return 0;
+    }
+    let least = larger(beyond(brace + 1, opener), 1);
+    larger(beyond(column, opener), least)
+}
+
+// Where the walk enters the line.
+fn spot_at(n: usize, brace: usize, line: &[u8]) -> Spot
+    requires { ⌜ length (now line) ≤ 65535 ⌝ }
+    ensures { λ r. ⌜ r ≡ enteredAt (eqb n 0) brace (now (line .entry)) ⌝ }
+{
+    Spot {
+        scan: Scan {
+            quote: Quote::Out,
+            escaped: false,
+        },
+        column: columns::indent_columns(line),
+        inside: n != 0,
+        brace,
+    }
+}
+
+// No block closes.
+fn no_block() -> Walk
+    ensures { λ r. ⌜ r ≡ No 0 ⌝ }
+{
+    Walk::No(0)
+}
+
+// The first walk: up to the line behind which no block is open. A stray close leaves both loops at once.
+fn walk_run(text: &[u8], start: usize, opener: usize) -> Walk
+    requires { ⌜ (length (now text) ≤ 65535) × (opener ≤ 262140) ⌝ }
+    ensures { λ r. ⌜ r ≡ shownWalk (walkAt opener (now (text .entry)) start) ⌝ }
+{
+    let mut n = 0;
+    let mut at = start;
+    let mut brace = opener;
+    let mut shallow = false;
+    'lines: loop {
+        if text.len() <= at {
+            break 'lines no_block();
+        }
+        let l = lines::line_from(text, at);
+        let to = l.to;
+        if halts_at(n, brace, opener, &text[at..to]) {
+            break 'lines no_block();
+        }
+        let mut spot = spot_at(n, brace, &text[at..to]);
+        shallow = shallow_or(shallow, n, spot.column, brace);
+        let mut i = at + lines::trim_ascii_start(&text[at..to]);
+        while i < to {
+            if is_stray(spot, text[i]) {
+                break 'lines Walk::No(0);
+            }
+            spot = spot_after(spot, text[i]);
+            i += 1;
+        }
+        n += 1;
+        if !spot.inside {
+            break 'lines Walk::Block(n, shallow);
+        }
+        brace = spot.brace;
+        at = l.next;
+    }
+}
+
+// What is said of a comment that closes in line n.
+fn comment_answer(shallow: bool, n: usize) -> Answer
+    ensures { λ r. ⌜ r ≡ commentBy shallow n ⌝ }
+{
+    if shallow {
+        return Answer::Lines(n);
+    }
+    Answer::No(n)
+}
+
+// The walk over a comment, up to the line with its close.
+fn comment_run(text: &[u8], start: usize, opener: usize) -> Answer
+    requires { ⌜ length (now text) ≤ 65535 ⌝ }
+    ensures { λ r. ⌜ r ≡ commentFrom opener 0 false (lines (drop start (now (text .entry)))) ⌝ }
+{
+    let mut n = 0;
+    let mut at = start;
+    let mut shallow = false;
+    'lines: loop {
+        if text.len() <= at {
+            break 'lines Answer::NoEnd;
+        }
+        let l = lines::line_from(text, at);
+        let to = l.to;
+        if lines::is_blank_line(&text[at..to]) {
+            break 'lines Answer::NoEnd;
+        }
+        let column = columns::indent_columns(&text[at..to]);
+        shallow = shallow_or(shallow, n, column, opener);
+        if closes_comment(&text[at..to]) {
+            break 'lines comment_answer(shallow, n + 1);
+        }
+        n += 1;
+        at = l.next;
+    }
+}
+
+// The run is closed.
+fn closed_run(len: usize, lines: usize, lookahead: usize) -> Ran
+    ensures { λ r. ⌜ r ≡ record { stop = Closed; len = len; lines = lines; lookahead = lookahead } ⌝ }
+{
+    Ran {
+        stop: Stop::Closed,
+        len,
+        lines,
+        lookahead,
+    }
+}
+
+// The run is refused.
+fn stopped(no: Refusal, len: usize, lines: usize, lookahead: usize) -> Ran
+    ensures { λ r. ⌜ r ≡ record { stop = Refused no; len = len; lines = lines; lookahead = lookahead } ⌝ }
+{
+    Ran {
+        stop: Stop::Refused(no),
+        len,
+        lines,
+        lookahead,
+    }
+}
+
+// Before the first line of a run.
+fn run_start() -> State
+    ensures { λ r. ⌜ r ≡ record { len = 0; brace = 0; base = 0; quote = Out; hold = holdStart } ⌝ }
+{
+    State {
+        len: 0,
+        brace: 0,
+        base: 0,
+        quote: Quote::Out,
+        hold: scanners::hold_start(),
+    }
+}
+
+// The run over the lines of a block, with its pads: the walk is made again, and nothing of the first is kept.
+fn join_padded(text: &[u8], start: usize, opener: usize, join: &mut [u8]) -> Ran
+    requires { ⌜ (length (now text) ≤ 65535) × ((opener ≤ 262140) × (isBlock (walkAt opener (now text) start) ≡ true)) ⌝ }
+    ensures { λ r. ⌜ r ≡ ranOf (paddedRun (length (now (join .entry))) opener (now (text .entry)) start) ⌝ }
+    ensures { λ r. ⌜ now (join .exit) ≡ over (paddedRun (length (now (join .entry))) opener (now (text .entry)) start .text) (now (join .entry)) ⌝ }
+{
+    let mut st = run_start();
+    let mut n = 0;
+    let mut lookahead = 0;
+    let mut at = start;
+    let mut brace = opener;
+    'lines: loop {
+        let l = lines::line_from(text, at);
+        let to = l.to;
+        let from = at + lines::trim_ascii_start(&text[at..to]);
+        let spot = spot_at(n, brace, &text[at..to]);
+        let pad = pad_of(n, spot.column, brace, opener);
+        match runs::join_line(&text[from..to], pad, st, join) {
+            Step::Broken => break 'lines stopped(Refusal::NoReading, st.len, n, lookahead),
+            Step::Full => break 'lines stopped(Refusal::JoinFull, st.len, n, lookahead),
+            Step::Closes(v) => break 'lines closed_run(v.len, n + 1, lookahead + (to - at)),
+            Step::Go(v) => {
+                let end = pass_over(&text[from..to], spot);
+                n += 1;
+                lookahead += to - at;
+                if !end.inside {
+                    break 'lines stopped(Refusal::NoReading, v.len, n, lookahead);
+                }
+                st = v;
+                brace = end.brace;
+                at = l.next;
+                continue 'lines;
+            }
+        }
+    }
+}
+
+// What the run over the padded lines, so many, says of it.
+fn answer_of(r: Ran, count: usize, join: &[u8]) -> Answer
+    ensures { λ a. ⌜ a ≡ answerBy (r .stop) (eqb (r .lines) count && goodLine (now (join .entry)) 0 (r .len)) count ⌝ }
+{
+    let stop = r.stop;
+    match stop {
+        Stop::Closed => {
+            if r.lines != count {
+                return Answer::No(0);
+            }
+            if chain::good_line(join, 0, r.len) {
+                return Answer::Lines(count);
+            }
+            Answer::No(0)
+        }
+        Stop::Refused(x) => {
+            if refusals::number(x) == 9 {
+                return Answer::Refused(x);
+            }
+            Answer::No(0)
+        }
+    }
+}
+
+// Nothing is joined.
+fn unjoined_run(answer: Answer) -> RefusedRun
+    ensures { λ r. ⌜ r ≡ handedOut (unjoined answer) ⌝ }
+{
+    RefusedRun {
+        answer,
+        lookahead: 0,
+        joined: 0,
+    }
+}
+
+// The block of so many lines, one of which stands too far left.
+fn refused_block(text: &[u8], at: usize, opener: usize, count: usize, join: &mut [u8]) -> RefusedRun
+    requires { ⌜ (length (now text) ≤ 65535) × ((opener ≤ 262140) × (isBlock (walkAt opener (now text) at) ≡ true)) ⌝ }
+    ensures { λ r. ⌜ r ≡ handedOut (judged count (paddedRun (length (now (join .entry))) opener (now (text .entry)) at)) ⌝ }
+    ensures { λ r. ⌜ now (join .exit) ≡ over (paddedRun (length (now (join .entry))) opener (now (text .entry)) at .text) (now (join .entry)) ⌝ }
+{
+    let r = join_padded(text, at, opener, join);
+    RefusedRun {
+        answer: answer_of(r, count, join),
+        lookahead: r.lookahead,
+        joined: r.len,
+    }
+}
+
+// The run whose first line begins at the place.
+fn refused_at(text: &[u8], at: usize, join: &mut [u8]) -> RefusedRun
+    requires { ⌜ (length (now text) ≤ 65535) × (at < length (now text)) ⌝ }
+    ensures { λ r. ⌜ r ≡ handedOut (refusedOf (length (now (join .entry))) (lines (drop at (now (text .entry))))) ⌝ }
+    ensures { λ r. ⌜ now (join .exit) ≡ over (refusedOf (length (now (join .entry))) (lines (drop at (now (text .entry)))) .text) (now (join .entry)) ⌝ }
+{
+    let l = lines::line_from(text, at);
+    let to = l.to;
+    if !opens_brace(&text[at..to]) {
+        return unjoined_run(Answer::No(0));
+    }
+    let opener = columns::indent_columns(&text[at..to]);
+    if opens_comment(&text[at..to]) {
+        return unjoined_run(comment_run(text, at, opener));
+    }
+    match walk_run(text, at, opener) {
+        Walk::No(n) => unjoined_run(Answer::No(n)),
+        Walk::Block(count, shallow) => {
+            if shallow {
+                return refused_block(text, at, opener, count, join);
+            }
+            unjoined_run(Answer::No(0))
+        }
+    }
+}
+
+// Whether the brace run at the line of that number is refused only for a line too far left.
+pub fn refused_brace_run(text: &[u8], line: usize, join: &mut [u8]) -> RefusedRun
+    ensures { λ r. ⌜ r ≡ handedOut (refusedRun (length (now (join .entry))) (now (text .entry)) line) ⌝ }
+    ensures { λ r. ⌜ now (join .exit) ≡ over (refusedRun (length (now (join .entry))) (now (text .entry)) line .text) (now (join .entry)) ⌝ }
+{
+    match checks::check_text(text) {
+        Check::Refused(r) => unjoined_run(Answer::Refused(r)),
+        Check::Passed => match lines::line_of(text, line) {
+            Line::Missing => unjoined_run(Answer::No(0)),
+            Line::At(r) => refused_at(text, r.from, join),
+        },
+    }
+}
+
+// Where the line begins that ends before the place.
+fn line_start(text: &[u8], at: usize) -> usize
+    requires { ⌜ (0 < at) × ((at ≤ length (now text)) × Edge (now text) at) ⌝ }
+    ensures { λ r. ⌜ Before (now (text .entry)) at r ⌝ }
+{
+    let mut i = at - 1;
+    while 0 < i {
+        if text[i - 1] == b'\n' {
+            return i;
+        }
+        i -= 1;
+    }
+    i
+}
+
+// Where the run that was tried doesn't end with the text: whether another is tried.
+fn next_or(again: bool, tried: bool) -> Verdict
+    ensures { λ r. ⌜ r ≡ nextOr again tried ⌝ }
+{
+    if !again {
+        return Verdict::Told(Ends::No);
+    }
+    if tried {
+        return Verdict::Told(Ends::No);
+    }
+    Verdict::Next
+}
+
+// What the answer of a run says, which began so many lines before the text's end.
+fn verdict_of(answer: Answer, count: usize, again: bool, tried: bool) -> Verdict
+    ensures { λ r. ⌜ r ≡ verdictOf answer count again tried ⌝ }
+{
+    match answer {
+        Answer::Refused(r) => Verdict::Told(Ends::Refused(r)),
+        Answer::Lines(n) => {
+            if n == count {
+                return Verdict::Told(Ends::Yes);
+            }
+            next_or(again, tried)
+        }
+        Answer::No(_) => next_or(again, tried),
+        Answer::NoEnd => next_or(again, tried),
+    }
+}
+
+// The answer with its lookahead.
+fn ended(answer: Ends, lookahead: usize) -> EndsRun
+    ensures { λ r. ⌜ r ≡ record { answer = answer; lookahead = lookahead } ⌝ }
+{
+    EndsRun { answer, lookahead }
+}
+
+// The lines that open with a brace, from the last upwards: at most two are tried.
+fn search_back(text: &[u8], again: bool, join: &mut [u8]) -> EndsRun
+    requires { ⌜ length (now text) ≤ 65535 ⌝ }
+    ensures { λ r. ⌜ r ≡ endsShown (endedBy (backFrom again (now (join .entry)) (lines (now (text .entry))))) ⌝ }
+    ensures { λ r. ⌜ now (join .exit) ≡ endedBy (backFrom again (now (join .entry)) (lines (now (text .entry)))) .join ⌝ }
+{
+    let mut at = text.len();
+    let mut count = 0;
+    let mut tried = false;
+    let mut lookahead = 0;
+    'lines: loop {
+        if at == 0 {
+            break 'lines ended(Ends::No, lookahead);
+        }
+        at = line_start(text, at);
+        count += 1;
+        let l = lines::line_from(text, at);
+        let to = l.to;
+        if lines::is_blank_line(&text[at..to]) {
+            break 'lines ended(Ends::No, lookahead);
+        }
+        if !opens_brace(&text[at..to]) {
+            continue 'lines;
+        }
+        let r = refused_at(text, at, join);
+        lookahead += r.lookahead;
+        let answer = r.answer;
+        match verdict_of(answer, count, again, tried) {
+            Verdict::Told(e) => break 'lines ended(e, lookahead),
+            Verdict::Next => {
+                tried = true;
+                continue 'lines;
+            }
+        }
+    }
+}
+
+// The last line decides whether any is tried, and whether a second one is.
+fn ends_in(text: &[u8], join: &mut [u8]) -> EndsRun
+    requires { ⌜ length (now text) ≤ 65535 ⌝ }
+    ensures { λ r. ⌜ r ≡ endsShown (endsOf (now (join .entry)) (lines (now (text .entry)))) ⌝ }
+    ensures { λ r. ⌜ now (join .exit) ≡ endsOf (now (join .entry)) (lines (now (text .entry))) .join ⌝ }
+{
+    if text.len() == 0 {
+        return ended(Ends::No, 0);
+    }
+    let at = line_start(text, text.len());
+    let l = lines::line_from(text, at);
+    let to = l.to;
+    if !scanners::contains_close(&text[at..to]) {
+        return ended(Ends::No, 0);
+    }
+    let again = closes_comment(&text[at..to]);
+    search_back(text, again, join)
+}
+
+// Whether the text ends in a run that is refused only for a line too far left.
+pub fn ends_in_refused_brace_run(text: &[u8], join: &mut [u8]) -> EndsRun
+    ensures { λ r. ⌜ r ≡ endsShown (endsIn (now (join .entry)) (now (text .entry))) ⌝ }
+    ensures { λ r. ⌜ now (join .exit) ≡ endsIn (now (join .entry)) (now (text .entry)) .join ⌝ }
+{
+    match checks::check_text(text) {
+        Check::Refused(r) => ended(Ends::Refused(r), 0),
+        Check::Passed => ends_in(text, join),
+    }
+}
