@@ -963,35 +963,166 @@ fn merge(rng: &mut Rng, out: &mut Out) {
     out.hex(&pair[1]);
 }
 
+/// A sheet: text and blocks of every kind, mostly a few, now and then up to the text limit.
 fn sheet(rng: &mut Rng, out: &mut Out) {
-    let mut text = if rng.once_in(4000) {
-        if rng.percent(40) { long_line(rng) } else { long_lines(rng) }
-    } else {
-        let mut text = String::new();
-        for _ in 0..rng.between(0, 7) {
-            let part = match rng.weighted(&[30, 30, 25, 8, 5, 2]) {
-                0 => chain(rng),
-                1 => {
-                    let column = if rng.percent(90) { 0 } else { opener_column(rng) };
-                    wrapped(rng, column, 10)
-                }
-                2 => prose(rng),
-                3 => wrapped(rng, 0, 60),
-                4 => comment(rng),
-                _ => format!("{{{}}}", crowd(rng).join(" ")),
-            };
-            text.push_str(&part);
-            text.push_str(if rng.once_in(10) { "\r\n" } else { "\n" });
+    let mut text = match rng.weighted(&[9_600, 360, 20, 6, 14]) {
+        0 => {
+            let parts = rng.between(0, 7);
+            sheet_parts(rng, parts)
         }
-        if rng.once_in(3) {
-            text.pop();
+        1 => {
+            let parts = rng.between(8, 60);
+            sheet_parts(rng, parts)
         }
-        text
+        2 => long_sheet(rng),
+        3 => {
+            if rng.percent(40) {
+                long_line(rng)
+            } else {
+                long_lines(rng)
+            }
+        }
+        _ => {
+            let (before, behind) = (rng.below(4), rng.below(4));
+            let edge = if rng.once_in(4) { format!("{}\n{}", wide_block(rng, 60_000), wide_block(rng, 60_000)) } else { canon_edge(rng) };
+            format!("{}{edge}\n{}", sheet_parts(rng, before), sheet_parts(rng, behind))
+        }
+    };
+    if rng.once_in(3) {
+        text.pop();
     }
-    .into_bytes();
+    match rng.weighted(&[76, 20, 2, 2]) {
+        0 => {}
+        // Written on another system: every line ends in CR LF.
+        1 => text = text.replace("\r\n", "\n").replace('\n', "\r\n"),
+        2 => text = text.replace('\n', "\r"),
+        _ => text.insert_str(0, rng.pick(&["\u{feff}", "\u{c}", "\r", "\n", " "])),
+    }
+    let mut text = text.into_bytes();
     damage(rng, &mut text, 5);
     text.truncate(65_600);
     out.request("sheet", &text, "");
+}
+
+/// So many parts of a sheet, each with its line end.
+fn sheet_parts(rng: &mut Rng, parts: usize) -> String {
+    let mut text = String::new();
+    for _ in 0..parts {
+        text.push_str(&sheet_part(rng));
+        text.push_str(if rng.once_in(10) { "\r\n" } else { "\n" });
+    }
+    text
+}
+
+fn sheet_part(rng: &mut Rng) -> String {
+    match rng.weighted(&[300, 290, 250, 80, 50, 15, 12, 3]) {
+        0 => {
+            // What stands around a chain is trimmed, but a space or tab before it makes the line plain text.
+            let before = if rng.once_in(15) { rng.pick(&["\u{c}", "\r", "\u{c}\r", " ", "\t", "\u{c} ", "\u{b}", "\u{a0}"]) } else { "" };
+            let behind = if rng.once_in(10) { rng.pick(&[" ", "\t", "\u{c}", "\r", " \t ", "\u{a0}", "x"]) } else { "" };
+            format!("{before}{}{behind}", chain(rng))
+        }
+        1 => {
+            let column = if rng.percent(90) { 0 } else { opener_column(rng) };
+            wrapped(rng, column, 10)
+        }
+        2 => prose(rng),
+        3 => wrapped(rng, 0, 60),
+        4 => comment(rng),
+        5 => format!("{{{}}}", crowd(rng).join(" ")),
+        6 => {
+            let list = if rng.percent(70) { crowd(rng) } else { (0..rng.between(5, 40)).map(|_| token(rng)).collect() };
+            broken(rng, &list)
+        }
+        _ => wide_block(rng, 3_000),
+    }
+}
+
+/// These tokens as a chain of blocks over several lines, all as they should stand.
+fn broken(rng: &mut Rng, list: &[String]) -> String {
+    let (mut out, mut line) = (String::new(), "{".to_string());
+    let (breaks, chains) = (rng.between(5, 60), rng.below(8));
+    for (n, token) in list.iter().enumerate() {
+        if n > 0 && rng.percent(chains) {
+            line.push_str("}{");
+        } else if n > 0 && rng.percent(breaks) {
+            break_line(rng, &mut out, &mut line, 0);
+        } else if n > 0 {
+            line.push(' ');
+        }
+        line.push_str(token);
+    }
+    out + &line + "}"
+}
+
+/// A block whose value has up to `most` bytes.
+fn wide_block(rng: &mut Rng, most: usize) -> String {
+    let size = rng.between(1, most);
+    match rng.below(5) {
+        0 => filled(size, "{k=", "x", "}"),
+        1 => filled(size, "{.a k='", "\"", "'}"),
+        2 => filled(size, "{id=\"", "é ", "\"}"),
+        3 => filled(size, "{a\n k=\"", "\\\\", "\"}"),
+        _ => filled(size, "{.a\n class='", "\"\\a", "'\n b}"),
+    }
+}
+
+/// A block whose canonical text is as long as the limit allows, or a little shorter or longer, while its own text is much
+/// shorter: a quote, and a backslash that stays, takes one byte more there.
+fn canon_edge(rng: &mut Rng) -> String {
+    let target = if rng.percent(85) { TEXT_LIMIT + rng.below(5) - 2 } else { rng.between(60_000, 120_000) };
+    // What stands before and behind the value, and in the canonical text.
+    let (head, tail, canon) = match rng.below(7) {
+        0 => ("{k='", "'}", "{k=\"\"}"),
+        1 => ("{id='", "'}", "{id=\"\"}"),
+        2 => ("{class='", "'}", "{class=\"\"}"),
+        3 => ("{.a}{k='", "'}", "{class=\"a\" k=\"\"}"),
+        4 => ("{.a\n k='", "'}", "{class=\"a\" k=\"\"}"),
+        5 => ("{:en k='", "'\n #b}", "{lang=\"en\" k=\"\" id=\"b\"}"),
+        _ => ("{\n k='", "' k2}", "{k=\"\" k2=\"\"}"),
+    };
+    let mut room = target - canon.len();
+    let mut value = String::new();
+    for _ in 0..rng.below(12) {
+        let (piece, takes) = [("x", 1), ("\\a", 3), ("\\\\", 2), ("\\\"", 2), ("é", 2), ("\\'", 1), ("\"\"\"", 6)][rng.below(7)];
+        value.push_str(piece);
+        room -= takes;
+    }
+    // The rest are quotes, two bytes each.
+    value.push_str(&"\"".repeat(room / 2));
+    value.push_str(&"x".repeat(room % 2));
+    format!("{head}{value}{tail}")
+}
+
+/// Parts up to a size at or near the text limit, exactly.
+fn long_sheet(rng: &mut Rng) -> String {
+    let size = long_size(rng);
+    let mut text = String::new();
+    let plain = rng.once_in(3);
+    while text.len() < size {
+        if plain {
+            // Short blocks in plenty: the report is then many times as long as the sheet.
+            text.push_str(rng.pick(&["{a}\n", "{a}\n", "{.b}\n", "{:}\n", "{#c}\n", "{a\n b}\n", "{a}\r\n", "\n"]));
+        } else if rng.once_in(40) {
+            text.push_str(&wide_block(rng, 12_000));
+            text.push('\n');
+        } else {
+            text.push_str(&sheet_part(rng));
+            text.push('\n');
+        }
+    }
+    let mut cut = size;
+    while !text.is_char_boundary(cut) {
+        cut -= 1;
+    }
+    text.truncate(cut);
+    // Cut in the middle of a line, or filled up with one that is whole.
+    if rng.percent(50) {
+        let end = text.rfind('\n').map_or(0, |at| at + 1);
+        text.truncate(end);
+        text = filled(size, &text, "z", "");
+    }
+    text
 }
 
 /// A request with one fault in its line, or, now and then, none.
@@ -1163,6 +1294,7 @@ fn sections(family: &str) -> &'static [Section] {
         _ => &[
             Section { atoms: &[b"{", b"}", b"a", b" ", b"\n", b"\r", b"\"", b"="], forms: &[("sheet", b"", b""), ("sheet", b"{", b"}\n{b}")] },
             Section { atoms: &[b"{a", b"}", b"}{.b", b"\n", b"\n ", b" ", b"c=\"", b"\"", b"{#d}", b"text", b"\r\n"], forms: &[("sheet", b"", b"")] },
+            Section { atoms: &[b"{", b"}", b"a", b"\n", b"\t", b" ", b"\\", b"\x0C"], forms: &[("sheet", b"", b"")] },
         ],
     }
 }

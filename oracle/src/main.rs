@@ -1,4 +1,5 @@
-//! The oracle: reads request lines on standard input and writes one answer line for each.
+//! The oracle: reads request lines on standard input and writes one answer line for each. With the word `sheet` it is the
+//! sheet program instead: standard input is one sheet, and its report is written.
 
 mod ast;
 mod document;
@@ -7,11 +8,18 @@ mod parse;
 mod requests;
 mod standins;
 
-use std::io::{self, BufRead, BufReader, BufWriter, Write};
+use std::io::{self, BufRead, BufReader, BufWriter, Read, Write};
 
 fn main() -> io::Result<()> {
     let mut input = BufReader::with_capacity(1 << 20, io::stdin().lock());
     let mut output = BufWriter::with_capacity(1 << 20, io::stdout().lock());
+    if std::env::args().nth(1).as_deref() == Some("sheet") {
+        // One byte above the limit is as many as it takes to refuse the text.
+        let mut text = Vec::new();
+        input.take(layer::TEXT_LIMIT as u64 + 1).read_to_end(&mut text)?;
+        output.write_all(&layer::sheet(&text))?;
+        return output.flush();
+    }
     let mut request = Vec::new();
     let mut answer = Vec::new();
     loop {

@@ -1,7 +1,7 @@
 -- Classes of bytes. Every class that the scope names is defined here; only the first bytes of UTF-8 characters are told apart in utf8.
 use Prim.Native.Nat.{ℕ}
 use mathlib.Core.Bool.{Bool, not, _&&_, _||_}
-use mathlib.Core.List.{List, [], _∷_}
+use mathlib.Core.List.{[], _∷_}
 use lib.Dec.{leb, eqb}
 use Rattle.lists.specs.Lists.{isIn}
 use Rattle.ascii.specs.declared.Mode.{Mode}

@@ -29,7 +29,8 @@ use Rattle.runs.specs.declared.Stop as stops
 use Rattle.runs.specs.declared.Stop.the-variants as stop
 use Rattle.runs.proofs.Bounds.{run-by, lookahead-le, text-short, never-full}
 use Rattle.blocks.specs.declared.Length.the-variants as lengthIs
-use Rattle.blocks.specs.Blocks.{lineAt, frontOf, opensAt, Found, nothing, closedRun, ended, runFound, found, wrapped, joinedIn, lookaheadOf, linesOf, lengthOf, lengthNo, linesIn, measured, isUnread, blockOf, begun, startAt, onStart, blockFound, wrappedFound, beginsIndented, flushLeft, standaloneFound, unlessLine, indentedFound}
+use Rattle.blocks.specs.Blocks.{lineAt, frontOf, opensAt, Found, nothing, closedRun, ended, runFound, found, wrapped, joinedIn, lookaheadOf, linesOf, lengthOf, lengthNo, linesIn, measured, blockOf, begun, startAt, onStart, blockFound, wrappedFound, beginsIndented, flushLeft, standaloneFound, indentedFound}
+use Rattle.blocks.specs.Steps.{isUnread}
 use Rattle.blocks.proofs.Finds.{unread-is}
 
 -- ---- reading and measuring agree
@@ -143,12 +144,11 @@ module _ (t : List ℕ) (cap : ℕ) where
 
   pub fair-indented : (n : ℕ) → Fair t cap (indentedFound t n cap)
   unfolding indentedFound isIn numberOf
-  fair-indented n = go (blockFound t n 0 cap) (fair-block n 0)
+  fair-indented n = go (eqb (linesOf (blockFound t n 0 cap)) 1)
     where
-      go : (f : Found) → Fair t cap f → Fair t cap (unlessLine f)
-      go Found.line w = fair-none NoReading refl refl
-      go (Found.run r) w = w
-      go (Found.none q x n) w = w
+      go : (b : Bool) → Fair t cap (cond b (nothing NoReading) (blockFound t n 0 cap))
+      go true = fair-none NoReading refl refl
+      go false = fair-block n 0
 
 -- ---- "Where no run is made it is 0"
 

@@ -30,9 +30,9 @@ use Rattle.blocks.specs.declared.Length.the-variants as lengthIs
 use Rattle.blocks.specs.declared.Measure.{Measure}
 use Rattle.blocks.specs.declared.Block.{Block}
 use Rattle.runs.proofs.Bounds.{text-short}
-use Rattle.runs.specs.declared.Stop as stops
 use Rattle.runs.specs.declared.Stop.the-variants as stop
-use Rattle.blocks.specs.Blocks.{lineAt, frontOf, opensAt, Found, nothing, closedRun, ended, runFound, found, wrapped, joinHolds, measured, isUnread, blockBy, unread, blockOf, sized, unlessLine}
+use Rattle.blocks.specs.Blocks.{lineAt, frontOf, opensAt, Found, nothing, closedRun, runFound, found, wrapped, joinHolds, measured, blockBy, blockOf, sized}
+use Rattle.blocks.specs.Steps.{isUnread, unread}
 
 -- ---- a good line is one that is read
 
@@ -127,19 +127,6 @@ module _ (t : List ℕ) (at : ℕ) {f : Front} (p : f ≡ frontOf t at) where
   line-read e q = rw (q, e, p)
 
 -- ---- how a run ends
-
--- a run isn't the one-line case
-pub run-stays : (t : List ℕ) (at base cap : ℕ) → unlessLine (runFound t at base cap) ≡ runFound t at base cap
-unfolding runFound
-run-stays t at base cap = go (runAt cap base t at) (runAt cap base t at .stop)
-  where
-    good : (r : Run) (b : Bool) → unlessLine (closedRun r b) ≡ closedRun r b
-    good r true = refl
-    good r false = refl
-
-    go : (r : Run) (x : stops.Stop) → unlessLine (ended r x) ≡ ended r x
-    go r stop.Closed = good r (goodLine (r .text) 0 (length (r .text)))
-    go r (stop.Refused q) = refl
 
 -- what the code has of a run: its numbers j, and the join buffer b, which was buf
 module _ (t : List ℕ) (at base : ℕ) (buf : List ℕ) {j : Joined} {b : List ℕ}

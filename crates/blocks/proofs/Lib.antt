@@ -5,3 +5,4 @@ pub mod Starts
 pub mod Agree
 pub mod Wraps
 pub mod SetsOk
+pub mod Numbers

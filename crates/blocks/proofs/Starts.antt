@@ -21,7 +21,8 @@ use Rattle.blocks.specs.declared.Start as starts
 use Rattle.blocks.specs.declared.Start.the-variants as start
 use Rattle.blocks.specs.declared.Measure.{Measure}
 use Rattle.blocks.specs.declared.Block.{Block}
-use Rattle.blocks.specs.Blocks.{lineAt, Found, nothing, found, wrapped, joinHolds, measured, blockOf, unread, begun, startAt, placeOf, lineRead, parseStandalone, blockFound, wrappedFound, beginsIndented, flushLeft, standaloneFound, unlessLine, indentedFound}
+use Rattle.blocks.specs.Blocks.{lineAt, Found, nothing, found, wrapped, joinHolds, measured, blockOf, begun, startAt, placeOf, lineRead, parseStandalone, blockFound, wrappedFound, beginsIndented, flushLeft, standaloneFound, unlessLine, indentedFound}
+use Rattle.blocks.specs.Steps.{unread}
 use Rattle.blocks.proofs.Finds.{none-holds, none-read}
 
 -- ---- where there is no line

@@ -1,4 +1,4 @@
--- A block that is found as a run has more than one line: so the one-line case that `indented_wrapped_attrs_block_len` refuses is the good line.
+-- A block that is found as a run has more than one line: so the block of one line that `indented_wrapped_attrs_block_len` refuses is the good line.
 -- Assumes nothing.
 use mathlib.Core.Path.{_≡_, refl, sym, _∙_, ap}
 use mathlib.Core.Bool.{Bool, true, false, not, cond, _&&_}
@@ -28,7 +28,6 @@ use Rattle.runs.specs.declared.Stop as stops
 use Rattle.runs.specs.declared.Stop.the-variants as stop
 use Rattle.runs.proofs.Bounds.{run-by}
 use Rattle.blocks.specs.Blocks.{lineAt, frontOf, opensAt, Found, nothing, closedRun, ended, runFound, found, linesOf, unlessLine}
-use Rattle.blocks.proofs.Finds.{run-stays}
 
 -- ---- a good line ends in `}`
 
@@ -124,16 +123,19 @@ module _ (t : List ℕ) (at base cap : ℕ) where
       go stop.Closed e = closed (goodLine (r .text) 0 (length (r .text))) refl e
       go (stop.Refused q) e = refl
 
-  -- 000: `filter(|&len| len > 1)`
-  pub only-wrapped : unlessLine (found t at base cap) ≡ cond (eqb (linesOf (found t at base cap)) 1) (nothing NoReading) (found t at base cap)
+  pub run-stays : endsInClose (trim (lineAt t at)) ≡ false → unlessLine (runFound t at base cap) ≡ runFound t at base cap
+  run-stays c = rw (run-more c)
+
+  -- the block of one line is the good line
+  pub one-line : eqb (linesOf (found t at base cap)) 1 ≡ true → found t at base cap ≡ Found.line
   unfolding found
-  only-wrapped = go (opensAt t at) (goodLine t (frontOf t at .from) (frontOf t at .to)) (endsInClose (trim (lineAt t at))) refl
+  one-line = go (opensAt t at) (goodLine t (frontOf t at .from) (frontOf t at .to)) (endsInClose (trim (lineAt t at))) refl
     where
       f : Bool → Bool → Bool → Found
       f o g c = cond o (cond g Found.line (cond c (nothing NoReading) (runFound t at base cap))) (nothing NothingThere)
 
-      go : (o g c : Bool) → endsInClose (trim (lineAt t at)) ≡ c → unlessLine (f o g c) ≡ cond (eqb (linesOf (f o g c)) 1) (nothing NoReading) (f o g c)
-      go true true c e = refl
-      go true false true e = refl
-      go true false false e = rw (run-more e) (run-stays t at base cap)
-      go false g c e = refl
+      go : (o g c : Bool) → endsInClose (trim (lineAt t at)) ≡ c → eqb (linesOf (f o g c)) 1 ≡ true → f o g c ≡ Found.line
+      go true true c e n = refl
+      go true false true e n = contra false n refl
+      go true false false e n = contra (eqb (linesOf (runFound t at base cap)) 1) n (run-more e)
+      go false g c e n = contra false n refl

@@ -1,7 +1,7 @@
 -- Blocks by lines: which lines a block takes, what it reads, and the entries by line number.
 use Prim.Native.Nat.{ℕ, _+_}
 use mathlib.Core.Bool.{Bool, false, cond}
-use mathlib.Core.List.{List, [], _∷_, _++_}
+use mathlib.Core.List.{List, [], _∷_}
 use lib.Dec.{eqb, ltb}
 use lib.ListN.{length, drop}
 use Rattle.ascii.specs.Bytes.{isIndent}
@@ -20,9 +20,7 @@ use Rattle.payloads.specs.Payloads.{beginsOpen, endsInClose}
 use Rattle.chain.specs.Chain.{goodLine}
 use Rattle.fill.specs.Fill.{refusing, chainAt}
 use Rattle.fill.specs.declared.Filled.{Filled}
-use Rattle.fill.specs.declared.Outcome as outcomes
-use Rattle.fill.specs.declared.Outcome.the-variants as outcome
-use Rattle.runs.specs.Runs.{Run, runAt, pastLines}
+use Rattle.runs.specs.Runs.{Run, runAt, pastLines, over}
 use Rattle.runs.specs.declared.Stop as stops
 use Rattle.runs.specs.declared.Stop.the-variants as stop
 use Rattle.blocks.specs.declared.Front.{Front}
@@ -99,7 +97,7 @@ linesOf (Found.run r) = r .lines
 linesOf (Found.none q x n) = 0
 
 unfoldable pub joinHolds : List ℕ → Found → List ℕ
-joinHolds buf f = joinedIn f ++ drop (length (joinedIn f)) buf
+joinHolds buf f = over (joinedIn f) buf
 
 -- ---- measuring: "Measuring never gives 6 to 8"
 
@@ -133,16 +131,8 @@ filledBy t at Found.line = chainAt Loose t (frontOf t at .from) (frontOf t at .t
 filledBy t at (Found.run r) = chainAt Loose (r .text) 0 (length (r .text))
 filledBy t at (Found.none q x n) = refusing q
 
--- whether the grammar refuses: 5
-abbrev pub isUnread : outcomes.Outcome → Bool
-isUnread outcome.Done = false
-isUnread (outcome.Refused r) = eqb (numberOf r) (numberOf NoReading)
-
 abbrev pub blockBy : Filled → ℕ → ℕ → ℕ → ℕ → Block
 blockBy f n look joined next = record { outcome = f .outcome; set = f .set; lines = n; lookahead = look; joined = joined; next = next }
-
-abbrev pub unread : Refusal → ℕ → ℕ → ℕ → Block
-unread r look joined at = blockBy (refusing r) 0 look joined at
 
 unfoldable pub blockOf : List ℕ → ℕ → Found → Block
 blockOf t at f = blockBy (filledBy t at f) (linesOf f) (lookaheadOf f) (length (joinedIn f)) (pastLines (linesOf f) t at)
@@ -197,9 +187,7 @@ standaloneFound t n cap = onStart nothing (flushLeft t cap) (startAt t n)
 
 -- "`indented_wrapped_attrs_block_len` answers 5 for a block of one line."
 abbrev pub unlessLine : Found → Found
-unlessLine Found.line = nothing NoReading
-unlessLine (Found.run r) = Found.run r
-unlessLine (Found.none q x n) = Found.none q x n
+unlessLine f = cond (eqb (linesOf f) 1) (nothing NoReading) f
 
 unfoldable pub indentedFound : List ℕ → ℕ → ℕ → Found
 indentedFound t n cap = unlessLine (blockFound t n 0 cap)

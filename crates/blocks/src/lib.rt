@@ -13,7 +13,8 @@ ghost use Rattle.lines.specs.Trim.{trim};
 ghost use Rattle.payloads.specs.Payloads.{endsInClose};
 ghost use Rattle.refusals.specs.Numbers.{maxText};
 ghost use Rattle.fill.specs.Fill.{refusing};
-ghost use Rattle.blocks.specs.Blocks.{lineAt, frontOf, opensAt, runFound, found, wrapped, joinHolds, measured, blockOf, nothing, unread, isUnread, blockBy, sized, startAt, placeOf, lineRead, parseStandalone, blockFound, wrappedFound, beginsIndented, standaloneFound, unlessLine, indentedFound};
+ghost use Rattle.blocks.specs.Blocks.{lineAt, frontOf, opensAt, runFound, found, wrapped, joinHolds, measured, blockOf, nothing, blockBy, sized, startAt, placeOf, lineRead, parseStandalone, blockFound, wrappedFound, beginsIndented, standaloneFound, unlessLine, indentedFound};
+ghost use Rattle.blocks.specs.Steps.{isUnread, unread};
 
 // A line without the whitespace at its ends, and where the next one begins.
 pub struct Front {

@@ -8,7 +8,7 @@ use native.Mathlib.Omega.{arith}
 use lib.Dec.{eqb}
 use lib.ListN.{length, length-append}
 use lib.Seq.{take-at}
-use Rattle.lists.specs.Lists.{all, isIn}
+use Rattle.lists.specs.Lists.{all, isIn, isSome}
 use Rattle.lists.proofs.Scan.{both, all-append}
 use Rattle.lists.proofs.More.{contra, apart, not-in, all-weaker}
 use Rattle.ascii.specs.declared.Mode.the-variants.{Strict}
@@ -23,7 +23,7 @@ use Rattle.grammar.proofs.Bytes.{key-parts}
 use Rattle.grammar.proofs.Chain.{Chain, no-blanks, chain-payload}
 use Rattle.grammar.proofs.Payload.{complete}
 use Rattle.grammar.proofs.Close.{covered-append, close-complete}
-use Rattle.canon.specs.Canon.{Answer, readAt, escape, Pair, pairText, moreText, pairsText, pairsOf, pairs, canon, every, isClassValue, isSome, wf}
+use Rattle.canon.specs.Canon.{Answer, readAt, escape, Pair, pairText, moreText, pairsText, pairsOf, pairs, canon, isClassValue, wf}
 use Rattle.canon.proofs.Values.{inside-escape, unescape-escape, all-escape, values-whole}
 use Rattle.canon.proofs.Parts.{okay, classes-some, some-value, split-wf}
 use Rattle.canon.proofs.Puts.{pairEntry, pairEntries, put-together}
@@ -121,12 +121,12 @@ closes : {s : List ℕ} → Passed s → (i : ℕ) → closeFrom (s ++ (125 ∷ 
 closes {s} p i = close-complete (record { inside = s; rest = []; whole = refl; place = refl; covered = p .covered; flat = p .flat })
 
 -- ======== the pairs of a well-formed meaning
-pairsOf-sure : (n : List ℕ) (vs : List (List ℕ)) → isKey n ≡ true → every noLf vs ≡ true → (isClass n ≡ true → every isClassValue vs ≡ true) → Sures (pairsOf n vs)
-unfolding pairsOf every
+pairsOf-sure : (n : List ℕ) (vs : List (List ℕ)) → isKey n ≡ true → all noLf vs ≡ true → (isClass n ≡ true → all isClassValue vs ≡ true) → Sures (pairsOf n vs)
+unfolding pairsOf all
 pairsOf-sure n [] k f w = Sures.none
 pairsOf-sure n (v ∷ vs) k f w =
-    let g = both (noLf v) (every noLf vs) f in
-    Sures.and (record { key = k; flat = g .0; whole = λ c. both (isClassValue v) (every isClassValue vs) (w c) .0 }) (pairsOf-sure n vs k (g .1) (λ c. both (isClassValue v) (every isClassValue vs) (w c) .1))
+    let g = both (noLf v) (all noLf vs) f in
+    Sures.and (record { key = k; flat = g .0; whole = λ c. both (isClassValue v) (all isClassValue vs) (w c) .0 }) (pairsOf-sure n vs k (g .1) (λ c. both (isClassValue v) (all isClassValue vs) (w c) .1))
 
 sures-append : {ps qs : List Pair} → Sures ps → Sures qs → Sures (ps ++ qs)
 sures-append Sures.none g = g

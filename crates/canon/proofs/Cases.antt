@@ -12,7 +12,7 @@ use Rattle.escapes.specs.Unescape.{unescapeFrom, unescape}
 use Rattle.grammar.specs.Grammar.{isValue}
 use Rattle.grammar.specs.Read.{ends, finish, shutOf, valueToken, afterName, tokenOf, text, readFrom, readPayload}
 use Rattle.grammar.specs.Meaning.{Entry, isClass, piecesFrom, classesOf, valuesOf, said, put, puts, entriesOf, meaning}
-use Rattle.grammar.specs.Close.{stepOf, closeFrom, findClose}
+use Rattle.grammar.specs.Close.{turned, stepOf, closeFrom, findClose}
 use Rattle.canon.specs.Canon.{Answer, readAt, escape, moreText, pairsText, pairsOf, pairs, canon}
 
 abbrev one : List ℕ → List (List ℕ) → Entry
@@ -56,11 +56,12 @@ abbrev pub write : Answer → List ℕ
 write (Answer.refused n) = []
 write (Answer.read m next) = canon m
 
--- each text as it is read and written
-abbrev pub computed : List Case → List Case
-computed [] = []
-computed (c ∷ cs) = let a = readAt Strict (c .given) 0 in record { given = c .given; wanted = a; canonical = write a } ∷ computed cs
+-- each text as `by` reads it, and the canonical text of what was read
+abbrev pub readings : (List ℕ → Answer) → List Case → List Case
+readings by [] = []
+readings by (c ∷ cs) = let a = by (c .given) in record { given = c .given; wanted = a; canonical = write a } ∷ readings by cs
 
-pub twelve : computed cases ≡ cases
-unfolding all headed run isIn same within isLetter isDigit isAlnum isNameStart isNamePart isKeyStart isBlank isQuote isPlain isPunct isSpace isName isKey isBareName isSize tagFrom isTag isLanguage unescapeFrom unescape isValue ends finish shutOf valueToken afterName tokenOf text readFrom readPayload isClass piecesFrom classesOf valuesOf said put puts entriesOf meaning stepOf closeFrom findClose readAt escape moreText pairsText pairsOf pairs canon
+-- without sizes, limits and UTF-8; crate reader says the same of what its promise cites
+pub twelve : readings (λ t. readAt Strict t 0) cases ≡ cases
+unfolding all headed run isIn same within isLetter isDigit isAlnum isNameStart isNamePart isKeyStart isBlank isQuote isPlain isPunct isSpace isName isKey isBareName isSize tagFrom isTag isLanguage unescapeFrom unescape isValue ends finish shutOf valueToken afterName tokenOf text readFrom readPayload isClass piecesFrom classesOf valuesOf said put puts entriesOf meaning turned stepOf closeFrom findClose readAt escape moreText pairsText pairsOf pairs canon
 twelve = refl

@@ -1,5 +1,4 @@
 -- The theorems about canonical text.
-pub mod Every
 pub mod Values
 pub mod Parts
 pub mod Puts

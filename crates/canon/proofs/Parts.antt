@@ -4,23 +4,24 @@ use mathlib.Core.Path.{_≡_, refl}
 use mathlib.Core.Bool.{Bool, true, false, _&&_}
 use mathlib.Core.List.{List, [], _∷_}
 use Prim.Native.Nat.{ℕ}
+use Rattle.lists.specs.Lists.{all, isSome}
 use Rattle.lists.proofs.Scan.{both}
 use Rattle.names.specs.Names.{isKey}
 use Rattle.grammar.specs.Meaning.{Entry, isClass, absent, distinct}
 use Rattle.grammar.specs.Close.{noLf}
-use Rattle.canon.specs.Canon.{every, isSome, isOne, isClassValue, valuesOk, entryOk, entriesOk, wf}
+use Rattle.canon.specs.Canon.{isOne, isClassValue, valuesOk, entryOk, entriesOk, wf}
 
 -- ---- one entry
 pub record Okay (n : List ℕ) (vs : List (List ℕ)) : Type 0 where
   pub key : isKey n ≡ true
-  pub flat : every noLf vs ≡ true
+  pub flat : all noLf vs ≡ true
   pub shape : valuesOk n vs ≡ true
 
 pub okay : (e : Entry) → entryOk e ≡ true → Okay (e .name) (e .values)
 unfolding entryOk
 okay e h =
-    let a = both (isKey (e .name)) (every noLf (e .values) && valuesOk (e .name) (e .values)) h in
-    let b = both (every noLf (e .values)) (valuesOk (e .name) (e .values)) (a .1) in
+    let a = both (isKey (e .name)) (all noLf (e .values) && valuesOk (e .name) (e .values)) h in
+    let b = both (all noLf (e .values)) (valuesOk (e .name) (e .values)) (a .1) in
     record { key = a .0; flat = b .0; shape = b .1 }
 
 pub entry-ok : (e : Entry) → Okay (e .name) (e .values) → entryOk e ≡ true
@@ -29,9 +30,9 @@ entry-ok e o = rw (o .key, o .flat) (o .shape)
 
 module _ {n : List ℕ} {vs : List (List ℕ)} (o : Okay n vs) where
   -- classes are some, and each is whole; anything else is one value
-  pub classes-some : isClass n ≡ true → (isSome vs ≡ true) × (every isClassValue vs ≡ true)
+  pub classes-some : isClass n ≡ true → (isSome vs ≡ true) × (all isClassValue vs ≡ true)
   unfolding valuesOk
-  classes-some c = both (isSome vs) (every isClassValue vs) (rw c at (o .shape))
+  classes-some c = both (isSome vs) (all isClassValue vs) (rw c at (o .shape))
 
   pub one-value : isClass n ≡ false → isOne vs ≡ true
   unfolding valuesOk
@@ -48,7 +49,7 @@ module _ {n : List ℕ} {vs : List (List ℕ)} (o : Okay n vs) where
       go true c = classes-some c .0
       go false c = one vs (one-value c)
 
-pub classes-ok : (n : List ℕ) (vs : List (List ℕ)) → isClass n ≡ true → isSome vs ≡ true → every isClassValue vs ≡ true → valuesOk n vs ≡ true
+pub classes-ok : (n : List ℕ) (vs : List (List ℕ)) → isClass n ≡ true → isSome vs ≡ true → all isClassValue vs ≡ true → valuesOk n vs ≡ true
 unfolding valuesOk
 classes-ok n vs c s w = rw (c, s) w
 

@@ -5,7 +5,7 @@ use mathlib.Core.Bool.{Bool, true, false, not, _&&_, _||_, cond}
 use mathlib.Core.List.{List, [], _∷_, _++_}
 use Prim.Native.Nat.{ℕ}
 use lib.Dec.{eqb}
-use Rattle.lists.specs.Lists.{all, headed, same}
+use Rattle.lists.specs.Lists.{all, headed, same, isSome}
 use Rattle.lists.proofs.Scan.{both, all-append}
 use Rattle.lists.proofs.Same.{same-true}
 use Rattle.lists.proofs.More.{contra, or-right, not-in, all-parts, all-weaker}
@@ -20,8 +20,7 @@ use Rattle.grammar.specs.Close.{noLf}
 use Rattle.grammar.proofs.Bytes.{name-parts, bare-key}
 use Rattle.grammar.proofs.Chain.{Chain, payload-chain}
 use Rattle.grammar.proofs.Views.{put-distinct, put-some}
-use Rattle.canon.specs.Canon.{isClassValue, every, isSome, entryOk, entriesOk, wf}
-use Rattle.canon.proofs.Every.{every-weaker, every-append}
+use Rattle.canon.specs.Canon.{isClassValue, entryOk, entriesOk, wf}
 use Rattle.canon.proofs.Parts.{Okay, okay, entry-ok, classes-some, classes-ok, value-ok, joined}
 
 abbrev pub notLf : ℕ → Bool
@@ -31,21 +30,21 @@ abbrev pub solid : ℕ → Bool
 solid b = not (isSpace b)
 
 -- ---- pieces
-every-flush : (g : List ℕ → Bool) (c : List ℕ) (ps : List (List ℕ)) → g c ≡ true → every g ps ≡ true → every g (flush c ps) ≡ true
-unfolding every
-every-flush g [] ps h k = k
-every-flush g (a ∷ c) ps h k = rw h k
+all-flush : (g : List ℕ → Bool) (c : List ℕ) (ps : List (List ℕ)) → g c ≡ true → all g ps ≡ true → all g (flush c ps) ≡ true
+unfolding all
+all-flush g [] ps h k = k
+all-flush g (a ∷ c) ps h k = rw h k
 
 -- each byte of a piece passes, where each byte of the value that isn't whitespace does
-every-pieces : (f : ℕ → Bool) (c s : List ℕ) → all f c ≡ true → all (λ b. isSpace b || f b) s ≡ true → every (all f) (piecesFrom c s) ≡ true
-unfolding piecesFrom all every
-every-pieces f c [] h k = every-flush (all f) c [] h refl
-every-pieces f c (b ∷ s) h k =
+all-pieces : (f : ℕ → Bool) (c s : List ℕ) → all f c ≡ true → all (λ b. isSpace b || f b) s ≡ true → all (all f) (piecesFrom c s) ≡ true
+unfolding piecesFrom all
+all-pieces f c [] h k = all-flush (all f) c [] h refl
+all-pieces f c (b ∷ s) h k =
     let g = both (isSpace b || f b) (all (λ b. isSpace b || f b) s) k in
-    go (isSpace b) (g .0) (every-pieces f [] s refl (g .1)) (λ p. every-pieces f (c ++ (b ∷ [])) s (all-append f c (b ∷ []) h (rw p)) (g .1))
+    go (isSpace b) (g .0) (all-pieces f [] s refl (g .1)) (λ p. all-pieces f (c ++ (b ∷ [])) s (all-append f c (b ∷ []) h (rw p)) (g .1))
   where
-    go : (x : Bool) → (x || f b) ≡ true → every (all f) (piecesFrom [] s) ≡ true → (f b ≡ true → every (all f) (piecesFrom (c ++ (b ∷ [])) s) ≡ true) → every (all f) (cond x (flush c (piecesFrom [] s)) (piecesFrom (c ++ (b ∷ [])) s)) ≡ true
-    go true p i j = every-flush (all f) c (piecesFrom [] s) h i
+    go : (x : Bool) → (x || f b) ≡ true → all (all f) (piecesFrom [] s) ≡ true → (f b ≡ true → all (all f) (piecesFrom (c ++ (b ∷ [])) s) ≡ true) → all (all f) (cond x (flush c (piecesFrom [] s)) (piecesFrom (c ++ (b ∷ [])) s)) ≡ true
+    go true p i j = all-flush (all f) c (piecesFrom [] s) h i
     go false p i j = j p
 
 or-not : (a : Bool) → (a || not a) ≡ true
@@ -92,23 +91,23 @@ white-class v h = or-right (all solid v) (all isSpace v) h
 -- what the classes of a value are
 record Classes (vs : List (List ℕ)) : Type 0 where
   some : isSome vs ≡ true
-  flat : every noLf vs ≡ true
-  whole : every isClassValue vs ≡ true
+  flat : all noLf vs ≡ true
+  whole : all isClassValue vs ≡ true
 
 classes-good : (v : List ℕ) → noLf v ≡ true → Classes (classesOf v)
-unfolding classesOf every noLf all
+unfolding classesOf all noLf
 classes-good v h =
     go (piecesFrom [] v) refl
-    (every-pieces notLf [] v refl (all-weaker notLf (λ b. isSpace b || notLf b) (λ b p. or-right (isSpace b) (notLf b) p) v h))
-    (every-weaker (all solid) isClassValue solid-class (piecesFrom [] v) (every-pieces solid [] v refl (anything v)))
+    (all-pieces notLf [] v refl (all-weaker notLf (λ b. isSpace b || notLf b) (λ b p. or-right (isSpace b) (notLf b) p) v h))
+    (all-weaker (all solid) isClassValue solid-class (piecesFrom [] v) (all-pieces solid [] v refl (anything v)))
   where
-    go : (ps : List (List ℕ)) → piecesFrom [] v ≡ ps → every (all notLf) (piecesFrom [] v) ≡ true → every isClassValue (piecesFrom [] v) ≡ true → Classes (orWhole v ps)
+    go : (ps : List (List ℕ)) → piecesFrom [] v ≡ ps → all (all notLf) (piecesFrom [] v) ≡ true → all isClassValue (piecesFrom [] v) ≡ true → Classes (orWhole v ps)
     go [] e i j = record { some = refl; flat = rw h; whole = rw (white-class v (no-pieces v e)) }
     go (p ∷ ps) e i j = record { some = refl; flat = rw e at i; whole = rw e at j }
 
 -- ---- entries
 value-good : (n v : List ℕ) → isKey n ≡ true → noLf v ≡ true → entryOk (record { name = n; values = valuesOf n v }) ≡ true
-unfolding valuesOf every
+unfolding valuesOf all
 value-good n v k f = go (isClass n) refl (classes-good v f)
   where
     go : (x : Bool) → isClass n ≡ x → Classes (classesOf v) → entryOk (record { name = n; values = cond x (classesOf v) (v ∷ []) }) ≡ true
@@ -116,7 +115,7 @@ value-good n v k f = go (isClass n) refl (classes-good v f)
     go false p c = entry-ok (record { name = n; values = v ∷ [] }) (record { key = k; flat = rw f; shape = value-ok n v p })
 
 one-good : (n v : List ℕ) → isKey n ≡ true → noLf v ≡ true → (isClass n ≡ true → isClassValue v ≡ true) → entryOk (record { name = n; values = v ∷ [] }) ≡ true
-unfolding every
+unfolding all
 one-good n v k f w = entry-ok (record { name = n; values = v ∷ [] }) (record { key = k; flat = rw f; shape = go (isClass n) refl })
   where
     go : (x : Bool) → isClass n ≡ x → Rattle.canon.specs.Canon.valuesOk n (v ∷ []) ≡ true
@@ -154,7 +153,7 @@ over-good n us vs a b = go (isClass n) refl
     go true p =
         let c = classes-some a p in
         let d = classes-some b p in
-        entry-ok (record { name = n; values = us ++ vs }) (record { key = a .key; flat = every-append noLf us vs (a .flat) (b .flat); shape = classes-ok n (us ++ vs) p (some-append us vs (c .0)) (every-append isClassValue us vs (c .1) (d .1)) })
+        entry-ok (record { name = n; values = us ++ vs }) (record { key = a .key; flat = all-append noLf us vs (a .flat) (b .flat); shape = classes-ok n (us ++ vs) p (some-append us vs (c .0)) (all-append isClassValue us vs (c .1) (d .1)) })
     go false p = entry-ok (record { name = n; values = vs }) b
 
 put-good : (m : List Entry) (e : Entry) → entriesOk m ≡ true → entryOk e ≡ true → entriesOk (put m e) ≡ true

@@ -5,7 +5,7 @@ use mathlib.Core.List.{List, [], _∷_, _++_}
 use Prim.Native.Nat.{ℕ, suc, _-_}
 use lib.Dec.{eqb}
 use lib.ListN.{getD, take, drop}
-use Rattle.lists.specs.Lists.{all, isIn}
+use Rattle.lists.specs.Lists.{all, isSome, isIn}
 use Rattle.ascii.specs.declared.Mode.{Mode}
 use Rattle.ascii.specs.Bytes.{isSpace}
 use Rattle.names.specs.Names.{isKey}
@@ -85,14 +85,6 @@ canon m = 123 ∷ (pairsText (pairs m) ++ (125 ∷ []))
 
 -- ---- well-formed
 
-unfoldable pub every : {A : Type 0} → (A → Bool) → List A → Bool
-every f [] = true
-every f (v ∷ vs) = f v && every f vs
-
-abbrev pub isSome : List (List ℕ) → Bool
-isSome [] = false
-isSome (v ∷ vs) = true
-
 abbrev pub isOne : List (List ℕ) → Bool
 isOne [] = false
 isOne (v ∷ vs) = not (isSome vs)
@@ -103,11 +95,11 @@ isClassValue v = all (λ b. not (isSpace b)) v || all isSpace v
 
 -- one or more classes, or one id or one value of a key
 unfoldable pub valuesOk : List ℕ → List (List ℕ) → Bool
-valuesOk n vs = cond (isClass n) (isSome vs && every isClassValue vs) (isOne vs)
+valuesOk n vs = cond (isClass n) (isSome vs && all isClassValue vs) (isOne vs)
 
 -- "keys by the grammar, ..; no LF in an unescaped id, class or key value"
 unfoldable pub entryOk : Entry → Bool
-entryOk e = isKey (e .name) && (every noLf (e .values) && valuesOk (e .name) (e .values))
+entryOk e = isKey (e .name) && (all noLf (e .values) && valuesOk (e .name) (e .values))
 
 unfoldable pub entriesOk : List Entry → Bool
 entriesOk [] = true

@@ -12,14 +12,14 @@ use grammar::Step;
 fn outside(b: u8) -> Step
     ensures { λ r. ⌜ r ≡ bareStep Quote.Out b ⌝ }
 {
+    if b == b'}' {
+        return Step::Closed;
+    }
     if ascii::is_quote(b) {
         return Step::Go(Scan {
             quote: Quote::In(b),
             escaped: false,
         });
-    }
-    if b == b'}' {
-        return Step::Closed;
     }
     Step::Go(Scan {
         quote: Quote::Out,

@@ -3,7 +3,7 @@ ghost use mathlib.Core.Path.{_≡_};
 ghost use Rattle.columns.specs.Columns.{tabStop, columnAfter, columnsFrom, indentColumns, capped};
 
 // The greatest column that a number holds: a text of 65,535 bytes never comes near.
-const MOST: usize = 18446744073709551615;
+pub const MOST: usize = 18446744073709551615;
 
 // The column behind the byte b, which stands at column c or goes on the character before it.
 pub fn column_after(c: usize, b: u8) -> usize

@@ -10,7 +10,7 @@ use borrow.Author.Tests.{leb-true, le-leb, le-ltb}
 use lib.Dec.{leb, ltb}
 use lib.ListN.{length, take, drop, length-take}
 use lib.Seq.{take-at, drop-at}
-use Rattle.lists.specs.Lists.{all, headed, same}
+use Rattle.lists.specs.Lists.{all, headed, same, isSome}
 use Rattle.lists.proofs.Scan.{both}
 use Rattle.lists.proofs.More.{contra}
 use Rattle.ascii.specs.Bytes.{within, isLetter, isDigit, isAlnum, isKeyStart, isNamePart}
@@ -26,10 +26,10 @@ use Rattle.checks.proofs.Texts.{passed}
 use Rattle.names.specs.Names.{isKey}
 use Rattle.grammar.specs.Close.{noLf}
 use Rattle.grammar.specs.Meaning.{Entry, isClass, absent, distinct}
-use Rattle.canon.specs.Canon.{escape, moreText, pairsText, pairsOf, pairs, canon, every, valuesOk, entryOk, entriesOk, wf}
+use Rattle.canon.specs.Canon.{escape, moreText, pairsText, pairsOf, pairs, canon, valuesOk, entryOk, entriesOk, wf}
 use Rattle.canon.proofs.Back.{back, same-text, same-meaning}
 use Rattle.sets.specs.Types.{one, maxClasses, maxKeys, maxSlots}
-use Rattle.sets.specs.Rows.{isSome, rowsIn, meaningOf}
+use Rattle.sets.specs.Rows.{rowsIn, meaningOf}
 use Rattle.sets.specs.Shape.{isFree}
 use Rattle.sets.specs.declared.Attrs.{Attrs}
 use Rattle.wellformed.specs.WellFormed.{countsOk, rowsOk, tableOk, wellFormed}
@@ -204,7 +204,7 @@ abbrev bare : ℕ → List Entry
 bare b = record { name = b ∷ []; values = [] ∷ [] } ∷ []
 
 bare-may : (x : Bool) → May (bare (cond x 97 98))
-unfolding wf entriesOk entryOk every valuesOk isClass same isKey headed isKeyStart isNamePart isAlnum isLetter isDigit within all noLf distinct absent canon pairs pairsOf pairsText moreText escape classCount keyCount isFree
+unfolding wf entriesOk entryOk all valuesOk isClass same isKey headed isKeyStart isNamePart isAlnum isLetter isDigit within noLf distinct absent canon pairs pairsOf pairsText moreText escape classCount keyCount isFree
 bare-may true = record { well = refl; some = λ q. contra true refl (cc); short = omega arith; utf8 = ascii (canon (bare 97)) refl; classes = omega arith; keys = omega arith }
 bare-may false = record { well = refl; some = λ q. contra true refl (cc); short = omega arith; utf8 = ascii (canon (bare 98)) refl; classes = omega arith; keys = omega arith }
 

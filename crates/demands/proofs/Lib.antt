@@ -1,2 +1,3 @@
 -- The demands.
 pub mod Canonical
+pub mod Example

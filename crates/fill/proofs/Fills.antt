@@ -9,6 +9,7 @@ use native.Mathlib.Omega.{arith}
 use lib.ListN.{length, getD, set, take, length-append, length-map, length-set}
 use lib.Seq.{take-append-seam, length-take-le}
 use borrow.Author.Tests.{le-ltb}
+use Rattle.lists.specs.Lists.{isSome}
 use Rattle.ascii.specs.declared.Mode.{Mode}
 use Rattle.refusals.specs.declared.Refusal.{Refusal}
 use Rattle.refusals.specs.declared.Refusal.the-variants.{NoReading}
@@ -20,7 +21,7 @@ use Rattle.sets.specs.declared.Slot.{Slot}
 use Rattle.sets.specs.declared.Slot.the-variants as slot
 use Rattle.sets.specs.declared.Attrs.{Attrs}
 use Rattle.sets.specs.Types.{Texts, maxClasses, maxKeys, maxSlots, zeroValue, zeroRow, zeroSlot, emptySet}
-use Rattle.sets.specs.Rows.{Rows, Put, noRows, isThere, isSome, hasKey, keyAt, putRow, withPut, withPuts, padded, held, tableOf}
+use Rattle.sets.specs.Rows.{Rows, Put, noRows, isThere, hasKey, keyAt, putRow, withPut, withPuts, padded, held, tableOf}
 use Rattle.sets.proofs.Table.{padded-more, padded-set, padded-get}
 use Rattle.sets.proofs.Keys.{key-le, key-none, key-some}
 use Rattle.fill.specs.declared.Cursor.{Cursor}

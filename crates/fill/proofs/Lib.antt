@@ -7,3 +7,4 @@ pub mod Limits
 pub mod Fills
 pub mod Whole
 pub mod Meant
+pub mod Numbers

@@ -6,13 +6,14 @@ use mathlib.Core.List.{List, [], _∷_, _++_}
 use Prim.Native.Nat.{ℕ, _+_, _<_, _≤_}
 use native.Mathlib.Omega.{arith}
 use lib.ListN.{length, length-append}
+use Rattle.lists.specs.Lists.{isSome}
 use Rattle.sets.specs.declared.Value.{Value}
 use Rattle.sets.specs.declared.Name.{Name}
 use Rattle.sets.specs.declared.Row.{Row}
 use Rattle.sets.specs.declared.Slot.{Slot}
 use Rattle.sets.specs.declared.Slot.the-variants as slot
 use Rattle.sets.specs.Types.{Texts, maxKeys, maxSlots}
-use Rattle.sets.specs.Rows.{Rows, Put, noRows, isThere, isSome, slotUnless, isNamed, hasKey, putRow, withPut, withPuts}
+use Rattle.sets.specs.Rows.{Rows, Put, noRows, isThere, slotUnless, isNamed, hasKey, putRow, withPut, withPuts}
 
 abbrev pub one-if : Bool → ℕ
 one-if true = 1

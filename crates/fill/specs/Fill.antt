@@ -10,12 +10,18 @@ use Rattle.grammar.specs.Read.{Reading, readPayload}
 use Rattle.chain.specs.Chain.{readBlocks}
 use Rattle.refusals.specs.declared.Refusal.{Refusal}
 use Rattle.refusals.specs.declared.Refusal.the-variants.{TextTooLong, NoReading, TooManyClasses, TooManyKeys, TooManySlots}
-use Rattle.refusals.specs.Numbers.{maxText}
+use Rattle.refusals.specs.Numbers.{maxText, numberOf}
 use Rattle.sets.specs.Types.{Texts, one, emptySet, maxClasses, maxKeys, maxSlots}
 use Rattle.sets.specs.Rows.{Rows, noRows, withPuts, tableOf}
 use Rattle.sets.specs.Puts.{putsIn}
+use Rattle.fill.specs.declared.Outcome.{Outcome}
 use Rattle.fill.specs.declared.Outcome.the-variants.{Refused, Done}
 use Rattle.fill.specs.declared.Filled.{Filled}
+
+-- the number of an answer: 0 where a set is handed out
+abbrev pub outcomeNo : Outcome → ℕ
+outcomeNo (Refused r) = numberOf r
+outcomeNo Done = 0
 
 -- the set of a refusal is the empty one
 abbrev pub refusing : Refusal → Filled

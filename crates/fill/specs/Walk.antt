@@ -10,7 +10,7 @@ use Rattle.lists.specs.Lists.{run}
 use Rattle.ascii.specs.declared.Mode.{Mode}
 use Rattle.ascii.specs.Bytes.{isSpace}
 use Rattle.grammar.specs.Read.{Reading, readFrom}
-use Rattle.grammar.specs.Meaning.{rangesFrom}
+use Rattle.grammar.specs.Meaning.{rangesFrom, orWhole}
 use Rattle.chain.specs.Chain.{blocksFrom}
 use Rattle.refusals.specs.declared.Refusal.{Refusal}
 use Rattle.refusals.specs.declared.Refusal.the-variants.{NoReading, TooManyClasses, TooManyKeys}
@@ -18,7 +18,7 @@ use Rattle.sets.specs.declared.Text.{Text}
 use Rattle.sets.specs.declared.Text.the-variants as text
 use Rattle.sets.specs.Types.{Texts, maxClasses}
 use Rattle.sets.specs.Rows.{Put, Rows, withPuts}
-use Rattle.sets.specs.Puts.{valueOf, pieceOf, orWhole, byName, putsIn}
+use Rattle.sets.specs.Puts.{valueOf, pieceOf, byName, putsIn}
 use Rattle.fill.specs.declared.Kind.{Kind}
 use Rattle.fill.specs.declared.Kind.the-variants.{Plain, Quoted, Empty}
 use Rattle.fill.specs.declared.Cursor.{Cursor}

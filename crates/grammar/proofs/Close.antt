@@ -22,7 +22,7 @@ use Rattle.grammar.specs.declared.Scan.{Scan}
 use Rattle.grammar.specs.declared.Step.the-variants.{Closed, Broken, Go}
 use Rattle.grammar.specs.declared.Place.{Place}
 use Rattle.grammar.specs.declared.Place.the-variants.{Nothing, At}
-use Rattle.grammar.specs.Close.{going, bareStep, stepOf, goOn, closeFrom, fresh, findClose, Covered, noLf, Closes, lastFrom, lastClose, isBefore}
+use Rattle.grammar.specs.Close.{going, turned, bareStep, stepOf, goOn, closeFrom, fresh, findClose, Covered, noLf, Closes, lastFrom, lastClose, isBefore}
 use Rattle.grammar.proofs.Tokens.{covering, quote-not}
 
 -- ======== what is found is a close
@@ -80,17 +80,26 @@ other b p q r = go (eqb b 34) (eqb b 39) p
     go false true e = contra true refl e
     go false false e = rw (q, r)
 
+pub quote-lf : (q : ℕ) → isQuote q ≡ true → eqb q 10 ≡ false
+unfolding isQuote all
+quote-lf q h = among-not (λ x. eqb x 10) (34 ∷ 39 ∷ []) q refl h
+
+quote-close : (q : ℕ) → isQuote q ≡ true → eqb q 125 ≡ false
+unfolding isQuote all
+quote-close q h = among-not (λ x. eqb x 125) (34 ∷ 39 ∷ []) q refl h
+
 close-from : (s : List ℕ) (q : Quote) (x : Bool) (i e : ℕ) → closeFrom s (record { quote = q; escaped = x }) i ≡ At e → Ends q x s i e
-unfolding closeFrom stepOf noLf all
+unfolding closeFrom stepOf turned noLf all
 close-from [] q x i e h = contra true refl (cc)
 close-from (b ∷ s) q x i e h = go (eqb b 10) (eqb b 92) q x refl refl h (λ q x. close-from s q x (suc i) e)
   where
-    out : (y z : Bool) → isQuote b ≡ y → eqb b 125 ≡ z → eqb b 10 ≡ false → eqb b 92 ≡ false → goOn (cond y (going (In b) false) (cond z Closed (going Out false))) i (λ v. closeFrom s v (suc i)) ≡ At e → ((q : Quote) (x : Bool) → closeFrom s (record { quote = q; escaped = x }) (suc i) ≡ At e → Ends q x s (suc i) e) → Ends Out false (b ∷ s) i e
-    out true z p r n w h ih = longer b n (by-quote b p) (ih (In b) false h)
+    out : (y z : Bool) → isQuote b ≡ y → eqb b 125 ≡ z → eqb b 10 ≡ false → eqb b 92 ≡ false → goOn (cond z Closed (going (cond y (In b) Out) false)) i (λ v. closeFrom s v (suc i)) ≡ At e → ((q : Quote) (x : Bool) → closeFrom s (record { quote = q; escaped = x }) (suc i) ≡ At e → Ends q x s (suc i) e) → Ends Out false (b ∷ s) i e
+    out true true p r n w h ih = contra (eqb b 125) r (quote-close b p)
+    out true false p r n w h ih = longer b n (by-quote b p) (ih (In b) false h)
     out false true p r n w h ih = let z : i ≡ e = cc in record { inside = []; rest = s; whole = rw (eqb-true b 125 r); place = rw add-zero (sym z); left = Covered.end; flat = refl }
     out false false p r n w h ih = longer b n (λ t l. Covered.byte (other b p w r) l) (ih Out false h)
 
-    inq : (k : ℕ) (y : Bool) → eqb b k ≡ y → eqb b 10 ≡ false → eqb b 92 ≡ false → goOn (cond y (going Out false) (going (In k) false)) i (λ v. closeFrom s v (suc i)) ≡ At e → ((q : Quote) (x : Bool) → closeFrom s (record { quote = q; escaped = x }) (suc i) ≡ At e → Ends q x s (suc i) e) → Ends (In k) false (b ∷ s) i e
+    inq : (k : ℕ) (y : Bool) → eqb b k ≡ y → eqb b 10 ≡ false → eqb b 92 ≡ false → goOn (going (cond y Out (In k)) false) i (λ v. closeFrom s v (suc i)) ≡ At e → ((q : Quote) (x : Bool) → closeFrom s (record { quote = q; escaped = x }) (suc i) ≡ At e → Ends q x s (suc i) e) → Ends (In k) false (b ∷ s) i e
     inq k true p n w h ih = longer b n (by-end k b p) (ih Out false h)
     inq k false p n w h ih = longer b n (by-inside k b p w) (ih (In k) false h)
 
@@ -108,10 +117,10 @@ close-found s i e h = let c = close-from s Out false i e h in record { inside = 
 
 -- an ordinary byte outside quotes
 byte-pass : (b : ℕ) (t : List ℕ) (i : ℕ) → isIn (34 ∷ 39 ∷ 92 ∷ 125 ∷ []) b ≡ false → eqb b 10 ≡ false → closeFrom (b ∷ t) fresh i ≡ closeFrom t fresh (suc i)
-unfolding closeFrom stepOf isQuote isIn
+unfolding closeFrom stepOf turned isQuote isIn
 byte-pass b t i h n = rw n (go (eqb b 34) (eqb b 39) (eqb b 92) (eqb b 125) h)
   where
-    go : (w x y z : Bool) → (w || (x || (y || (z || false)))) ≡ false → goOn (cond y (going Out true) (cond (w || (x || false)) (going (In b) false) (cond z Closed (going Out false)))) i (λ v. closeFrom t v (suc i)) ≡ closeFrom t fresh (suc i)
+    go : (w x y z : Bool) → (w || (x || (y || (z || false)))) ≡ false → goOn (cond y (going Out true) (cond z Closed (going (cond (w || (x || false)) (In b) Out) false))) i (λ v. closeFrom t v (suc i)) ≡ closeFrom t fresh (suc i)
     go true x y z h = contra true refl h
     go false true y z h = contra true refl h
     go false false true z h = contra true refl h
@@ -123,7 +132,7 @@ quoting q = record { quote = In q; escaped = false }
 
 -- the text in a quote, and the quote's end
 inside-pass : {q : ℕ} {v : List ℕ} → Inside q v → (q ≡ 92 → ⊥) → eqb q 10 ≡ false → noLf v ≡ true → (t : List ℕ) (i : ℕ) → closeFrom (v ++ (q ∷ t)) (quoting q) i ≡ closeFrom t fresh (suc (i + length v))
-unfolding noLf all closeFrom stepOf
+unfolding noLf all closeFrom stepOf turned
 inside-pass {q} Inside.end w n h t i = rw (n, ne-eqb q 92 w, eq-eqb q q refl, add-zero)
 inside-pass {q} (Inside.byte {b = b} {s = s} p r g) w n h t i =
     let k = both (not (eqb b 10)) (all (λ b. not (eqb b 10)) s) h in
@@ -132,13 +141,9 @@ inside-pass {q} (Inside.pair {b = b} {s = s} g) w n h t i =
     let k = both (not (eqb b 10)) (all (λ b. not (eqb b 10)) s) h in
     rw (not-true (eqb b 10) (k .0), inside-pass g w n (k .1) t (suc (suc i)), add-suc, add-suc, suc-add, suc-add)
 
-pub quote-lf : (q : ℕ) → isQuote q ≡ true → eqb q 10 ≡ false
-unfolding isQuote all
-quote-lf q h = among-not (λ x. eqb x 10) (34 ∷ 39 ∷ []) q refl h
-
 quote-pass : (q : ℕ) (t : List ℕ) (i : ℕ) → isQuote q ≡ true → closeFrom (q ∷ t) fresh i ≡ closeFrom t (quoting q) (suc i)
-unfolding closeFrom stepOf
-quote-pass q t i h = rw (quote-lf q h, ne-eqb q 92 (quote-not q h), h)
+unfolding closeFrom stepOf turned
+quote-pass q t i h = rw (quote-lf q h, ne-eqb q 92 (quote-not q h), quote-close q h, h)
 
 pair-pass : (b : ℕ) (t : List ℕ) (i : ℕ) → eqb b 10 ≡ false → closeFrom (92 ∷ (b ∷ t)) fresh i ≡ closeFrom t fresh (suc (suc i))
 unfolding closeFrom stepOf

@@ -21,10 +21,15 @@ use Rattle.grammar.specs.declared.Place.the-variants.{Nothing, At}
 abbrev pub going : Quote → Bool → Step
 going q e = Go (record { quote = q; escaped = e })
 
+-- "text in one kind of quote": a quote opens outside, and the same one closes
+unfoldable pub turned : Quote → ℕ → Quote
+turned Out b = cond (isQuote b) (In b) Out
+turned (In k) b = cond (eqb b k) Out (In k)
+
 -- a byte that no backslash covers, by the quote that it stands in
 abbrev pub bareStep : Quote → ℕ → Step
-bareStep (In k) b = cond (eqb b k) (going Out false) (going (In k) false)
-bareStep Out b = cond (isQuote b) (going (In b) false) (cond (eqb b 125) Closed (going Out false))
+bareStep (In k) b = going (turned (In k) b) false
+bareStep Out b = cond (eqb b 125) Closed (going (turned Out b) false)
 
 -- an LF stops the search also where a backslash or a quote covers it; a backslash covers the next byte in quotes and outside
 unfoldable pub stepOf : Scan → ℕ → Step

@@ -38,7 +38,7 @@ piecesFrom c [] = flush c []
 piecesFrom c (b ∷ s) = cond (isSpace b) (flush c (piecesFrom [] s)) (piecesFrom (c ++ (b ∷ [])) s)
 
 -- ".. with no piece left the whole value is one class."
-abbrev pub orWhole : List ℕ → List (List ℕ) → List (List ℕ)
+abbrev pub orWhole : {A : Type 0} → A → List A → List A
 orWhole v [] = v ∷ []
 orWhole v (p ∷ ps) = p ∷ ps
 

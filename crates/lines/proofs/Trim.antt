@@ -11,9 +11,10 @@ use lib.Seq.{take-suc, take-length, take-all, length-take-le, slice}
 use Rattle.lists.specs.Lists.{all, run}
 use Rattle.lists.proofs.Scan.{run-le}
 use Rattle.ascii.specs.Bytes.{isSpace}
+use Rattle.lines.specs.declared.Range.{Range}
 use Rattle.lines.specs.Trim.{trimStart, trimEnd, trim, isBlankLine, trimRange}
 use Rattle.lists.proofs.Scan.{all-snoc, all-run}
-use Rattle.lists.proofs.Parts.{slice-add}
+use Rattle.lists.proofs.Parts.{slice-part, slice-add}
 
 -- ---- the front
 
@@ -115,6 +116,17 @@ module _ (s : List ℕ) {from left : ℕ} (p : from ≡ run isSpace s) (q : left
 
   pub both-within : from + left ≤ length s
   both-within = omega (arith, p, kept, trim-within s)
+
+-- the trimmed bytes, as code cuts them out
+module _ (s : List ℕ) {r : Range} (e : r ≡ trimRange s) where
+  pub core-from : r .from ≤ r .to
+  core-from = rw e (trim-from s)
+
+  pub core-to : r .to ≤ length s
+  core-to = rw e (trim-to s)
+
+  pub core-is : take (r .to - r .from) (drop (r .from) s) ≡ trim s
+  core-is = rw e (sym (slice-part (trimRange s .from) (trimRange s .to) s) ∙ trim-slice s)
 
 -- ---- blank lines
 

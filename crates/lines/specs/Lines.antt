@@ -5,6 +5,7 @@ use mathlib.Core.List.{List, [], _∷_}
 use lib.Dec.{eqb, ltb}
 use lib.ListN.{length, drop}
 use lib.Seq.{slice}
+use Rattle.lists.specs.Lists.{begins}
 use Rattle.refusals.specs.Numbers.{numberOf}
 use Rattle.refusals.specs.declared.Refusal.the-variants.{NothingThere}
 use Rattle.lines.specs.declared.Range.{Range}
@@ -16,8 +17,7 @@ use Rattle.lines.specs.declared.LineEnd.{LineEnd}
 
 -- s begins with an LF
 abbrev pub beforeLf : List ℕ → Bool
-beforeLf [] = false
-beforeLf (b ∷ s) = eqb b 10
+beforeLf s = begins s 10
 
 -- A byte in front of the first line. Where none follows it begins one: "Text after the last LF is a line if it isn't empty."
 abbrev pub onto : ℕ → List (List ℕ) → List (List ℕ)

@@ -1,7 +1,7 @@
 -- Tests of bytes against lists of them, and parts of lists: what the grammar's proofs ask of `all`, `headed`, `run` and `same`.
 -- Assumes nothing.
 use mathlib.Core.Path.{_≡_, refl, sym, _∙_}
-use mathlib.Core.Bool.{Bool, true, false, not, _&&_, _||_, cond, true≢false}
+use mathlib.Core.Bool.{Bool, true, false, not, _||_, cond, true≢false}
 use mathlib.Core.List.{List, [], _∷_, _++_}
 use Prim.Native.Nat.{ℕ, suc, _<_}
 use native.Mathlib.Omega.{arith}
@@ -52,7 +52,7 @@ not-in f l b h e = go (isIn l b) refl
     go false q = refl
 
 -- ---- all, headed
-pub all-parts : (f : ℕ → Bool) (s t : List ℕ) → all f (s ++ t) ≡ true → (all f s ≡ true) × (all f t ≡ true)
+pub all-parts : {A : Type 0} (f : A → Bool) (s t : List A) → all f (s ++ t) ≡ true → (all f s ≡ true) × (all f t ≡ true)
 unfolding all
 all-parts f [] t h = (refl, h)
 all-parts f (a ∷ s) t h =
@@ -60,7 +60,7 @@ all-parts f (a ∷ s) t h =
     let k = all-parts f s t (g .1) in
     (rw (g .0) (k .0), k .1)
 
-pub all-weaker : (f g : ℕ → Bool) → ((b : ℕ) → f b ≡ true → g b ≡ true) → (s : List ℕ) → all f s ≡ true → all g s ≡ true
+pub all-weaker : {A : Type 0} (f g : A → Bool) → ((a : A) → f a ≡ true → g a ≡ true) → (s : List A) → all f s ≡ true → all g s ≡ true
 unfolding all
 all-weaker f g w [] e = refl
 all-weaker f g w (a ∷ s) e = let h = both (f a) (all f s) e in rw (w a (h .0)) (all-weaker f g w s (h .1))

@@ -1,6 +1,6 @@
 -- Parts of a list: the library's `slice` by two places, and the `take` and `drop` that the code's `&s[a..e]` is.
 -- Assumes nothing.
-use mathlib.Core.Path.{_≡_, refl}
+use mathlib.Core.Path.{_≡_}
 use mathlib.Core.List.{List, [], _∷_, _++_}
 use Prim.Native.Nat.{ℕ, zero, suc, _+_, _-_, min}
 use native.Mathlib.Nat.{zero-add, suc-add, zero-min, suc-min-suc, sub-zero, zero-sub, suc-sub-suc}

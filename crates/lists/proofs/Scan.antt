@@ -37,7 +37,7 @@ module _ {f : ℕ → Bool} {s : List ℕ} {r : Bool} {i : ℕ} (inv : Passes f 
   unfolding all
   passes-end h = rw (drop-of-length-le s h) at (inv .rest)
 
-pub all-append : (f : ℕ → Bool) (s t : List ℕ) → all f s ≡ true → all f t ≡ true → all f (s ++ t) ≡ true
+pub all-append : {A : Type 0} (f : A → Bool) (s t : List A) → all f s ≡ true → all f t ≡ true → all f (s ++ t) ≡ true
 unfolding all
 all-append f [] t e q = q
 all-append f (a ∷ s) t e q = let h = both (f a) (all f s) e in rw (h .0) (all-append f s t (h .1) q)

@@ -1,7 +1,7 @@
 -- A function with the same value at each of some numbers has it at any one of them. antt computes the values, so the check is `refl`:
 -- one law for each way that a `match` on a byte can go.
 -- Assumes nothing.
-use mathlib.Core.Path.{_≡_, sym, _∙_, refl}
+use mathlib.Core.Path.{_≡_, refl}
 use mathlib.Core.Bool.{Bool, true, false, cond, _||_}
 use mathlib.Core.List.{List, [], _∷_, map}
 use Prim.Native.Nat.{ℕ, zero, suc, _+_, _-_, _<_, _≤_}

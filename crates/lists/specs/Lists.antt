@@ -1,13 +1,18 @@
--- Lists of bytes: the few words that the other definitions are written in.
+-- Lists, most of them of bytes: the few words that the other definitions are written in.
 use Prim.Native.Nat.{ℕ, suc}
 use mathlib.Core.Bool.{Bool, true, false, cond, _&&_, _||_}
 use mathlib.Core.List.{List, [], _∷_}
 use lib.Dec.{eqb}
 
--- the test passes at each byte
-unfoldable pub all : (ℕ → Bool) → List ℕ → Bool
+-- the test passes at each of the list
+unfoldable pub all : {A : Type 0} → (A → Bool) → List A → Bool
 all f [] = true
 all f (a ∷ s) = f a && all f s
+
+-- the list isn't empty
+abbrev pub isSome : {A : Type 0} → List A → Bool
+isSome [] = false
+isSome (a ∷ s) = true
 
 -- the first test passes at the first byte, which is there, and the second at each later one
 unfoldable pub headed : (ℕ → Bool) → (ℕ → Bool) → List ℕ → Bool
@@ -23,6 +28,11 @@ run f (a ∷ s) = cond (f a) (suc (run f s)) 0
 unfoldable pub isIn : List ℕ → ℕ → Bool
 isIn [] b = false
 isIn (a ∷ s) b = eqb b a || isIn s b
+
+-- s begins with the byte b
+abbrev pub begins : List ℕ → ℕ → Bool
+begins [] b = false
+begins (a ∷ s) b = eqb a b
 
 -- two byte strings are the same, byte for byte
 unfoldable pub same : List ℕ → List ℕ → Bool

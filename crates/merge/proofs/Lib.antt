@@ -6,3 +6,4 @@ pub mod Whole
 pub mod ByNames
 pub mod Puts
 pub mod Means
+pub mod Numbers

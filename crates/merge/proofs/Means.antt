@@ -9,6 +9,7 @@ use native.Mathlib.Omega.{arith}
 use lib.Dec.{ltb}
 use lib.ListN.{length, getD}
 use borrow.Author.Tests.{ltb-false, le-ltb}
+use Rattle.lists.specs.Lists.{all}
 use Rattle.lists.proofs.Scan.{both}
 use Rattle.refusals.specs.declared.Refusal.{Refusal}
 use Rattle.refusals.specs.declared.Refusal.the-variants.{TextTooLong, NotUtf8, NotWellFormed, TooManyClasses, TooManyKeys, TooManySlots}
@@ -18,7 +19,7 @@ use Rattle.checks.specs.Check.{checkOf}
 use Rattle.checks.specs.declared.Check.{Check}
 use Rattle.checks.specs.declared.Check.the-variants.{Passed, Refused}
 use Rattle.checks.proofs.Texts.{passed}
-use Rattle.canon.specs.Canon.{every, entriesOk, wf}
+use Rattle.canon.specs.Canon.{entriesOk, wf}
 use Rattle.grammar.specs.Meaning.{isClass, className, puts, lookup, slotNames, absent, distinct}
 use Rattle.sets.specs.Types.{Texts, one, emptySet, maxClasses, maxKeys, maxSlots, zeroValue, zeroRow, zeroSlot}
 use Rattle.sets.specs.Rows.{Rows, Put, noRows, isNamed, putRow, withPut, withPuts, tableOf, rowsIn, meant, meaningOf}
@@ -85,7 +86,7 @@ module _ (t : List ℕ) (a b : Attrs) where
 
   -- they are as well-formed as those of the two sets
   module _ (f : tableOk (one t) a ≡ true) (g : tableOk (one t) b ≡ true) where
-    good : every (putOk (one t)) (putsBy (rowsIn b)) ≡ true
+    good : all (putOk (one t)) (putsBy (rowsIn b)) ≡ true
     good = good-puts (table-passed (one t) b g)
 
     allowed : allAllowed (one t) (putsBy (rowsIn b)) ≡ true

@@ -5,13 +5,13 @@ use mathlib.Core.Bool.{true, false}
 use mathlib.Core.List.{List, [], _∷_, map, map-append}
 use lib.ListN.{length}
 use borrow.Author.Tests.{ltb-true}
-use Rattle.lists.proofs.Scan.{both}
+use Rattle.lists.specs.Lists.{all, isSome}
+use Rattle.lists.proofs.Scan.{both, all-append}
 use Rattle.lists.proofs.More.{contra}
-use Rattle.canon.specs.Canon.{every}
 use Rattle.grammar.specs.Meaning.{Entry, put, puts, idName, className}
 use Rattle.grammar.proofs.Views.{puts-append}
 use Rattle.sets.specs.Types.{Texts, valueBytes, zeroRow}
-use Rattle.sets.specs.Rows.{Rows, Put, isSome, isThere, idValues, slotEntry, meant}
+use Rattle.sets.specs.Rows.{Rows, Put, isThere, idValues, slotEntry, meant}
 use Rattle.sets.specs.Shape.{isPresent, isAllowed, allAllowed}
 use Rattle.sets.specs.declared.Id as ids
 use Rattle.sets.specs.declared.Id.the-variants as id
@@ -20,33 +20,33 @@ use Rattle.sets.specs.declared.Slot.the-variants.{Id, Class, Key}
 use Rattle.sets.specs.declared.Value.{Value}
 use Rattle.sets.proofs.Shaping.{putEntry}
 use Rattle.sets.proofs.Items.{entry, classes-puts}
-use Rattle.wellformed.specs.WellFormed.{identOk, classOk, keyOk}
-use Rattle.wellformed.proofs.Shape.{Passed, every-at, slots-named, keyed}
-use Rattle.wellformed.proofs.PutsKept.{putOk, every-append}
+use Rattle.values.specs.Values.{identOk, classOk, keyOk}
+use Rattle.wellformed.proofs.Shape.{Passed, all-at, slots-named, keyed}
+use Rattle.wellformed.proofs.PutsKept.{putOk}
 use Rattle.merge.specs.Merge.{putsOfId, putsAt, putsFrom, putsBy}
 
 module _ {t : Texts} {s : Rows} (h : Passed t s) where
   -- ---- what is put is good, and so may be put
-  good-at : (x : Slot) → isPresent s x ≡ true → every (putOk t) (putsAt s x) ≡ true
-  unfolding putsAt putOk every
+  good-at : (x : Slot) → isPresent s x ≡ true → all (putOk t) (putsAt s x) ≡ true
+  unfolding putsAt putOk all
   good-at Id p = go (s .ident) (h .ident)
     where
-      go : (i : ids.Id) → identOk t i ≡ true → every (putOk t) (putsOfId i) ≡ true
+      go : (i : ids.Id) → identOk t i ≡ true → all (putOk t) (putsOfId i) ≡ true
       go id.Missing k = refl
       go (id.Given v) k = rw k
   good-at Class p = go (s .classes) (h .classes)
     where
-      go : (cs : List Value) → every (classOk t) cs ≡ true → every (putOk t) (map Put.class cs) ≡ true
+      go : (cs : List Value) → all (classOk t) cs ≡ true → all (putOk t) (map Put.class cs) ≡ true
       go [] k = refl
-      go (c ∷ cs) k = let z = both (classOk t c) (every (classOk t) cs) k in rw (z .0) (go cs (z .1))
-  good-at (Key k) p = rw (every-at (keyOk t) zeroRow (s .keys) (h .keys) k (ltb-true k (length (s .keys)) p))
+      go (c ∷ cs) k = let z = both (classOk t c) (all (classOk t) cs) k in rw (z .0) (go cs (z .1))
+  good-at (Key k) p = rw (all-at (keyOk t) zeroRow (s .keys) (h .keys) k (ltb-true k (length (s .keys)) p))
 
-  good-from : (o : List Slot) → every (isPresent s) o ≡ true → every (putOk t) (putsFrom s o) ≡ true
-  unfolding putsFrom every
+  good-from : (o : List Slot) → all (isPresent s) o ≡ true → all (putOk t) (putsFrom s o) ≡ true
+  unfolding putsFrom all
   good-from [] a = refl
-  good-from (x ∷ o) a = let z = both (isPresent s x) (every (isPresent s) o) a in every-append (putOk t) (putsAt s x) (putsFrom s o) (good-at x (z .0)) (good-from o (z .1))
+  good-from (x ∷ o) a = let z = both (isPresent s x) (all (isPresent s) o) a in all-append (putOk t) (putsAt s x) (putsFrom s o) (good-at x (z .0)) (good-from o (z .1))
 
-  pub good-puts : every (putOk t) (putsBy s) ≡ true
+  pub good-puts : all (putOk t) (putsBy s) ≡ true
   good-puts = good-from (s .order) (slots-named s (h .slots))
 
   -- ---- what is put says what the slots mean
@@ -68,11 +68,11 @@ module _ {t : Texts} {s : Rows} (h : Passed t s) where
       go (c ∷ cs) q = rw (each (c ∷ cs)) (classes-puts (map (valueBytes t) cs) (valueBytes t c) m)
   says-at m (Key k) p = refl
 
-  says-from : (o : List Slot) (m : List Entry) → every (isPresent s) o ≡ true → puts m (map (putEntry t) (putsFrom s o)) ≡ puts m (map (slotEntry t s) o)
-  unfolding putsFrom puts every
+  says-from : (o : List Slot) (m : List Entry) → all (isPresent s) o ≡ true → puts m (map (putEntry t) (putsFrom s o)) ≡ puts m (map (slotEntry t s) o)
+  unfolding putsFrom puts all
   says-from [] m a = refl
   says-from (x ∷ o) m a =
-      let z = both (isPresent s x) (every (isPresent s) o) a in
+      let z = both (isPresent s x) (all (isPresent s) o) a in
       rw (map-append, puts-append m (map (putEntry t) (putsAt s x)) (map (putEntry t) (putsFrom s o)), says-at m x (z .0)) (says-from o (put m (slotEntry t s x)) (z .1))
 
   pub says : (m : List Entry) → puts m (map (putEntry t) (putsBy s)) ≡ puts m (meant t s)
@@ -86,7 +86,7 @@ allowed t (Put.ident v) h = refl
 allowed t (Put.class v) h = refl
 allowed t (Put.key n v) h = keyed h .free
 
-pub all-allowed : (t : Texts) (ps : List Put) → every (putOk t) ps ≡ true → allAllowed t ps ≡ true
-unfolding every allAllowed
+pub all-allowed : (t : Texts) (ps : List Put) → all (putOk t) ps ≡ true → allAllowed t ps ≡ true
+unfolding all allAllowed
 all-allowed t [] h = refl
-all-allowed t (p ∷ ps) h = let z = both (putOk t p) (every (putOk t) ps) h in rw (allowed t p (z .0)) (all-allowed t ps (z .1))
+all-allowed t (p ∷ ps) h = let z = both (putOk t p) (all (putOk t) ps) h in rw (allowed t p (z .0)) (all-allowed t ps (z .1))

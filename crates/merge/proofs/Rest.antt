@@ -9,12 +9,12 @@ use native.Mathlib.Omega.{arith}
 use lib.ListN.{length, getD, take, drop, length-append, length-map, take-append-drop, drop-of-length-le}
 use lib.Seq.{drop-cons, getD-take, length-take-le}
 use borrow.Author.Tests.{ne-eqb, ltb-true, lt-ltb, le-ltb}
+use Rattle.lists.specs.Lists.{all, isSome}
 use Rattle.lists.proofs.Scan.{both}
-use Rattle.lists.proofs.More.{contra}
-use Rattle.canon.specs.Canon.{every}
+use Rattle.lists.proofs.More.{contra, all-parts}
 use Rattle.refusals.specs.declared.Refusal.the-variants.{TooManyClasses, TooManyKeys}
 use Rattle.sets.specs.Types.{Texts, maxClasses, maxKeys, maxSlots, zeroRow, zeroSlot}
-use Rattle.sets.specs.Rows.{Rows, Put, noRows, isSome, hasKey, withPut, withPuts, slotIn, rowsIn}
+use Rattle.sets.specs.Rows.{Rows, Put, noRows, hasKey, withPut, withPuts, slotIn, rowsIn}
 use Rattle.sets.specs.Shape.{isSlot, times, isPresent, Shaped}
 use Rattle.sets.specs.declared.Attrs.{Attrs}
 use Rattle.sets.specs.declared.Id as ids
@@ -24,7 +24,6 @@ use Rattle.sets.specs.declared.Slot.the-variants.{Id, Class, Key}
 use Rattle.sets.specs.declared.SlotRecord.{SlotRecord}
 use Rattle.sets.specs.declared.Value.{Value}
 use Rattle.sets.proofs.Slots.{slot-same, slots-length}
-use Rattle.wellformed.proofs.PutsKept.{every-parts}
 use Rattle.fill.specs.declared.Filled.{Filled}
 use Rattle.fill.specs.declared.Outcome.the-variants.{Done}
 use Rattle.fill.specs.Fill.{refusing, limited}
@@ -209,10 +208,10 @@ module _ {t : Texts} {a b set : Attrs} {i : ℕ} (inv : Merges t a b set i) wher
     over-keys h e q = many-keys (withPuts t (rowsIn a) (putsBy (rowsIn b))) (inv .few) (omega (arith, h .over e, grown)) q
 
     there : isPresent (rowsIn b) (getD (b .order) i zeroSlot .slot) ≡ true
-    unfolding every
+    unfolding all
     there =
-        let z = every-parts (isPresent (rowsIn b)) (take i (rowsIn b .order)) (drop i (rowsIn b .order)) (rw (take-append-drop i (rowsIn b .order)) (g .there)) in
-        both (isPresent (rowsIn b) (getD (b .order) i zeroSlot .slot)) (every (isPresent (rowsIn b)) (drop (suc i) (rowsIn b .order))) (rw cut at (z .1)) .0
+        let z = all-parts (isPresent (rowsIn b)) (take i (rowsIn b .order)) (drop i (rowsIn b .order)) (rw (take-append-drop i (rowsIn b .order)) (g .there)) in
+        both (isPresent (rowsIn b) (getD (b .order) i zeroSlot .slot)) (all (isPresent (rowsIn b)) (drop (suc i) (rowsIn b .order))) (rw cut at (z .1)) .0
 
     pub present : length (b .classes) ≡ maxClasses → length (b .keys) ≡ maxKeys → Present set b (getD (b .order) i zeroSlot .slot)
     unfolding putsAt

@@ -4,9 +4,9 @@ use mathlib.Core.Bool.{true, false, cond}
 use mathlib.Core.List.{List}
 use Prim.Native.Nat.{ℕ, _+_, _≤_, _<_}
 use lib.ListN.{length, take}
-use Rattle.canon.specs.Canon.{every}
+use Rattle.lists.specs.Lists.{all, isSome}
 use Rattle.sets.specs.Types.{Texts, maxClasses, maxKeys, maxSlots}
-use Rattle.sets.specs.Rows.{Put, isThere, isSome, withPuts, padded, tableOf, rowsIn}
+use Rattle.sets.specs.Rows.{Put, isThere, withPuts, padded, tableOf, rowsIn}
 use Rattle.sets.specs.Shape.{isPresent, times}
 use Rattle.sets.specs.declared.Slot.{Slot}
 use Rattle.sets.specs.declared.Slot.the-variants.{Id, Class, Key}
@@ -39,7 +39,7 @@ pub record Sound (b : Attrs) : Type 0 where
   pub nclass : b .nclass ≤ maxClasses
   pub nkey : b .nkey ≤ maxKeys
   pub norder : b .norder ≤ maxSlots
-  pub there : every (isPresent (rowsIn b)) (rowsIn b .order) ≡ true
+  pub there : all (isPresent (rowsIn b)) (rowsIn b .order) ≡ true
   pub once : times Class (rowsIn b .order) ≡ cond (isSome (rowsIn b .classes)) 1 0
 
 -- the slot of b can be put into s: its key has a row, its classes have room

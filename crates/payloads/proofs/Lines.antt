@@ -1,22 +1,20 @@
 -- The last byte of a line, and what stands behind its last `}{`.
 -- Assumes nothing.
 use mathlib.Core.Path.{_≡_, refl, sym, _∙_, ap}
-use mathlib.Core.Bool.{Bool, true, false, cond, _&&_, _||_, and-false}
+use mathlib.Core.Bool.{Bool, true, false, cond, _&&_, and-false}
 use mathlib.Core.List.{List, [], _∷_}
-use Prim.Native.Nat.{ℕ, zero, suc, _+_, _-_, _<_, _≤_, zero-le}
+use Prim.Native.Nat.{ℕ, suc, _+_, _-_, _<_, _≤_, zero-le}
 use native.Mathlib.Omega.{arith}
-use native.Mathlib.Numerals.{add-one}
 use borrow.Author.Tests.{eq-eqb, ne-eqb}
 use lib.Dec.{eqb}
-use lib.ListN.{length, getD, take, drop, drop-of-length-le, length-drop}
+use lib.ListN.{length, getD, take, drop, length-drop}
 use lib.Seq.{drop-cons, take-all}
 use Rattle.ascii.specs.declared.Mode.the-variants.{Loose}
 use Rattle.grammar.specs.Read.{readPayload, readFrom}
 use Rattle.tokens.specs.Shown.{accepted}
-use Rattle.lists.proofs.Parts.{slice-part}
 use Rattle.lines.specs.declared.Range.{Range}
-use Rattle.lines.specs.Trim.{trim, trimRange}
-use Rattle.lines.proofs.Trim.{trim-from, trim-to, trim-slice}
+use Rattle.lines.specs.Trim.{trimRange}
+pub use Rattle.lines.proofs.Trim.{core-from, core-to, core-is}
 use Rattle.checks.specs.Check.{isText}
 use Rattle.payloads.specs.Payloads.{lastIs, endsInClose, behindFrom, behindLast, continues, isContinuation}
 
@@ -99,19 +97,10 @@ payload l {r} {from} h n k e q =
 
 -- ---- the trimmed line, as the code cuts it out
 module _ (s : List ℕ) {r : Range} (is : r ≡ trimRange s) where
-  pub ordered : r .from ≤ r .to
-  ordered = rw is (trim-from s)
-
-  pub inside : r .to ≤ length s
-  inside = rw is (trim-to s)
-
-  pub trimmed : take (r .to - r .from) (drop (r .from) s) ≡ trim s
-  trimmed = rw is (sym (slice-part (trimRange s .from) (trimRange s .to) s) ∙ trim-slice s)
-
   pub no-text : isText s ≡ false → false ≡ isContinuation s
   unfolding isContinuation
   no-text e = rw e
 
   pub cut-out : {b : Bool} → isText s ≡ true → b ≡ continues (take (r .to - r .from) (drop (r .from) s)) → b ≡ isContinuation s
   unfolding isContinuation
-  cut-out e q = rw e (q ∙ ap continues trimmed)
+  cut-out e q = rw e (q ∙ ap continues (core-is s is))

@@ -1,11 +1,11 @@
 -- "payload entries only say yes or no, and no for 1, 2, 5."
 use Prim.Native.Nat.{ℕ}
-use mathlib.Core.Bool.{Bool, true, false, cond, _&&_, _||_}
+use mathlib.Core.Bool.{Bool, false, cond, _&&_, _||_}
 use mathlib.Core.List.{List, [], _∷_}
-use lib.Dec.{eqb, ltb}
-use lib.ListN.{length}
+use lib.Dec.{eqb}
+use Rattle.lists.specs.Lists.{begins}
 use Rattle.ascii.specs.declared.Mode.{Mode}
-use Rattle.ascii.specs.declared.Mode.the-variants.{Strict, Loose}
+use Rattle.ascii.specs.declared.Mode.the-variants.{Loose}
 use Rattle.checks.specs.Check.{isText}
 use Rattle.grammar.specs.Read.{readPayload}
 use Rattle.tokens.specs.Shown.{accepted}
@@ -27,8 +27,7 @@ endsInClose [] = false
 endsInClose (b ∷ s) = lastIs b s
 
 abbrev pub beginsOpen : List ℕ → Bool
-beginsOpen [] = false
-beginsOpen (b ∷ s) = eqb b 123
+beginsOpen s = begins s 123
 
 abbrev pub withoutFirst : List ℕ → List ℕ
 withoutFirst [] = []

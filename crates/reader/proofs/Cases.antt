@@ -1,7 +1,6 @@
 -- The twelve cases of 'Cases on both sides', as one list under one claim: strict, at byte 0, by what the reader's promise cites.
 -- Assumes nothing.
 use mathlib.Core.Path.{_≡_, refl}
-use mathlib.Core.List.{List, [], _∷_}
 use Rattle.lists.specs.Lists.{all, headed, run, isIn, same}
 use Rattle.ascii.specs.declared.Mode.the-variants.{Strict}
 use Rattle.ascii.specs.Bytes.{within, isLetter, isDigit, isAlnum, isNameStart, isNamePart, isKeyStart, isBlank, isQuote, isPlain, isPunct, isSpace}
@@ -13,9 +12,9 @@ use Rattle.escapes.specs.Unescape.{unescapeFrom, unescape}
 use Rattle.grammar.specs.Grammar.{isValue}
 use Rattle.grammar.specs.Read.{ends, finish, shutOf, valueToken, afterName, tokenOf, text, readFrom, readPayload}
 use Rattle.grammar.specs.Meaning.{rangesFrom}
-use Rattle.grammar.specs.Close.{stepOf, closeFrom, findClose}
+use Rattle.grammar.specs.Close.{turned, stepOf, closeFrom, findClose}
 use Rattle.canon.specs.Canon.{escape, moreText, pairsText, pairsOf, pairs, canon}
-use Rattle.canon.proofs.Cases.{Case, cases, write}
+use Rattle.canon.proofs.Cases.{cases, readings}
 use Rattle.sets.specs.Types.{rangeBytes, nameBytes, valueBytes}
 use Rattle.sets.specs.Rows.{hasKey, putRow, withPut, withPuts, slotEntry, meant, padded, tableOf, rowsIn, meaningOf}
 use Rattle.sets.specs.Puts.{byName, valued, putsOf, putsIn}
@@ -23,11 +22,6 @@ use Rattle.fill.specs.Fill.{limited, filledOf}
 use Rattle.reader.specs.Brace.{opensAt, finished, atBrace, readAttrsAt}
 use Rattle.reader.proofs.Agrees.{seen}
 
--- each text as it is read, and the canonical text of what its set means
-abbrev pub readings : List Case → List Case
-readings [] = []
-readings (c ∷ cs) = let a = seen (c .given) (readAttrsAt Strict (c .given) 0) in record { given = c .given; wanted = a; canonical = write a } ∷ readings cs
-
-pub twelve : readings cases ≡ cases
-unfolding all headed run isIn same within isLetter isDigit isAlnum isNameStart isNamePart isKeyStart isBlank isQuote isPlain isPunct isSpace isUtf8 octetsFrom leadOf afterOf numberOf isName isKey isBareName isSize tagFrom isTag isLanguage unescapeFrom unescape isValue ends finish shutOf valueToken afterName tokenOf text readFrom readPayload rangesFrom stepOf closeFrom findClose escape moreText pairsText pairsOf pairs canon rangeBytes nameBytes valueBytes hasKey putRow withPut withPuts slotEntry meant padded tableOf rowsIn meaningOf byName valued putsOf putsIn limited filledOf opensAt finished atBrace readAttrsAt
+pub twelve : readings (λ t. seen t (readAttrsAt Strict t 0)) cases ≡ cases
+unfolding all headed run isIn same within isLetter isDigit isAlnum isNameStart isNamePart isKeyStart isBlank isQuote isPlain isPunct isSpace isUtf8 octetsFrom leadOf afterOf numberOf isName isKey isBareName isSize tagFrom isTag isLanguage unescapeFrom unescape isValue ends finish shutOf valueToken afterName tokenOf text readFrom readPayload rangesFrom turned stepOf closeFrom findClose escape moreText pairsText pairsOf pairs canon rangeBytes nameBytes valueBytes hasKey putRow withPut withPuts slotEntry meant padded tableOf rowsIn meaningOf byName valued putsOf putsIn limited filledOf opensAt finished atBrace readAttrsAt
 twelve = refl

@@ -8,6 +8,7 @@ use native.Mathlib.Omega.{arith}
 use lib.Dec.{ltb}
 use lib.ListN.{length}
 use lib.Seq.{slice}
+use Rattle.lists.specs.Lists.{all}
 use Rattle.ascii.specs.declared.Mode.{Mode}
 use Rattle.utf8.specs.Utf8.{isUtf8}
 use Rattle.checks.specs.Check.{isText}
@@ -17,7 +18,6 @@ use Rattle.grammar.specs.Grammar.{Placed}
 use Rattle.grammar.specs.Read.{Reading}
 use Rattle.chain.specs.Chain.{Block, Blocks, readBlocks}
 use Rattle.chain.proofs.Blocks.{sound}
-use Rattle.canon.specs.Canon.{every}
 use Rattle.sets.specs.Types.{one}
 use Rattle.sets.specs.Puts.{putsIn}
 use Rattle.wellformed.specs.WellFormed.{tableOk, wellFormed}
@@ -39,13 +39,13 @@ last (Blocks.more {b = b} x r) = let z = last r in (b ++ z .0, ap (λ s. b ++ s)
 
 module _ (w : List ℕ) where
   -- what they put, where they stand in w
-  pub blocks-ok : {m : Mode} {at : ℕ} {s : List ℕ} {is : List Placed} → Blocks m at s is → {rest : List ℕ} → Part w at s rest → every (putOk (one w)) (putsIn is) ≡ true
+  pub blocks-ok : {m : Mode} {at : ℕ} {s : List ℕ} {is : List Placed} → Blocks m at s is → {rest : List ℕ} → Part w at s rest → all (putOk (one w)) (putsIn is) ≡ true
   blocks-ok (Blocks.one (Block.block {inside = a} c f h)) p = items-ok w h (block-inside w a [] p) f
   blocks-ok {at = at} (Blocks.more {s = s} {is = is} {js = js} (Block.block {inside = a} c f h) r) {rest} p =
       let q : Part w at (123 ∷ (a ++ (125 ∷ s))) rest = rw (append-assoc a (125 ∷ []) s) at p in
       more-ok w is js (items-ok w h (block-inside w a s q) f) (blocks-ok r (block-behind w a s q))
 
-  pub line-ok : (m : Mode) (from to : ℕ) (is : List Placed) → isUtf8 w ≡ true → readBlocks m from (slice from to w) ≡ Reading.items is → every (putOk (one w)) (putsIn is) ≡ true
+  pub line-ok : (m : Mode) (from to : ℕ) (is : List Placed) → isUtf8 w ≡ true → readBlocks m from (slice from to w) ≡ Reading.items is → all (putOk (one w)) (putsIn is) ≡ true
   line-ok m from to is u e =
       let b = sound m from (slice from to w) is e in
       blocks-ok b (low-ends w from to u (last b .0) (first b .1) (last b .1) (omega arith) (omega arith))

@@ -7,7 +7,7 @@ use Prim.Native.Nat.{ℕ, zero, suc, _+_, _<_}
 use native.Mathlib.Omega.{arith}
 use lib.ListN.{length, length-append, length-map}
 use borrow.Author.Tests.{not-true, ne-eqb, ltb-true}
-use Rattle.lists.specs.Lists.{same}
+use Rattle.lists.specs.Lists.{same, isSome}
 use Rattle.lists.proofs.Scan.{both}
 use Rattle.lists.proofs.Same.{same-refl, same-true}
 use Rattle.lists.proofs.More.{same-sym}
@@ -16,7 +16,7 @@ use Rattle.grammar.specs.Meaning.{Entry, idName, className, isClass, over, putA
 use Rattle.grammar.proofs.Places.{Standing}
 use Rattle.grammar.proofs.Views.{absent-put, put-distinct}
 use Rattle.sets.specs.Types.{Texts, one}
-use Rattle.sets.specs.Rows.{Rows, noRows, isSome, withPuts, slotEntry, meant}
+use Rattle.sets.specs.Rows.{Rows, noRows, withPuts, slotEntry, meant}
 use Rattle.sets.specs.Puts.{putsIn}
 use Rattle.sets.specs.Shape.{times, isPresent, nameAt, isFree, Shaped}
 use Rattle.sets.specs.declared.Value.{Value}

@@ -8,6 +8,7 @@ use native.Mathlib.Omega.{arith}
 use borrow.Author.Tests.{eqb-true, ltb-true, ltb-false}
 use lib.Dec.{ltb, eqb}
 use lib.ListN.{length, getD}
+use Rattle.lists.specs.Lists.{all}
 use Rattle.lists.proofs.Scan.{both}
 use Rattle.lists.proofs.More.{contra}
 use Rattle.ascii.specs.declared.Mode.{Mode}
@@ -20,7 +21,6 @@ use Rattle.grammar.specs.Read.{Reading, readPayload}
 use Rattle.grammar.specs.Close.{findClose}
 use Rattle.grammar.specs.declared.Place.{Place}
 use Rattle.grammar.specs.declared.Place.the-variants.{Nothing, At}
-use Rattle.canon.specs.Canon.{every}
 use Rattle.sets.specs.Types.{Texts, one, emptySet, maxClasses, maxKeys, maxSlots}
 use Rattle.sets.specs.Rows.{Rows, noRows, withPuts, tableOf}
 use Rattle.sets.specs.Puts.{putsIn}
@@ -50,7 +50,7 @@ limited-ok t s h = go (ltb maxClasses (length (s .classes))) refl (ltb maxKeys (
     go false p false q false = table-ok t s h (ltb-false maxClasses (length (s .classes)) p) (ltb-false maxKeys (length (s .keys)) q)
 
 -- by a reading whose items put only what is good
-pub filled-ok : (t : Texts) (r : Reading) → ((is : List Placed) → r ≡ Reading.items is → every (putOk t) (putsIn is) ≡ true) → tableOk t (fills.filledBy t r .set) ≡ true
+pub filled-ok : (t : Texts) (r : Reading) → ((is : List Placed) → r ≡ Reading.items is → all (putOk t) (putsIn is) ≡ true) → tableOk t (fills.filledBy t r .set) ≡ true
 filled-ok t Reading.refused h = empty-ok t
 filled-ok t (Reading.items is) h = limited-ok t (withPuts t noRows (putsIn is)) (rows-puts t noRows (putsIn is) (rows-none t) (h is refl))
 
@@ -75,7 +75,7 @@ pub handed-out-ok : (m : Mode) (t : List ℕ) (i : ℕ) → isText t ≡ true �
 unfolding wellFormed readAttrsAt atBrace opensAt fills.filledOf
 handed-out-ok m t i h = rw h (go (ltb maxText (length t)) (opensAt t i) refl)
   where
-    payload : (e : ℕ) → opensAt t i ≡ true → findClose t (suc i) ≡ At e → (is : List Placed) → readPayload m (suc i) (payloadOf t i e) ≡ Reading.items is → every (putOk (one t)) (putsIn is) ≡ true
+    payload : (e : ℕ) → opensAt t i ≡ true → findClose t (suc i) ≡ At e → (is : List Placed) → readPayload m (suc i) (payloadOf t i e) ≡ Reading.items is → all (putOk (one t)) (putsIn is) ≡ true
     payload e o c is r =
         let z = both (ltb i (length t)) (eqb (getD t i 0) 123) o in
         read-ok t m is (brace-part t i e (text-utf8 t h) (ltb-true i (length t) (z .0)) (eqb-true (getD t i 0) 123 (z .1)) c) (brace-flat t i e c) r

@@ -1,35 +1,32 @@
 -- Each way through reading at a brace, as the code goes it.
 -- Assumes nothing.
 use mathlib.Core.Path.{_≡_, refl, sym, _∙_, ap}
-use mathlib.Core.Bool.{Bool, true, false, cond, _&&_}
-use mathlib.Core.List.{List, [], _∷_, _++_}
+use mathlib.Core.Bool.{Bool, true, false, cond}
+use mathlib.Core.List.{List, _∷_, _++_}
 use Prim.Native.Nat.{ℕ, suc, _+_, _-_, _<_, _≤_}
 use native.Mathlib.Numerals.{add-one}
 use native.Mathlib.Omega.{arith}
 use borrow.Author.Tests.{lt-ltb, le-ltb, ltb-true}
 use lib.Dec.{ltb, eqb}
-use lib.ListN.{length, getD, take, drop, take-append-drop}
-use lib.Seq.{slice}
+use lib.ListN.{length, getD, take, drop}
 use Rattle.lists.proofs.Scan.{both}
 use Rattle.lists.proofs.Parts.{slice-part}
 use Rattle.ascii.specs.declared.Mode.{Mode}
 use Rattle.utf8.specs.Utf8.{isUtf8}
 use Rattle.refusals.specs.Numbers.{maxText}
 use Rattle.refusals.specs.declared.Refusal.the-variants.{NotUtf8, NoReading}
-use Rattle.grammar.specs.Grammar.{Placed}
 use Rattle.grammar.specs.Read.{Reading, readPayload}
 use Rattle.grammar.specs.Close.{findClose}
 use Rattle.grammar.specs.Quick.{quickRefuses}
 use Rattle.grammar.specs.declared.Place.{Place}
 use Rattle.grammar.specs.declared.Place.the-variants.{Nothing, At}
 use Rattle.grammar.proofs.Payload as payload
-use Rattle.grammar.proofs.Close.{Found, found}
+use Rattle.grammar.proofs.Close.{found}
 use Rattle.grammar.proofs.Quick.{quick-passes}
 use Rattle.sets.specs.Types.{one}
 use Rattle.fill.specs.Fill as fills
 use Rattle.fill.specs.declared.Filled.{Filled}
 use Rattle.lines.specs.declared.Range.{Range}
-use Rattle.reader.specs.declared.Read.{Read}
 use Rattle.reader.specs.Brace.{refusing, opensAt, payloadOf, finished, readTo, atBrace, front, partTo, payloadAt}
 
 -- ---- 1, 3, and then the close: one law for whatever is answered

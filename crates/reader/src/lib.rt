@@ -11,6 +11,7 @@ ghost use Prim.Native.Nat.{suc, _+_, _≤_, _<_};
 ghost use lib.ListN.{length};
 ghost use lib.Seq.{slice};
 ghost use Rattle.ascii.specs.declared.Mode.the-variants.{Strict};
+ghost use Rattle.refusals.specs.Numbers.{maxText};
 ghost use Rattle.grammar.specs.Close.{findClose};
 ghost use Rattle.grammar.specs.declared.Place.the-variants.{At};
 ghost use Rattle.reader.specs.Brace.{refusing, opensAt, readTo, finished, readAttrsAt, partTo, payloadAt};
@@ -65,7 +66,7 @@ fn handed_out(filled: Filled, next: usize) -> Read
 
 // The payload between the brace at `place` and the close at `end`.
 fn read_payload(text: &[u8], place: usize, end: usize, mode: Mode) -> Read
-    requires { ⌜ (length (now text) ≤ 65535) × ((place < end) × ((end < length (now text)) × (findClose (now text) (suc place) ≡ At end))) ⌝ }
+    requires { ⌜ (length (now text) ≤ maxText) × ((place < end) × ((end < length (now text)) × (findClose (now text) (suc place) ≡ At end))) ⌝ }
     ensures { λ r. ⌜ r ≡ readTo mode (now (text .entry)) place (At end) ⌝ }
 {
     if !utf8::is_utf8(&text[place + 1..end]) {

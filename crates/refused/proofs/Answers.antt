@@ -34,7 +34,8 @@ use Rattle.refused.specs.declared.RefusedRun.{RefusedRun}
 use Rattle.refused.specs.declared.Ran.{Ran}
 use Rattle.refused.specs.declared.Walk.{Walk}
 use Rattle.refused.specs.declared.Walk.the-variants as walks
-use Rattle.refused.specs.Refused.{Found, opens, beginsPair, commentFrom, Told, unjoined, answerBy, judged, foundIn, refusedOf, refusedRun, handedOut}
+use Rattle.refused.specs.Refused.{Found, commentFrom, Told, unjoined, answerBy, judged, foundIn, refusedOf, refusedRun, handedOut}
+use Rattle.spots.specs.Spots.{opens, beginsPair}
 use Rattle.refused.specs.Shown.{walkAt, shownWalk, isBlock, linesIn, paddedRun, ranOf}
 use Rattle.refused.proofs.Walking.{line, line-in, line-first, line-long}
 
@@ -98,7 +99,7 @@ module _ (cap : ℕ) (t : List ℕ) (at : ℕ) (h : at < length t) {l : LineEnd}
   unfolding refusedOf
   told-none q = rw (line-first t at h e, ← q)
 
-  module _ (q : true ≡ opens here) (short : length t ≤ 65535) {c : ℕ} (w : c ≡ capped (indentColumns here)) where
+  module _ (q : true ≡ opens here) (short : length t ≤ maxText) {c : ℕ} (w : c ≡ capped (indentColumns here)) where
     column : c ≡ indentColumns here
     column = w ∙ indent-whole here (omega (arith, line-long t at h e, line-in t at h e))
 
@@ -126,11 +127,11 @@ module _ (cap : ℕ) (t : List ℕ) (at : ℕ) (h : at < length t) {l : LineEnd}
 
 -- ---- the entry
 
-pub passes-short : (t : List ℕ) {c : checks.Check} → c ≡ checkOf t → c ≡ check.Passed → length t ≤ 65535
+pub passes-short : (t : List ℕ) {c : checks.Check} → c ≡ checkOf t → c ≡ check.Passed → length t ≤ maxText
 unfolding checkOf
 passes-short t e q = go (ltb maxText (length t)) refl (sym q ∙ e)
   where
-    go : (x : Bool) → ltb maxText (length t) ≡ x → check.Passed ≡ cond x (check.Refused TextTooLong) (cond (isUtf8 t) check.Passed (check.Refused NotUtf8)) → length t ≤ 65535
+    go : (x : Bool) → ltb maxText (length t) ≡ x → check.Passed ≡ cond x (check.Refused TextTooLong) (cond (isUtf8 t) check.Passed (check.Refused NotUtf8)) → length t ≤ maxText
     go true p z = let y : _≡_ {A = ℕ} 0 1 = cc in absurd (omega arith)
     go false p z = ltb-false maxText (length t) p
 

@@ -20,11 +20,12 @@ use Rattle.ascii.specs.Bytes.{isSpace}
 use Rattle.columns.specs.Columns.{indentColumns}
 use Rattle.runs.specs.Runs.{Lined, asIs, runOf, over, sizes, start}
 use Rattle.runs.proofs.Bounds.{lookahead-sum, sizes-take, sizes-lines, costs, grows, costs-lines}
-use Rattle.refused.specs.declared.Spot.{Spot}
+use Rattle.spots.specs.declared.Spot.{Spot}
 use Rattle.refused.specs.declared.Answer.the-variants.{No}
 use Rattle.refused.specs.declared.Verdict as verdicts
 use Rattle.refused.specs.declared.Verdict.the-variants as verdict
-use Rattle.refused.specs.Refused.{isStray, spotAfter, Found, onto, walkLine, On, opens, halts, padded, enteredAt, onAfter, behind, walkFrom, onFirst, Told, unjoined, foundIn, beginsPair, commentFrom, closesComment, refusedOf, refusedBy, refusedRun, Back, verdictOf, triedBy, tryLine, backOver, backFrom, lastOf, endedBy, unsearched, endsOf, endsBy, endsIn}
+use Rattle.spots.specs.Spots.{isStray, spotAfter, opens, beginsPair, closesComment}
+use Rattle.refused.specs.Refused.{Found, onto, walkLine, On, halts, padded, enteredAt, onAfter, behind, walkFrom, onFirst, Told, unjoined, foundIn, commentFrom, refusedOf, refusedBy, refusedRun, Back, verdictOf, triedBy, tryLine, backOver, backFrom, lastOf, endedBy, unsearched, endsOf, endsBy, endsIn}
 use Rattle.refused.specs.declared.Ends.the-variants as end
 use Rattle.refused.specs.Shown.{linesIn}
 use Rattle.lists.proofs.More.{or-right}

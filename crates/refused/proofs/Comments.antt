@@ -8,6 +8,7 @@ use native.Mathlib.Numerals.{add-one}
 use native.Mathlib.Omega.{arith}
 use lib.Dec.{eqb}
 use lib.ListN.{length, drop}
+use Rattle.refusals.specs.Numbers.{maxText}
 use Rattle.lines.specs.Trim.{isBlankLine}
 use Rattle.lines.specs.Lines.{lines, lineFrom}
 use Rattle.lines.specs.declared.LineEnd.{LineEnd}
@@ -16,7 +17,8 @@ use Rattle.columns.specs.Columns.{indentColumns, capped}
 use Rattle.columns.proofs.Laws.{indent-whole}
 use Rattle.refused.specs.declared.Answer.{Answer}
 use Rattle.refused.specs.declared.Answer.the-variants.{NoEnd}
-use Rattle.refused.specs.Refused.{shallowOr, closesComment, commentBy, commentFrom}
+use Rattle.spots.specs.Spots.{shallowOr, closesComment}
+use Rattle.refused.specs.Refused.{commentBy, commentFrom}
 use Rattle.refused.proofs.Walking.{line, line-in, line-first, line-long}
 
 -- before the line that begins at `at`, behind n lines
@@ -34,7 +36,7 @@ module _ {t : List ℕ} {r : Answer} {opener n at : ℕ} {sh : Bool} (inv : Comm
     unfolding commentFrom
     comment-blank q = rw (line-first t at h e, ← q) at (inv .rest)
 
-    module _ (q : false ≡ isBlankLine (line t at h e)) (short : length t ≤ 65535) {c : ℕ} (w : c ≡ capped (indentColumns (line t at h e)))
+    module _ (q : false ≡ isBlankLine (line t at h e)) (short : length t ≤ maxText) {c : ℕ} (w : c ≡ capped (indentColumns (line t at h e)))
         {sh′ : Bool} (x : sh′ ≡ shallowOr sh (eqb n 0) c opener) where
       column : c ≡ indentColumns (line t at h e)
       column = w ∙ indent-whole (line t at h e) (omega (arith, line-long t at h e, line-in t at h e))

@@ -14,6 +14,7 @@ use Rattle.lists.specs.Lists.{run}
 use Rattle.lists.proofs.More.{contra}
 use Rattle.lists.proofs.Parts.{slice-part}
 use Rattle.ascii.specs.Bytes.{isSpace}
+use Rattle.refusals.specs.Numbers.{maxText}
 use Rattle.lines.specs.Trim.{trimStart}
 use Rattle.lines.specs.Lines.{lines, lineFrom}
 use Rattle.lines.specs.declared.LineEnd.{LineEnd}
@@ -24,14 +25,16 @@ use Rattle.grammar.specs.declared.Quote.the-variants.{Out}
 use Rattle.refusals.specs.declared.Refusal.the-variants.{NoReading, JoinFull}
 use Rattle.runs.specs.declared.Stop.{Stop}
 use Rattle.runs.specs.declared.Stop.the-variants.{Closed, Refused}
-use Rattle.runs.specs.declared.State.{State}
-use Rattle.runs.specs.declared.Step.{Step}
-use Rattle.runs.specs.declared.Step.the-variants.{Broken, Full, Go, Closes}
-use Rattle.runs.specs.Runs.{Lined, So, start, Run, ended, added, isFirst, after, runFrom, over, stepOf, laid, joinAfter}
+use Rattle.joins.specs.declared.State.{State}
+use Rattle.joins.specs.declared.Step.{Step}
+use Rattle.joins.specs.declared.Step.the-variants.{Broken, Full, Go, Closes}
+use Rattle.runs.specs.Runs.{Lined, So, start, Run, ended, isFirst, after, runFrom, over}
+use Rattle.joins.specs.Joins.{added, stepOf, laid, joinAfter}
 use Rattle.runs.proofs.Joining.{Shows, Meets, meets, over-long, over-sets}
-use Rattle.refused.specs.declared.Spot.{Spot}
+use Rattle.spots.specs.declared.Spot.{Spot}
 use Rattle.refused.specs.declared.Ran.{Ran}
-use Rattle.refused.specs.Refused.{isStray, opensAt, spotAfter, Found, onto, walkLine, On, halts, padOf, padded, enteredAt, onAfter, behind, walkFrom}
+use Rattle.spots.specs.Spots.{isStray, opensAt, spotAfter}
+use Rattle.refused.specs.Refused.{Found, onto, walkLine, On, halts, padOf, padded, enteredAt, onAfter, behind, walkFrom}
 use Rattle.refused.specs.Shown.{spotsFrom, walkAt, isBlock, linesIn, paddedRun, ranOf}
 use Rattle.refused.proofs.Leaves.{spot-column}
 use Rattle.refused.proofs.Walking.{line, line-in, line-first, line-long, line-rest, rest-in, later, on}
@@ -156,7 +159,7 @@ module _ {t : List ℕ} {opener : ℕ} {buf₀ : List ℕ} {R : Run} {buf : List
       pub rest-long : length (take (l .to - i) (drop i t)) ≡ l .to - i
       rest-long = rw (← slice-part i (l .to) t) (length-slice i (l .to) t (omega (arith, here-in)))
 
-      module _ (few : length t ≤ 65535) {p : Spot} (s : p ≡ enteredAt (eqb n 0) br here) where
+      module _ (few : length t ≤ maxText) {p : Spot} (s : p ≡ enteredAt (eqb n 0) br here) where
         pub spot-small : p .column ≤ 262140
         spot-small = omega (arith, ap (λ z. z .column) s, indent-le here, here-in)
 

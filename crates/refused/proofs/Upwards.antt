@@ -23,7 +23,8 @@ use Rattle.refused.specs.declared.Ends.the-variants as end
 use Rattle.refused.specs.declared.EndsRun.{EndsRun}
 use Rattle.refused.specs.declared.Verdict as verdicts
 use Rattle.refused.specs.declared.Verdict.the-variants as verdict
-use Rattle.refused.specs.Refused.{opens, closesComment, Told, refusedOf, handedOut, Back, verdictOf, triedBy, backOver, backFrom, lastOf, Ended, endedBy, unsearched, endsOf, endsShown}
+use Rattle.spots.specs.Spots.{opens, closesComment}
+use Rattle.refused.specs.Refused.{Told, refusedOf, handedOut, Back, verdictOf, triedBy, backOver, backFrom, lastOf, Ended, endedBy, unsearched, endsOf, endsShown}
 use Rattle.refused.specs.Shown.{Edge, Before}
 use Rattle.runs.proofs.Bounds.{sizes-lines, costs-lines}
 use Rattle.refused.proofs.Bounds.{told-ahead, told-text, looking-le}

@@ -14,18 +14,21 @@ use Rattle.lists.specs.Lists.{run}
 use Rattle.lists.proofs.Parts.{slice-part}
 use Rattle.lists.proofs.Scan.{run-le}
 use Rattle.ascii.specs.Bytes.{isSpace}
+use Rattle.refusals.specs.Numbers.{maxText}
 use Rattle.lines.specs.Trim.{trimStart}
 use Rattle.lines.specs.Lines.{lines, lineFrom}
 use Rattle.lines.specs.declared.LineEnd.{LineEnd}
 use Rattle.lines.proofs.Lines.{lines-end, line-at, to-from, to-next, next-beyond, next-le}
 use Rattle.columns.proofs.Laws.{indent-le}
 use Rattle.runs.specs.Runs.{Lined}
-use Rattle.refused.specs.declared.Spot.{Spot}
+use Rattle.spots.specs.declared.Spot.{Spot}
 use Rattle.refused.specs.declared.Walk.{Walk}
 use Rattle.refused.specs.declared.Walk.the-variants.{No, Block}
-use Rattle.refused.specs.Refused.{isStray, opensAt, spotAfter, Found, onto, walkLine, On, halts, shallowOr, padded, enteredAt, onAfter, behind, walkFrom, onFirst}
+use Rattle.spots.specs.Spots.{isStray, opensAt, spotAfter, shallowOr}
+use Rattle.refused.specs.Refused.{Found, onto, walkLine, On, halts, padded, enteredAt, onAfter, behind, walkFrom, onFirst}
 use Rattle.refused.specs.Shown.{walkAt, shownWalk}
-use Rattle.refused.proofs.Leaves.{front, spot-column}
+use Rattle.spots.proofs.Leaves.{front}
+use Rattle.refused.proofs.Leaves.{spot-column}
 
 -- ---- the line that begins at `at`
 
@@ -99,7 +102,7 @@ module _ {t : List ℕ} {r : Walk} {opener n at br : ℕ} {sh : Bool} (inv : Out
     unfolding walkFrom
     halt q = rw (line-first t at h e, ← q) at (inv .rest)
 
-    module _ (few : length t ≤ 65535) (q : false ≡ halts (eqb n 0) br opener (line t at h e)) {p : Spot} (s : p ≡ enteredAt (eqb n 0) br (line t at h e))
+    module _ (few : length t ≤ maxText) (q : false ≡ halts (eqb n 0) br opener (line t at h e)) {p : Spot} (s : p ≡ enteredAt (eqb n 0) br (line t at h e))
         {sh′ : Bool} (x : sh′ ≡ shallowOr sh (eqb n 0) (p .column) br) {i : ℕ} (f : i ≡ at + run isSpace (line t at h e)) where
       pub into : Inner t r opener n (l .to) (l .next) sh′ p i
       unfolding walkFrom
@@ -120,11 +123,11 @@ module _ {t : List ℕ} {r : Walk} {opener n e next : ℕ} {sh : Bool} {p : Spot
     unfolding walkLine
     stray q = rw (slice-cons i e t 0 h (inv .within), ← q) at (inv .rest)
 
-    spot-low : (v : Spot) (x : Bool) → v .brace ≡ cond x (p .column) (p .brace) → length t ≤ 65535 → v .brace ≤ 524280
+    spot-low : (v : Spot) (x : Bool) → v .brace ≡ cond x (p .column) (p .brace) → length t ≤ maxText → v .brace ≤ 524280
     spot-low v true q k = omega (arith, q, inv .column, inv .within)
     spot-low v false q k = omega (arith, q, inv .low)
 
-    pub go : length t ≤ 65535 → false ≡ isStray p (getD t i 0) → {v : Spot} → v ≡ spotAfter p (getD t i 0) → Inner t r opener n e next sh v (i + 1)
+    pub go : length t ≤ maxText → false ≡ isStray p (getD t i 0) → {v : Spot} → v ≡ spotAfter p (getD t i 0) → Inner t r opener n e next sh v (i + 1)
     unfolding walkLine spotAfter
     go k q {v} s =
         record {

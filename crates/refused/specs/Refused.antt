@@ -2,7 +2,7 @@
 use Prim.Native.Nat.{ℕ, suc, _+_, _-_, max}
 use mathlib.Core.Bool.{Bool, true, false, cond, _&&_, _||_, not}
 use mathlib.Core.List.{List, [], _∷_}
-use lib.Dec.{eqb, ltb, leb}
+use lib.Dec.{eqb, ltb}
 use lib.ListN.{length, drop}
 use Rattle.lists.specs.Lists.{isIn}
 use Rattle.checks.specs.Check.{checkOf}
@@ -16,13 +16,12 @@ use Rattle.lines.specs.declared.Line as places
 use Rattle.lines.specs.declared.Line.the-variants as place
 use Rattle.columns.specs.Columns.{indentColumns, most}
 use Rattle.grammar.specs.Close.{fresh}
-use Rattle.payloads.specs.Payloads.{beginsOpen}
 use Rattle.chain.specs.Chain.{goodLine}
-use Rattle.scanners.specs.Scanners.{passed, ignored, isBare, columnBehind}
 use Rattle.runs.specs.Runs.{Lined, Run, runOf, over}
 use Rattle.runs.specs.declared.Stop as stops
 use Rattle.runs.specs.declared.Stop.the-variants as stop
-use Rattle.refused.specs.declared.Spot.{Spot}
+use Rattle.spots.specs.declared.Spot.{Spot}
+use Rattle.spots.specs.Spots.{isStray, spotAfter, opens, shallowOr, beginsPair, closesComment}
 use Rattle.refused.specs.declared.Answer.{Answer}
 use Rattle.refused.specs.declared.Answer.the-variants.{No, Lines, NoEnd, Refused}
 use Rattle.refused.specs.declared.RefusedRun.{RefusedRun}
@@ -54,28 +53,6 @@ endsNo end.Yes = 0
 endsNo end.No = 0
 endsNo (end.Refused r) = numberOf r
 
--- ---- the walk in a line, from its first byte that is no whitespace on
-
--- "a stray `}`": outside quotes, where no block is open
-abbrev pub isStray : Spot → ℕ → Bool
-isStray p b = not (p .inside) && isBare (p .scan) b 125
-
--- a `{` opens a block where none is open
-abbrev pub opensAt : Spot → ℕ → Bool
-opensAt p b = not (p .inside) && isBare (p .scan) b 123
-
-abbrev pub insideAfter : Spot → ℕ → Bool
-insideAfter p b = cond (p .inside) (not (isBare (p .scan) b 125)) (isBare (p .scan) b 123)
-
-unfoldable pub spotAfter : Spot → ℕ → Spot
-spotAfter p b =
-    record {
-      scan = passed ignored (p .scan) b;
-      column = columnBehind (p .scan .escaped) (p .column) b;
-      inside = insideAfter p b;
-      brace = cond (opensAt p b) (p .column) (p .brace);
-    }
-
 -- ---- the walk over lines
 
 -- no block that closes; or the lines up to the one that closes it, padded, and whether one of them stands too far left
@@ -98,17 +75,10 @@ pub record On : Type 0 where
   pub shallow : Bool
   pub brace : ℕ
 
-abbrev pub opens : List ℕ → Bool
-opens l = beginsOpen (trimStart l)
-
 -- 000: a run ends at a blank line, and no later line of it opens with a brace. "where 000's `brace_column + 1 - opener_column` would fall
 -- below zero (..), the port answers No(0)"
 abbrev pub halts : Bool → ℕ → ℕ → List ℕ → Bool
 halts first brace opener l = isBlankLine l || (not first && (ltb (suc brace) opener || opens l))
-
--- "a continuation at or below its `{` column" (000)
-abbrev pub shallowOr : Bool → Bool → ℕ → ℕ → Bool
-shallowOr shallow first column brace = shallow || (not first && leb column brace)
 
 -- "Padded `repaired` copies: pads as numbers": a later line keeps its place beside the first, and is moved beyond the brace
 abbrev pub padOf : Bool → ℕ → ℕ → ℕ → ℕ
@@ -167,17 +137,6 @@ foundIn cap Found.none = unjoined (No 0)
 foundIn cap (Found.block shallow ls) = cond shallow (judged (length ls) (runOf cap 0 ls)) (unjoined (No 0))
 
 -- ---- comments (000): `{%` up to the first line with `%}`, or to the end
-
--- the list begins with b and then c
-abbrev pub beginsPair : ℕ → ℕ → List ℕ → Bool
-beginsPair b c [] = false
-beginsPair b c (x ∷ []) = false
-beginsPair b c (x ∷ y ∷ s) = eqb x b && eqb y c
-
--- `%}` stands in it
-unfoldable pub closesComment : List ℕ → Bool
-closesComment [] = false
-closesComment (b ∷ s) = beginsPair 37 125 (b ∷ s) || closesComment s
 
 abbrev pub commentBy : Bool → ℕ → Answer
 commentBy shallow n = cond shallow (Lines n) (No n)

@@ -7,11 +7,12 @@ use mathlib.Core.List.{List, [], _∷_}
 use lib.ListN.{length, drop, getD}
 use Rattle.lines.specs.Lines.{lines, lineFrom}
 use Rattle.runs.specs.Runs.{Lined, Run, runOf}
-use Rattle.refused.specs.declared.Spot.{Spot}
+use Rattle.spots.specs.declared.Spot.{Spot}
 use Rattle.refused.specs.declared.Walk.{Walk}
 use Rattle.refused.specs.declared.Walk.the-variants as walks
 use Rattle.refused.specs.declared.Ran.{Ran}
-use Rattle.refused.specs.Refused.{Found, spotAfter, onFirst, walkFrom}
+use Rattle.refused.specs.Refused.{Found, onFirst, walkFrom}
+use Rattle.spots.specs.Spots.{spotAfter}
 
 -- over a line without a stray brace
 unfoldable pub spotsFrom : Spot → List ℕ → Spot

@@ -2,24 +2,26 @@
 use checks::Check;
 use grammar::Quote;
 use grammar::Scan;
+use joins::State;
+use joins::Step;
 use lines::Line;
 use refusals::Refusal;
-use runs::State;
-use runs::Step;
 use runs::Stop;
+use spots::Spot;
 ghost use mathlib.Core.Path.{_≡_};
 ghost use mathlib.Core.Bool.{true, false, _&&_};
 ghost use Prim.Native.Nat.{_+_, _-_, _*_, _<_, _≤_, max};
 ghost use lib.Dec.{eqb};
 ghost use lib.ListN.{length, drop};
+ghost use Rattle.refusals.specs.Numbers.{maxText};
 ghost use Rattle.lines.specs.Lines.{lines};
-ghost use Rattle.lines.specs.Trim.{trimStart};
 ghost use Rattle.chain.specs.Chain.{goodLine};
 ghost use Rattle.runs.specs.Runs.{over};
 ghost use Rattle.runs.specs.declared.Stop.the-variants.{Closed, Refused};
 ghost use Rattle.scanners.specs.Scanners.{holdStart};
 ghost use Rattle.grammar.specs.declared.Quote.the-variants.{Out};
-ghost use Rattle.refused.specs.Refused.{isStray, insideAfter, opensAt, spotAfter, opens, beginsPair, closesComment, halts, shallowOr, padOf, enteredAt, commentBy, commentFrom, answerBy, unjoined, judged, refusedOf, refusedRun, handedOut, nextOr, verdictOf, backFrom, endedBy, endsOf, endsIn, endsShown};
+ghost use Rattle.spots.specs.Spots.{spotAfter};
+ghost use Rattle.refused.specs.Refused.{halts, padOf, enteredAt, commentBy, commentFrom, answerBy, unjoined, judged, refusedOf, refusedRun, handedOut, nextOr, verdictOf, backFrom, endedBy, endsOf, endsIn, endsShown};
 ghost use Rattle.refused.specs.declared.Walk.the-variants.{No};
 ghost use Rattle.refused.specs.Shown.{spotsFrom, walkAt, shownWalk, isBlock, paddedRun, ranOf, Edge, Before};
 
@@ -51,14 +53,6 @@ pub struct EndsRun {
     pub lookahead: usize,
 }
 
-// Where a walk stands in a line: the column of the next byte, whether a block is open, and the column of the last brace that opened one.
-struct Spot {
-    scan: Scan,
-    column: usize,
-    inside: bool,
-    brace: usize,
-}
-
 // What a run that was tried says of the text's end, or that the next is tried.
 enum Verdict {
     Told(Ends),
@@ -79,46 +73,6 @@ struct Ran {
     lookahead: usize,
 }
 
-// Whether the byte is a stray close.
-fn is_stray(p: Spot, b: u8) -> bool
-    ensures { λ r. ⌜ r ≡ isStray p b ⌝ }
-{
-    let st = p.scan;
-    if p.inside {
-        return false;
-    }
-    scanners::is_bare(st, b, b'}')
-}
-
-// Whether a block is open behind the byte.
-fn inside_after(p: Spot, b: u8) -> bool
-    ensures { λ r. ⌜ r ≡ insideAfter p b ⌝ }
-{
-    let st = p.scan;
-    if p.inside {
-        return !scanners::is_bare(st, b, b'}');
-    }
-    scanners::is_bare(st, b, b'{')
-}
-
-// Whether the byte opens a block.
-fn opens_at(p: Spot, b: u8) -> bool
-    ensures { λ r. ⌜ r ≡ opensAt p b ⌝ }
-{
-    let st = p.scan;
-    if p.inside {
-        return false;
-    }
-    scanners::is_bare(st, b, b'{')
-}
-
-// The column of the last brace that opened a block.
-fn brace_after(p: Spot, b: u8) -> usize
-    ensures { λ r. ⌜ r ≡ spotAfter p b .brace ⌝ }
-{
-    if opens_at(p, b) { p.column } else { p.brace }
-}
-
 // The walk passes a byte.
 fn spot_after(p: Spot, b: u8) -> Spot
     requires { ⌜ p .column < 4294967296 ⌝ }
@@ -128,8 +82,8 @@ fn spot_after(p: Spot, b: u8) -> Spot
     Spot {
         scan: scanners::pass(false, st, b),
         column: scanners::column_behind(st.escaped, p.column, b),
-        inside: inside_after(p, b),
-        brace: brace_after(p, b),
+        inside: spots::inside_after(p, b),
+        brace: spots::brace_after(p, b),
     }
 }
 
@@ -147,66 +101,6 @@ fn pass_over(s: &[u8], p: Spot) -> Spot
     spot
 }
 
-// Whether the line's first byte that is no whitespace is a brace.
-fn opens_brace(line: &[u8]) -> bool
-    ensures { λ r. ⌜ r ≡ opens (now (line .entry)) ⌝ }
-{
-    let from = lines::trim_ascii_start(line);
-    if line.len() <= from {
-        return false;
-    }
-    line[from] == b'{'
-}
-
-// Whether the bytes b and c stand at i.
-fn pair_at(s: &[u8], i: usize, b: u8, c: u8) -> bool
-    requires { ⌜ i ≤ length (now s) ⌝ }
-    ensures { λ r. ⌜ r ≡ beginsPair b c (drop i (now (s .entry))) ⌝ }
-{
-    if s.len() - i < 2 {
-        return false;
-    }
-    if s[i] != b {
-        return false;
-    }
-    s[i + 1] == c
-}
-
-// Whether the line opens a comment.
-fn opens_comment(line: &[u8]) -> bool
-    ensures { λ r. ⌜ r ≡ beginsPair 123 37 (trimStart (now (line .entry))) ⌝ }
-{
-    let from = lines::trim_ascii_start(line);
-    pair_at(line, from, b'{', b'%')
-}
-
-// Whether a comment closes in the line.
-fn closes_comment(s: &[u8]) -> bool
-    ensures { λ r. ⌜ r ≡ closesComment (now (s .entry)) ⌝ }
-{
-    let mut i = 0;
-    while i < s.len() {
-        if pair_at(s, i, b'%', b'}') {
-            return true;
-        }
-        i += 1;
-    }
-    false
-}
-
-// Whether the line is too far left, or one before it was.
-fn shallow_or(shallow: bool, n: usize, column: usize, brace: usize) -> bool
-    ensures { λ r. ⌜ r ≡ shallowOr shallow (eqb n 0) column brace ⌝ }
-{
-    if shallow {
-        return true;
-    }
-    if n == 0 {
-        return false;
-    }
-    column <= brace
-}
-
 // Whether the run is at its end before the line.
 fn halts_at(n: usize, brace: usize, opener: usize, line: &[u8]) -> bool
     requires { ⌜ brace < 4294967296 ⌝ }
@@ -221,7 +115,7 @@ fn halts_at(n: usize, brace: usize, opener: usize, line: &[u8]) -> bool
     if brace + 1 < opener {
         return true;
     }
-    opens_brace(line)
+    spots::opens_brace(line)
 }
 
 // The larger of two numbers.
@@ -255,7 +149,7 @@ fn pad_of(n: usize, column: usize, brace: usize, opener: usize) -> usize
 
 // Where the walk enters the line.
 fn spot_at(n: usize, brace: usize, line: &[u8]) -> Spot
-    requires { ⌜ length (now line) ≤ 65535 ⌝ }
+    requires { ⌜ length (now line) ≤ maxText ⌝ }
     ensures { λ r. ⌜ r ≡ enteredAt (eqb n 0) brace (now (line .entry)) ⌝ }
 {
     Spot {
@@ -278,7 +172,7 @@ fn no_block() -> Walk
 
 // The first walk: up to the line behind which no block is open. A stray close leaves both loops at once.
 fn walk_run(text: &[u8], start: usize, opener: usize) -> Walk
-    requires { ⌜ (length (now text) ≤ 65535) × (opener ≤ 262140) ⌝ }
+    requires { ⌜ (length (now text) ≤ maxText) × (opener ≤ 262140) ⌝ }
     ensures { λ r. ⌜ r ≡ shownWalk (walkAt opener (now (text .entry)) start) ⌝ }
 {
     let mut n = 0;
@@ -295,10 +189,10 @@ fn walk_run(text: &[u8], start: usize, opener: usize) -> Walk
             break 'lines no_block();
         }
         let mut spot = spot_at(n, brace, &text[at..to]);
-        shallow = shallow_or(shallow, n, spot.column, brace);
+        shallow = spots::shallow_or(shallow, n, spot.column, brace);
         let mut i = at + lines::trim_ascii_start(&text[at..to]);
         while i < to {
-            if is_stray(spot, text[i]) {
+            if spots::is_stray(spot, text[i]) {
                 break 'lines Walk::No(0);
             }
             spot = spot_after(spot, text[i]);
@@ -325,7 +219,7 @@ fn comment_answer(shallow: bool, n: usize) -> Answer
 
 // The walk over a comment, up to the line with its close.
 fn comment_run(text: &[u8], start: usize, opener: usize) -> Answer
-    requires { ⌜ length (now text) ≤ 65535 ⌝ }
+    requires { ⌜ length (now text) ≤ maxText ⌝ }
     ensures { λ r. ⌜ r ≡ commentFrom opener 0 false (lines (drop start (now (text .entry)))) ⌝ }
 {
     let mut n = 0;
@@ -341,8 +235,8 @@ fn comment_run(text: &[u8], start: usize, opener: usize) -> Answer
             break 'lines Answer::NoEnd;
         }
         let column = columns::indent_columns(&text[at..to]);
-        shallow = shallow_or(shallow, n, column, opener);
-        if closes_comment(&text[at..to]) {
+        shallow = spots::shallow_or(shallow, n, column, opener);
+        if spots::closes_comment(&text[at..to]) {
             break 'lines comment_answer(shallow, n + 1);
         }
         n += 1;
@@ -389,7 +283,7 @@ fn run_start() -> State
 
 // The run over the lines of a block, with its pads: the walk is made again, and nothing of the first is kept.
 fn join_padded(text: &[u8], start: usize, opener: usize, join: &mut [u8]) -> Ran
-    requires { ⌜ (length (now text) ≤ 65535) × ((opener ≤ 262140) × (isBlock (walkAt opener (now text) start) ≡ true)) ⌝ }
+    requires { ⌜ (length (now text) ≤ maxText) × ((opener ≤ 262140) × (isBlock (walkAt opener (now text) start) ≡ true)) ⌝ }
     ensures { λ r. ⌜ r ≡ ranOf (paddedRun (length (now (join .entry))) opener (now (text .entry)) start) ⌝ }
     ensures { λ r. ⌜ now (join .exit) ≡ over (paddedRun (length (now (join .entry))) opener (now (text .entry)) start .text) (now (join .entry)) ⌝ }
 {
@@ -404,7 +298,7 @@ fn join_padded(text: &[u8], start: usize, opener: usize, join: &mut [u8]) -> Ran
         let from = at + lines::trim_ascii_start(&text[at..to]);
         let spot = spot_at(n, brace, &text[at..to]);
         let pad = pad_of(n, spot.column, brace, opener);
-        match runs::join_line(&text[from..to], pad, st, join) {
+        match joins::join_line(&text[from..to], pad, st, join) {
             Step::Broken => break 'lines stopped(Refusal::NoReading, st.len, n, lookahead),
             Step::Full => break 'lines stopped(Refusal::JoinFull, st.len, n, lookahead),
             Step::Closes(v) => break 'lines closed_run(v.len, n + 1, lookahead + (to - at)),
@@ -461,7 +355,7 @@ fn unjoined_run(answer: Answer) -> RefusedRun
 
 // The block of so many lines, one of which stands too far left.
 fn refused_block(text: &[u8], at: usize, opener: usize, count: usize, join: &mut [u8]) -> RefusedRun
-    requires { ⌜ (length (now text) ≤ 65535) × ((opener ≤ 262140) × (isBlock (walkAt opener (now text) at) ≡ true)) ⌝ }
+    requires { ⌜ (length (now text) ≤ maxText) × ((opener ≤ 262140) × (isBlock (walkAt opener (now text) at) ≡ true)) ⌝ }
     ensures { λ r. ⌜ r ≡ handedOut (judged count (paddedRun (length (now (join .entry))) opener (now (text .entry)) at)) ⌝ }
     ensures { λ r. ⌜ now (join .exit) ≡ over (paddedRun (length (now (join .entry))) opener (now (text .entry)) at .text) (now (join .entry)) ⌝ }
 {
@@ -475,17 +369,17 @@ fn refused_block(text: &[u8], at: usize, opener: usize, count: usize, join: &mut
 
 // The run whose first line begins at the place.
 fn refused_at(text: &[u8], at: usize, join: &mut [u8]) -> RefusedRun
-    requires { ⌜ (length (now text) ≤ 65535) × (at < length (now text)) ⌝ }
+    requires { ⌜ (length (now text) ≤ maxText) × (at < length (now text)) ⌝ }
     ensures { λ r. ⌜ r ≡ handedOut (refusedOf (length (now (join .entry))) (lines (drop at (now (text .entry))))) ⌝ }
     ensures { λ r. ⌜ now (join .exit) ≡ over (refusedOf (length (now (join .entry))) (lines (drop at (now (text .entry)))) .text) (now (join .entry)) ⌝ }
 {
     let l = lines::line_from(text, at);
     let to = l.to;
-    if !opens_brace(&text[at..to]) {
+    if !spots::opens_brace(&text[at..to]) {
         return unjoined_run(Answer::No(0));
     }
     let opener = columns::indent_columns(&text[at..to]);
-    if opens_comment(&text[at..to]) {
+    if spots::opens_comment(&text[at..to]) {
         return unjoined_run(comment_run(text, at, opener));
     }
     match walk_run(text, at, opener) {
@@ -567,7 +461,7 @@ fn ended(answer: Ends, lookahead: usize) -> EndsRun
 
 // The lines that open with a brace, from the last upwards: at most two are tried.
 fn search_back(text: &[u8], again: bool, join: &mut [u8]) -> EndsRun
-    requires { ⌜ length (now text) ≤ 65535 ⌝ }
+    requires { ⌜ length (now text) ≤ maxText ⌝ }
     ensures { λ r. ⌜ r ≡ endsShown (endedBy (backFrom again (now (join .entry)) (lines (now (text .entry))))) ⌝ }
     ensures { λ r. ⌜ now (join .exit) ≡ endedBy (backFrom again (now (join .entry)) (lines (now (text .entry)))) .join ⌝ }
 {
@@ -586,7 +480,7 @@ fn search_back(text: &[u8], again: bool, join: &mut [u8]) -> EndsRun
         if lines::is_blank_line(&text[at..to]) {
             break 'lines ended(Ends::No, lookahead);
         }
-        if !opens_brace(&text[at..to]) {
+        if !spots::opens_brace(&text[at..to]) {
             continue 'lines;
         }
         let r = refused_at(text, at, join);
@@ -604,7 +498,7 @@ fn search_back(text: &[u8], again: bool, join: &mut [u8]) -> EndsRun
 
 // The last line decides whether any is tried, and whether a second one is.
 fn ends_in(text: &[u8], join: &mut [u8]) -> EndsRun
-    requires { ⌜ length (now text) ≤ 65535 ⌝ }
+    requires { ⌜ length (now text) ≤ maxText ⌝ }
     ensures { λ r. ⌜ r ≡ endsShown (endsOf (now (join .entry)) (lines (now (text .entry)))) ⌝ }
     ensures { λ r. ⌜ now (join .exit) ≡ endsOf (now (join .entry)) (lines (now (text .entry))) .join ⌝ }
 {
@@ -617,7 +511,7 @@ fn ends_in(text: &[u8], join: &mut [u8]) -> EndsRun
     if !scanners::contains_close(&text[at..to]) {
         return ended(Ends::No, 0);
     }
-    let again = closes_comment(&text[at..to]);
+    let again = spots::closes_comment(&text[at..to]);
     search_back(text, again, join)
 }
 

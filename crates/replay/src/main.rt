@@ -8,6 +8,7 @@ mod leaves;
 mod merging;
 mod out;
 mod refusing;
+mod sheets_at;
 
 use crate::fields::Fields;
 use crate::fields::Said;
@@ -56,6 +57,9 @@ pub(crate) fn answer(
     let Said::Number(cap) = fields::cap_of(line, f) else {
         return out::put(output, at, b"error");
     };
+    if is_sheet(line, f) {
+        return sheets_at::answer(fields::field(line, f, 1), a, b, join, output, at);
+    }
     answer_capped(line, f, a, b, join, cap, canon, output, at)
 }
 
@@ -77,4 +81,12 @@ fn answer_capped(
         return brace::answer(line, f, count, a, b, part, canon, output, at);
     }
     out::put(output, at, b"error")
+}
+
+// Whether a sheet is asked for, which heeds no shorter join buffer.
+fn is_sheet(line: &[u8], f: Fields) -> bool {
+    if fields::count_of(line, f) != 2 {
+        return false;
+    }
+    lists::same_bytes(fields::field(line, f, 0), b"sheet")
 }

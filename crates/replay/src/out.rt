@@ -43,7 +43,8 @@ pub(crate) fn put_hex(output: &mut [u8], at: usize, s: &[u8]) -> usize {
     put_pairs(output, at, s)
 }
 
-fn put_pairs(output: &mut [u8], at: usize, s: &[u8]) -> usize
+// Adds bytes in lower-case hex, nothing for none.
+pub(crate) fn put_pairs(output: &mut [u8], at: usize, s: &[u8]) -> usize
     ensures { λ r. ⌜ at ≤ r ⌝ }
 {
     let mut to = at;

@@ -26,7 +26,8 @@ use Rattle.refusals.specs.Numbers.{numberOf}
 use Rattle.refusals.specs.declared.Refusal.the-variants.{NoReading, JoinFull}
 use Rattle.runs.specs.declared.Stop.{Stop}
 use Rattle.runs.specs.declared.Stop.the-variants.{Closed, Refused}
-use Rattle.runs.specs.Runs.{Lined, asIs, So, start, Run, ended, goesOn, spaced, isFirst, mayJoin, after, runFrom, runOf, runAt, stopNo, sizes}
+use Rattle.runs.specs.Runs.{Lined, asIs, So, start, Run, ended, isFirst, mayJoin, after, runFrom, runOf, runAt, stopNo, sizes}
+use Rattle.joins.specs.Joins.{goesOn, spaced}
 
 -- ---- induction along a run: it ends, or a line doesn't fit, or a line is joined and it goes on or ends behind that one
 

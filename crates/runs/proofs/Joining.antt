@@ -28,11 +28,12 @@ use Rattle.grammar.specs.declared.Place.the-variants.{Nothing, At}
 use Rattle.refusals.specs.declared.Refusal.the-variants.{NoReading, JoinFull}
 use Rattle.runs.specs.declared.Stop.{Stop}
 use Rattle.runs.specs.declared.Stop.the-variants.{Closed, Refused}
-use Rattle.runs.specs.declared.State.{State}
-use Rattle.runs.specs.declared.Step.{Step}
-use Rattle.runs.specs.declared.Step.the-variants.{Broken, Full, Go, Closes}
+use Rattle.joins.specs.declared.State.{State}
+use Rattle.joins.specs.declared.Step.{Step}
+use Rattle.joins.specs.declared.Step.the-variants.{Broken, Full, Go, Closes}
 use Rattle.runs.specs.declared.Joined.{Joined}
-use Rattle.runs.specs.Runs.{Lined, asIs, So, start, Run, ended, passes, spaced, added, braceAfter, isFirst, mayJoin, after, runFrom, runAt, pastLines, joinedOf, over, nextState, isLast, lengthAfter, stepOf, laid, joinAfter}
+use Rattle.runs.specs.Runs.{Lined, asIs, So, start, Run, ended, isFirst, mayJoin, after, runFrom, runAt, pastLines, joinedOf, over}
+use Rattle.joins.specs.Joins.{passes, spaced, added, braceAfter, nextState, isLast, lengthAfter, stepOf, laid, joinAfter}
 
 -- ---- one line, by code and by definition
 

@@ -1,5 +1,4 @@
 -- Laws of runs.
-pub mod Steps
 pub mod Joining
 pub mod Bounds
 pub mod Texts

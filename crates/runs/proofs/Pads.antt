@@ -12,11 +12,13 @@ use Rattle.lists.specs.Lists.{isIn}
 use Rattle.ascii.specs.Bytes.{within, isIndent, isSpace, isTail, isQuote}
 use Rattle.lines.specs.Trim.{trim, trimStart, isBlankLine}
 use Rattle.columns.specs.Columns.{columnAfter, indentFrom}
-use Rattle.scanners.specs.Scanners.{turned, passed, seekStep, seekFrom, lastOpenBrace, holdsOpen}
+use Rattle.grammar.specs.Close.{turned}
+use Rattle.scanners.specs.Scanners.{passed, seekStep, seekFrom, lastOpenBrace, holdsOpen}
 use Rattle.grammar.specs.declared.Quote.the-variants.{Out}
 use Rattle.runs.specs.declared.Stop.the-variants.{Closed, Refused}
 use Rattle.refusals.specs.declared.Refusal.the-variants.{NoReading, JoinFull}
-use Rattle.runs.specs.Runs.{Lined, So, Run, ended, passes, mayJoin, after, runFrom}
+use Rattle.runs.specs.Runs.{Lined, So, Run, ended, mayJoin, after, runFrom}
+use Rattle.joins.specs.Joins.{passes}
 
 abbrev pub spaces : ℕ → List ℕ → List ℕ
 spaces n l = replicate n 32 ++ l

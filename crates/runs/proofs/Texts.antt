@@ -27,7 +27,8 @@ use Rattle.lines.specs.declared.Line.the-variants.{Missing, At}
 use Rattle.lines.proofs.Lines.{ranges-end, ranges-at, line-found}
 use Rattle.lines.proofs.Trim.{trim-start, trim-end-take}
 use Rattle.lines.proofs.First.{rest-of, first-le, first-take, first-whole, first-cut}
-use Rattle.runs.specs.Runs.{Lined, asIs, So, start, Run, added, isFirst, runFrom, runAt, pastLines}
+use Rattle.runs.specs.Runs.{Lined, asIs, So, start, Run, isFirst, runFrom, runAt, pastLines}
+use Rattle.joins.specs.Joins.{added}
 use Rattle.runs.proofs.Bounds.{run-by}
 
 -- ---- what trimming and joining keep, the joined text has where the lines have it

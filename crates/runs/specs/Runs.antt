@@ -1,28 +1,20 @@
 -- "Runs of lines": "trimmed lines joined by one space", up to the line that closes the run or refuses it.
 use Prim.Native.Nat.{ℕ, zero, suc, _+_}
-use mathlib.Core.Bool.{Bool, cond, _&&_, _||_, not}
+use mathlib.Core.Bool.{Bool, cond, _&&_, not}
 use mathlib.Core.List.{List, [], _∷_, _++_, map}
 use lib.Dec.{eqb, ltb}
 use lib.ListN.{length, drop}
-use lib.Seq.{sets}
 use Rattle.lists.specs.Lists.{isIn}
-use Rattle.lines.specs.Trim.{trim, isBlankLine}
+use Rattle.lines.specs.Trim.{trim}
 use Rattle.lines.specs.Lines.{lines, lineFrom}
-use Rattle.columns.specs.Columns.{indentFrom, capped}
-use Rattle.payloads.specs.Payloads.{continues}
-use Rattle.scanners.specs.Scanners.{isQuoted, openQuoteAtEnd, lastOpenBrace, holdFrom, isHeld, holdsOpen}
-use Rattle.scanners.specs.declared.Hold.{Hold}
+use Rattle.scanners.specs.Scanners.{openQuoteAtEnd, lastOpenBrace, holdsOpen}
 use Rattle.grammar.specs.declared.Quote.{Quote}
 use Rattle.grammar.specs.declared.Quote.the-variants.{Out}
-use Rattle.grammar.specs.declared.Place.{Place}
-use Rattle.grammar.specs.declared.Place.the-variants.{Nothing, At}
 use Rattle.refusals.specs.Numbers.{numberOf}
 use Rattle.refusals.specs.declared.Refusal.the-variants.{NoReading, JoinFull}
+use Rattle.joins.specs.Joins.{passes, added, braceAfter}
 use Rattle.runs.specs.declared.Stop.{Stop}
 use Rattle.runs.specs.declared.Stop.the-variants.{Closed, Refused}
-use Rattle.runs.specs.declared.State.{State}
-use Rattle.runs.specs.declared.Step.{Step}
-use Rattle.runs.specs.declared.Step.the-variants.{Broken, Full, Go, Closes}
 use Rattle.runs.specs.declared.Joined.{Joined}
 
 -- ---- a line and a run
@@ -64,31 +56,7 @@ stopNo (Refused r) = numberOf r
 abbrev pub ended : Stop → So → Run
 ended x so = record { stop = x; text = so .text; lines = so .lines; lookahead = so .lookahead }
 
--- ---- a line's own tests
-
--- "Each later line must be indented beyond the last open brace's column, pass `valid_wrapped_attr_continuation`, and follow no open quote."
--- (They compare as what a `usize` holds of them. The indentation of a line below 2^62 bytes is held whole, and then the true numbers compare so.)
-abbrev pub goesOn : ℕ → Quote → ℕ → List ℕ → Bool
-goesOn brace quote pad l = ltb (capped brace) (capped (indentFrom pad l)) && (not (isQuoted quote) && continues (trim l))
-
--- 000: a blank line refuses the run; of the first line nothing else is asked
-unfoldable pub passes : Bool → ℕ → Quote → ℕ → List ℕ → Bool
-passes first brace quote pad l = not (isBlankLine l) && (first || goesOn brace quote pad l)
-
--- ---- what a line adds
-
--- "joined by one space", which the first line has not
-abbrev pub spaced : Bool → List ℕ → List ℕ
-spaced first s = cond first s (32 ∷ s)
-
--- "trimmed lines"
-abbrev pub added : Bool → List ℕ → List ℕ
-added first l = spaced first (trim l)
-
--- "`attrs_block_len_at` adds its column to the first line's brace column, without wrapping."
-abbrev pub braceAfter : ℕ → ℕ → Place → ℕ
-braceAfter brace base Nothing = brace
-braceAfter brace base (At c) = base + c
+-- ---- a line that is joined
 
 abbrev pub isFirst : So → Bool
 isFirst so = eqb (so .lines) 0
@@ -150,42 +118,3 @@ over xs buf = xs ++ drop (length xs) buf
 unfoldable pub sizes : List Lined → ℕ
 sizes [] = 0
 sizes (l ∷ ls) = l .size + sizes ls
-
--- ---- one line, in the state that code keeps of a run: the scan for an open block is carried, and of the text only its length is kept
-
--- behind a line whose joining makes the text `len` bytes long
-abbrev pub nextState : ℕ → State → ℕ → List ℕ → State
-nextState len st pad l =
-    record {
-      len = len;
-      brace = capped (braceAfter (st .brace) (st .base) (lastOpenBrace Out pad l));
-      base = 0;
-      quote = openQuoteAtEnd (trim l);
-      hold = holdFrom (st .hold) (added (eqb (st .len) 0) l);
-    }
-
-abbrev pub isLast : List ℕ → Hold → Bool
-isLast l hold = isIn l 125 && not (isHeld hold)
-
-abbrev pub closesOr : List ℕ → State → Step
-closesOr l st = cond (isLast l (st .hold)) (Closes st) (Go st)
-
-abbrev pub lengthAfter : State → List ℕ → ℕ
-lengthAfter st l = st .len + length (added (eqb (st .len) 0) l)
-
-unfoldable pub stepOf : ℕ → State → ℕ → List ℕ → Step
-stepOf cap st pad l =
-    cond (passes (eqb (st .len) 0) (st .brace) (st .quote) pad l)
-    (cond (ltb cap (lengthAfter st l)) Full (closesOr l (nextState (lengthAfter st l) st pad l)))
-    Broken
-
--- a line that refuses the run, or doesn't fit, writes nothing
-abbrev pub laid : Step → List ℕ → List ℕ → List ℕ
-laid Broken buf written = buf
-laid Full buf written = buf
-laid (Go st) buf written = written
-laid (Closes st) buf written = written
-
--- the join buffer after a line
-unfoldable pub joinAfter : State → ℕ → List ℕ → List ℕ → List ℕ
-joinAfter st pad l buf = laid (stepOf (length buf) st pad l) buf (sets buf (st .len) (added (eqb (st .len) 0) l))

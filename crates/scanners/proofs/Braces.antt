@@ -16,14 +16,14 @@ use Rattle.columns.specs.Columns.{columnAfter, columnsFrom, expandFrom, most}
 use Rattle.columns.proofs.Laws.{capped-id, columns-ge, columns-le}
 use Rattle.columns.proofs.Tabs.{columns-count}
 use Rattle.utf8.specs.Utf8.{charCount}
-use Rattle.grammar.specs.Close.{fresh}
+use Rattle.grammar.specs.Close.{fresh, turned}
 use Rattle.grammar.specs.declared.Quote.{Quote}
 use Rattle.grammar.specs.declared.Quote.the-variants.{Out}
 use Rattle.grammar.specs.declared.Scan.{Scan}
 use Rattle.grammar.specs.declared.Place.{Place}
 use Rattle.grammar.specs.declared.Place.the-variants.{Nothing, At}
 use Rattle.scanners.specs.declared.Seek.{Seek}
-use Rattle.scanners.specs.Scanners.{turned, passed, ignored, scanFrom, isBare, seekStep, seekFrom, startIn, seekStart, lastOpenBrace, cappedAt}
+use Rattle.scanners.specs.Scanners.{passed, ignored, scanFrom, isBare, seekStep, seekFrom, startIn, seekStart, lastOpenBrace, cappedAt}
 use Rattle.scanners.specs.Rules.{noneBare, spaced, LastBrace}
 use Rattle.scanners.proofs.Laws.{seek-append}
 use Rattle.scanners.proofs.Quotes.{bare-is, brace-stays}

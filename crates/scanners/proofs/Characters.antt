@@ -14,7 +14,7 @@ use Rattle.ascii.specs.Bytes.{within, isQuote, isTail}
 use Rattle.columns.specs.Columns.{columnAfter}
 use Rattle.utf8.specs.Grammar.{Char, one, two, three-E0, three-E1, three-ED, three-EE, four-F0, four-F1, four-F4, Octets, none, more}
 use Rattle.utf8.proofs.Shape.{starts, shape}
-use Rattle.grammar.specs.Close.{fresh}
+use Rattle.grammar.specs.Close.{fresh, turned}
 use Rattle.grammar.specs.declared.Quote.{Quote}
 use Rattle.grammar.specs.declared.Quote.the-variants.{Out, In}
 use Rattle.grammar.specs.declared.Scan.{Scan}
@@ -22,7 +22,7 @@ use Rattle.scanners.specs.declared.Seek.{Seek}
 use Rattle.scanners.specs.declared.Held.{Held}
 use Rattle.scanners.specs.declared.Hold.{Hold}
 use Rattle.scanners.specs.declared.Hold.the-variants.{Dead, Live}
-use Rattle.scanners.specs.Scanners.{isQuoted, takes, turned, passed, honoured, ignored, scanFrom, isBare, startIn, openQuoteAtEnd, seekStep, seekFrom, seekStart, lastOpenBrace, live, heldStep, holdStep, holdFrom, holdStart, isHeld, holdsOpen}
+use Rattle.scanners.specs.Scanners.{isQuoted, takes, passed, honoured, ignored, scanFrom, isBare, startIn, openQuoteAtEnd, seekStep, seekFrom, seekStart, lastOpenBrace, live, heldStep, holdStep, holdFrom, holdStart, isHeld, holdsOpen}
 use Rattle.scanners.specs.Rules.{leads, isSound}
 
 -- ---- a byte above 127 is no byte that the scanners look for

@@ -20,7 +20,8 @@ use Rattle.scanners.specs.declared.Seek.{Seek}
 use Rattle.scanners.specs.declared.Held.{Held}
 use Rattle.scanners.specs.declared.Hold.{Hold}
 use Rattle.scanners.specs.declared.Hold.the-variants.{Dead, Live}
-use Rattle.scanners.specs.Scanners.{honoured, passed, scanFrom, isBare, seekStep, seekFrom, cappedAt, cappedSeek, heldStep, holdStep, holdFrom, holdStart, isHeld, holdsOpen}
+use Rattle.scanners.specs.Scanners.{honoured, passed, scanFrom, isBare, seekStep, seekFrom, cappedAt, heldStep, holdStep, holdFrom, holdStart, isHeld, holdsOpen}
+use Rattle.scanners.specs.Steps.{cappedSeek}
 
 -- ---- joined texts: a scanner goes on from where the part before left it
 

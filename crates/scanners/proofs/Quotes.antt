@@ -10,14 +10,14 @@ use Rattle.lists.specs.Lists.{isIn}
 use Rattle.lists.proofs.Scan.{both}
 use Rattle.lists.proofs.More.{contra}
 use Rattle.ascii.specs.Bytes.{isQuote}
-use Rattle.grammar.specs.Close.{fresh}
+use Rattle.grammar.specs.Close.{fresh, turned}
 use Rattle.grammar.specs.declared.Quote.{Quote}
 use Rattle.grammar.specs.declared.Quote.the-variants.{Out, In}
 use Rattle.grammar.specs.declared.Scan.{Scan}
 use Rattle.scanners.specs.declared.Held.{Held}
 use Rattle.scanners.specs.declared.Hold.{Hold}
 use Rattle.scanners.specs.declared.Hold.the-variants.{Dead, Live}
-use Rattle.scanners.specs.Scanners.{isQuoted, turned, passed, honoured, ignored, scanFrom, isBare, openQuoteAtEnd, live, heldStep, holdFrom, holdStart}
+use Rattle.scanners.specs.Scanners.{isQuoted, passed, honoured, ignored, scanFrom, isBare, openQuoteAtEnd, live, heldStep, holdFrom, holdStart}
 use Rattle.scanners.specs.Rules.{noneBare}
 use Rattle.scanners.proofs.Laws.{dead-stays}
 

@@ -4,9 +4,8 @@ use mathlib.Core.Bool.{Bool, true, false, cond, not, _&&_, _||_}
 use mathlib.Core.List.{List, [], _∷_}
 use Prim.Native.Nat.{ℕ}
 use lib.Dec.{eqb}
-use Rattle.ascii.specs.Bytes.{isQuote}
 use Rattle.columns.specs.Columns.{columnAfter, capped}
-use Rattle.grammar.specs.Close.{fresh}
+use Rattle.grammar.specs.Close.{fresh, turned}
 use Rattle.grammar.specs.declared.Quote.{Quote}
 use Rattle.grammar.specs.declared.Quote.the-variants.{Out, In}
 use Rattle.grammar.specs.declared.Scan.{Scan}
@@ -22,11 +21,6 @@ use Rattle.scanners.specs.declared.Hold.the-variants.{Dead, Live}
 abbrev pub isQuoted : Quote → Bool
 isQuoted Out = false
 isQuoted (In k) = true
-
--- "text in one kind of quote": a quote opens outside, and the same one closes
-unfoldable pub turned : Quote → ℕ → Quote
-turned Out b = cond (isQuote b) (In b) Out
-turned (In k) b = cond (eqb b k) Out (In k)
 
 -- ".. where a backslash takes the next character with it": b is a backslash, in quotes or, if `outside` says so, anywhere
 abbrev pub takes : Bool → Quote → ℕ → Bool
@@ -91,9 +85,6 @@ lastOpenBrace q start s = seekFrom (seekStart q start) s .found
 abbrev pub cappedAt : Place → Place
 cappedAt Nothing = Nothing
 cappedAt (At c) = At (capped c)
-
-abbrev pub cappedSeek : Seek → Seek
-cappedSeek k = record { scan = k .scan; column = capped (k .column); found = cappedAt (k .found) }
 
 -- ---- "the joined text holds no open block"
 

@@ -2,7 +2,9 @@
 ghost use mathlib.Core.Path.{_≡_};
 ghost use Rattle.lists.specs.Lists.{isIn};
 ghost use Rattle.columns.specs.Columns.{capped};
-ghost use Rattle.scanners.specs.Scanners.{turned, takes, passed, isBare, openQuoteAtEnd, columnBehind, seekStep, lastOpenBrace, cappedAt, cappedSeek, heldStep, holdFrom, holdStart, isHeld, holdsOpen};
+ghost use Rattle.grammar.specs.Close.{turned};
+ghost use Rattle.scanners.specs.Scanners.{takes, passed, isBare, openQuoteAtEnd, columnBehind, seekStep, lastOpenBrace, cappedAt, heldStep, holdFrom, holdStart, isHeld, holdsOpen};
+ghost use Rattle.scanners.specs.Steps.{cappedSeek};
 use grammar::Place;
 use grammar::Quote;
 use grammar::Scan;

@@ -16,15 +16,14 @@ use Rattle.ascii.specs.declared.Mode.{Mode}
 use Rattle.escapes.specs.Unescape.{unescape}
 use Rattle.grammar.specs.Grammar.{Item, Placed}
 use Rattle.grammar.specs.Read.{Reading, text, readPayload}
-use Rattle.grammar.specs.Meaning.{Entry, Range, rangesFrom, piecesFrom, classesOf, valuesOf, isClass, idName, className, said, putAt, put, puts, entriesOf, meaning}
-use Rattle.grammar.specs.Meaning as meanings
+use Rattle.grammar.specs.Meaning.{Entry, Range, rangesFrom, piecesFrom, classesOf, valuesOf, isClass, idName, className, said, putAt, put, puts, entriesOf, meaning, orWhole}
 use Rattle.grammar.proofs.Payload.{sound}
 use Rattle.grammar.proofs.Places.{Standing, standing}
 use Rattle.grammar.proofs.Pieces.{cut, cut-pieces, unescapes, pieces-unescape}
 use Rattle.grammar.proofs.Views.{puts-append}
 use Rattle.sets.specs.Types.{Texts, one, rangeBytes, nameBytes, textBytes, valueBytes}
 use Rattle.sets.specs.Rows.{Rows, Put, noRows, withPuts, meant}
-use Rattle.sets.specs.Puts.{valueOf, pieceOf, orWhole, byName, valued, putsOf, putsIn}
+use Rattle.sets.specs.Puts.{valueOf, pieceOf, byName, valued, putsOf, putsIn}
 use Rattle.sets.specs.Shape.{isFree, isAllowed, allAllowed, Shaped}
 use Rattle.sets.specs.declared.Text.{Text}
 use Rattle.sets.specs.declared.Text.the-variants as texts
@@ -104,7 +103,7 @@ module _ (w : List ℕ) where
         is : textBytes (one w) (kind from (from + length v)) ≡ f v
         is = rw (reads from (from + length v), range-is w v post from e)
 
-        go : (rs : List Range) → Says w (orWhole (Put.class (valueOf (kind from (from + length v)))) (map (pieceOf kind) rs)) (entry className (meanings.orWhole (f v) (map f (cut w rs))))
+        go : (rs : List Range) → Says w (orWhole (Put.class (valueOf (kind from (from + length v)))) (map (pieceOf kind) rs)) (entry className (orWhole (f v) (map f (cut w rs))))
         go [] = record { means = λ m. rw is; allowed = refl }
         go (r ∷ rs) = record { means = λ m. ap (puts m) (pieces (r ∷ rs)) ∙ classes-puts (map f (cut w rs)) (f (take (r .to - r .from) (drop (r .from) w))) m; allowed = pieces-allowed rs }
 

@@ -10,13 +10,13 @@ use lib.Dec.{eqb, ltb, eqb·suc-suc}
 use lib.ListN.{length, getD, length-set, length-append, List·getD-append}
 use lib.Seq.{getD-set-same, getD-set-other, getD-append-seam}
 use borrow.Author.Tests.{eqb-false, ltb-true, ltb-false, lt-ltb, le-ltb, not-true}
-use Rattle.lists.specs.Lists.{same}
+use Rattle.lists.specs.Lists.{same, isSome}
 use Rattle.lists.proofs.Scan.{both}
 use Rattle.lists.proofs.Same.{same-true, same-of}
 use Rattle.lists.proofs.More.{contra, same-sym}
 use Rattle.grammar.specs.Meaning.{Entry, idName, className, isClass, over}
 use Rattle.sets.specs.Types.{Texts, nameBytes, valueBytes, zeroRow}
-use Rattle.sets.specs.Rows.{Rows, Put, isThere, isSome, hasKey, keyAt, putRow, slotUnless, withPut, slotEntry}
+use Rattle.sets.specs.Rows.{Rows, Put, isThere, hasKey, keyAt, putRow, slotUnless, withPut, slotEntry}
 use Rattle.sets.specs.Shape.{isSlot, isPresent, nameAt, isFree, Shaped}
 use Rattle.sets.specs.declared.Name.{Name}
 use Rattle.sets.specs.declared.Row.{Row}

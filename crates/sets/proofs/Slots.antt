@@ -8,9 +8,10 @@ use native.Mathlib.Omega.{arith}
 use lib.Dec.{eqb, ltb}
 use lib.ListN.{length}
 use borrow.Author.Tests.{eqb-true, eqb-false, eq-eqb, ltb-true, ltb-false, lt-ltb, le-ltb}
+use Rattle.lists.specs.Lists.{isSome}
 use Rattle.lists.proofs.More.{eqb-sym}
 use Rattle.sets.specs.Types.{Texts, maxKeys, maxSlots}
-use Rattle.sets.specs.Rows.{Rows, isThere, isSome}
+use Rattle.sets.specs.Rows.{Rows, isThere}
 use Rattle.sets.specs.Shape.{slotNumber, isSlot, times, isPresent, Shaped}
 use Rattle.sets.specs.declared.Slot.{Slot}
 use Rattle.sets.specs.declared.Slot.the-variants.{Id, Class, Key}

@@ -5,7 +5,7 @@ use mathlib.Core.List.{List, [], _∷_, _++_, map}
 use lib.ListN.{length}
 use Rattle.lists.specs.Lists.{same}
 use Rattle.grammar.specs.Grammar.{Item, Placed}
-use Rattle.grammar.specs.Meaning.{Range, rangesFrom, idName, className}
+use Rattle.grammar.specs.Meaning.{Range, rangesFrom, orWhole, idName, className}
 use Rattle.sets.specs.Rows.{Put}
 use Rattle.sets.specs.declared.Text.{Text}
 use Rattle.sets.specs.declared.Text.the-variants as text
@@ -18,11 +18,6 @@ valueOf x = record { text = x }
 -- "a class piece is as its value": plain of a plain one, quoted of a quoted one
 abbrev pub pieceOf : (ℕ → ℕ → Text) → Range → Put
 pieceOf kind r = Put.class (valueOf (kind (r .from) (r .to)))
-
--- "with no piece left the whole value is one class"
-abbrev pub orWhole : Put → List Put → List Put
-orWhole p [] = p ∷ []
-orWhole p (q ∷ qs) = q ∷ qs
 
 -- "Keys `id` and `class`, bare or valued, go to the id and the classes."
 unfoldable pub byName : ℕ → List ℕ → Text → List Put → List Put

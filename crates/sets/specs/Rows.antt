@@ -3,7 +3,7 @@ use Prim.Native.Nat.{ℕ, suc, _-_}
 use mathlib.Core.Bool.{Bool, true, false, cond, _||_}
 use mathlib.Core.List.{List, [], _∷_, _++_, map}
 use lib.ListN.{length, getD, take, replicate}
-use Rattle.lists.specs.Lists.{same}
+use Rattle.lists.specs.Lists.{isSome, same}
 use Rattle.grammar.specs.Meaning.{Entry, idName, className}
 use Rattle.sets.specs.Types.{Texts, nameBytes, valueBytes, maxClasses, maxKeys, maxSlots, zeroValue, zeroRow, zeroSlot}
 use Rattle.sets.specs.declared.Value.{Value}
@@ -35,10 +35,6 @@ pub data Put : Type 0 where
 abbrev pub isThere : ids.Id → Bool
 isThere id.Missing = false
 isThere (id.Given v) = true
-
-abbrev pub isSome : {A : Type 0} → List A → Bool
-isSome [] = false
-isSome (a ∷ s) = true
 
 -- a slot goes behind, where it isn't there yet
 abbrev pub slotUnless : Bool → List slots.Slot → slots.Slot → List slots.Slot

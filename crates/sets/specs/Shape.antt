@@ -6,10 +6,10 @@ use mathlib.Core.Bool.{Bool, true, cond, not, _&&_}
 use mathlib.Core.List.{List, [], _∷_}
 use lib.Dec.{eqb, ltb}
 use lib.ListN.{length, getD}
-use Rattle.lists.specs.Lists.{same}
+use Rattle.lists.specs.Lists.{same, isSome}
 use Rattle.grammar.specs.Meaning.{idName, className}
 use Rattle.sets.specs.Types.{Texts, nameBytes, zeroRow}
-use Rattle.sets.specs.Rows.{Rows, Put, isThere, isSome}
+use Rattle.sets.specs.Rows.{Rows, Put, isThere}
 use Rattle.sets.specs.declared.Row.{Row}
 use Rattle.sets.specs.declared.Slot.{Slot}
 use Rattle.sets.specs.declared.Slot.the-variants.{Id, Class, Key}

@@ -1,9 +1,9 @@
 -- A token by ranges of the text, as the code hands it out.
 use mathlib.Core.Bool.{Bool, true, false}
-use mathlib.Core.List.{List, [], _∷_}
+use mathlib.Core.List.{List}
 use Prim.Native.Nat.{ℕ, _+_, _-_}
-use lib.Dec.{eqb}
 use lib.ListN.{length, take, drop}
+use Rattle.lists.specs.Lists.{begins}
 use Rattle.ascii.specs.declared.Mode.{Mode}
 use Rattle.names.specs.Names.{isName}
 use Rattle.names.specs.Tags.{isLanguage}
@@ -60,8 +60,7 @@ abbrev pub part : ℕ → ℕ → List ℕ → List ℕ
 part i k s = take (k - i) (drop i s)
 
 abbrev pub startsEq : List ℕ → Bool
-startsEq [] = false
-startsEq (b ∷ s) = eqb b 61
+startsEq s = begins s 61
 
 -- where a quote closes whose text begins at i
 abbrev pub shutAt : ℕ → Shut → Place

@@ -11,16 +11,12 @@ use lib.Dec.{eqb, ltb}
 use lib.ListN.{length, getD, take, drop, drop-of-length-le}
 use lib.Seq.{drop-cons, getD-take, length-take-le}
 use borrow.Author.Tests.{ltb-true, ltb-false, lt-ltb, le-leb, not-true, eq-eqb, ne-eqb}
-use Rattle.lists.specs.Lists.{all, headed, same}
-use Rattle.ascii.specs.Bytes.{within, isLetter, isDigit, isAlnum, isKeyStart, isNamePart}
-use Rattle.names.specs.Names.{isKey}
-use Rattle.grammar.specs.Meaning.{langName}
+use Rattle.lists.specs.Lists.{all, same, isSome}
 use Rattle.lists.proofs.Scan.{both}
 use Rattle.lists.proofs.More.{contra, same-sym}
-use Rattle.canon.specs.Canon.{every}
-use Rattle.sets.specs.Types.{Texts, nameBytes, zeroRow, zeroValue, zeroSlot, maxClasses, maxKeys, maxSlots}
-use Rattle.sets.specs.Rows.{Rows, rowsIn, isThere, isSome, isNamed, hasKey, keyAt, slotIn}
-use Rattle.sets.specs.Shape.{times, slotNumber, isPresent, nameAt, isFree}
+use Rattle.sets.specs.Types.{Texts, zeroRow, zeroValue, zeroSlot, maxClasses, maxKeys, maxSlots}
+use Rattle.sets.specs.Rows.{Rows, rowsIn, isThere, isNamed, hasKey, keyAt, slotIn}
+use Rattle.sets.specs.Shape.{times, slotNumber, isPresent, nameAt}
 use Rattle.sets.specs.declared.Name.{Name}
 use Rattle.sets.specs.declared.Row.{Row}
 use Rattle.sets.specs.declared.Slot.{Slot}
@@ -29,20 +25,15 @@ use Rattle.sets.specs.declared.SlotRecord.{SlotRecord}
 use Rattle.sets.specs.declared.Value.{Value}
 use Rattle.sets.specs.declared.Attrs.{Attrs}
 use Rattle.sets.proofs.Keys.{key-none, key-some, key-named, key-before}
-use Rattle.wellformed.specs.WellFormed.{countsOk, nameOk, valueOk, keyOk, keysApart, keysOnce, slotsOk}
+use Rattle.wellformed.specs.WellFormed.{countsOk, keysApart, keysOnce, slotsOk}
 use Rattle.wellformed.specs.Decide.{presentBy, keysIn, slotsIn}
-
-ands : (a b c d : Bool) → (a && (b && (c && d))) ≡ ((a && (b && c)) && d)
-ands true true c d = refl
-ands true false c d = refl
-ands false b c d = refl
 
 -- ---- each of the first n: the answer for the rest is the answer for the whole
 pub record Each {A : Type 0} (f : A → Bool) (xs : List A) (n : ℕ) (r : Bool) (k : ℕ) : Type 0 where
   pub long : n ≤ length xs
-  pub rest : every f (drop k (take n xs)) ≡ r
+  pub rest : all f (drop k (take n xs)) ≡ r
 
-pub each-start : {A : Type 0} (f : A → Bool) (xs : List A) (n : ℕ) → n ≤ length xs → Each f xs n (every f (take n xs)) 0
+pub each-start : {A : Type 0} (f : A → Bool) (xs : List A) (n : ℕ) → n ≤ length xs → Each f xs n (all f (take n xs)) 0
 each-start f xs n h = record { long = h; rest = refl }
 
 module _ {A : Type 0} {f : A → Bool} {xs : List A} {n : ℕ} {r : Bool} {k : ℕ} (inv : Each f xs n r k) (d : A) where
@@ -50,24 +41,24 @@ module _ {A : Type 0} {f : A → Bool} {xs : List A} {n : ℕ} {r : Bool} {k : �
   next h = rw (← getD-take n xs k d h) (drop-cons (take n xs) k d (omega (arith, length-take-le n xs (inv .long))))
 
   pub each-stop : k < n → f (getD xs k d) ≡ false → false ≡ r
-  unfolding every
+  unfolding all
   each-stop h e = rw (next h, e) at (inv .rest)
 
   pub each-go : k < n → f (getD xs k d) ≡ true → Each f xs n r (k + 1)
-  unfolding every
+  unfolding all
   each-go h e = record { long = inv .long; rest = rw add-one (rw (next h, e) at (inv .rest)) }
 
 pub each-end : {A : Type 0} {f : A → Bool} {xs : List A} {n : ℕ} {r : Bool} {k : ℕ} → Each f xs n r k → n ≤ k → true ≡ r
-unfolding every
+unfolding all
 each-end {xs = xs} {n = n} {k = k} inv h = rw (drop-of-length-le (take n xs) {i = k} (omega (arith, length-take-le n xs (inv .long)))) at (inv .rest)
 
-pub every-map : {A B : Type 0} (f : B → Bool) (g : A → B) (xs : List A) → every f (map g xs) ≡ every (λ x. f (g x)) xs
-unfolding every
-every-map f g [] = refl
-every-map f g (x ∷ xs) = rw (every-map f g xs)
+pub all-map : {A B : Type 0} (f : B → Bool) (g : A → B) (xs : List A) → all f (map g xs) ≡ all (λ x. f (g x)) xs
+unfolding all
+all-map f g [] = refl
+all-map f g (x ∷ xs) = rw (all-map f g xs)
 
-pub every-same : {A : Type 0} (f g : A → Bool) → ((x : A) → f x ≡ g x) → (xs : List A) → every f xs ≡ every g xs
-unfolding every
+pub every-same : {A : Type 0} (f g : A → Bool) → ((x : A) → f x ≡ g x) → (xs : List A) → all f xs ≡ all g xs
+unfolding all
 every-same f g h [] = refl
 every-same f g h (x ∷ xs) = rw (h x, every-same f g h xs)
 
@@ -191,20 +182,6 @@ module _ {o : List Slot} {r : Bool} {k : ℕ} (inv : Once o r k) where
   pub once-end : k ≤ 0 → true ≡ r
   unfolding keysIn
   once-end h = let z : k ≡ 0 = omega arith in rw z at (inv .rest)
-
--- ---- a row of a key
-module _ (t : Texts) (r : Row) where
-  pub key-refused : (nameOk t (r .name) && (isKey (nameBytes t (r .name)) && isFree (nameBytes t (r .name)))) ≡ false → false ≡ keyOk t r
-  unfolding keyOk
-  key-refused e = sym (ands (nameOk t (r .name)) (isKey (nameBytes t (r .name))) (isFree (nameBytes t (r .name))) (valueOk t (r .value)) ∙ rw e)
-
-  pub key-passed : {b : Bool} → (nameOk t (r .name) && (isKey (nameBytes t (r .name)) && isFree (nameBytes t (r .name)))) ≡ true → b ≡ valueOk t (r .value) → b ≡ keyOk t r
-  unfolding keyOk
-  key-passed e q = q ∙ sym (ands (nameOk t (r .name)) (isKey (nameBytes t (r .name))) (isFree (nameBytes t (r .name))) (valueOk t (r .value)) ∙ rw e)
-
-pub lang-key : (isKey langName && isFree langName) ≡ true
-unfolding isKey isFree headed isKeyStart isNamePart isAlnum isLetter isDigit within all same
-lang-key = refl
 
 -- ---- the slots by what is there
 once-in : (s : Rows) (k : ℕ) → k ≤ length (s .keys) → keysOnce s k ≡ keysIn (s .order) k

@@ -9,21 +9,20 @@ use lib.Dec.{ltb}
 use lib.ListN.{length, length-map}
 use lib.Seq.{length-take-le}
 use borrow.Author.Tests.{ltb-true, lt-ltb, eqb-false}
-use Rattle.lists.specs.Lists.{all, headed, same}
+use Rattle.lists.specs.Lists.{all, headed, same, isSome}
 use Rattle.lists.proofs.Scan.{both}
-use Rattle.lists.proofs.More.{contra, same-sym}
+use Rattle.lists.proofs.More.{contra, same-sym, all-weaker}
 use Rattle.ascii.specs.Bytes.{within, isLetter, isDigit, isAlnum, isKeyStart, isNamePart}
 use Rattle.ascii.specs.declared.Mode.the-variants.{Strict}
 use Rattle.names.specs.Names.{isKey}
 use Rattle.grammar.specs.Close.{noLf}
 use Rattle.grammar.specs.Meaning.{idName, className, isClass, absent, distinct}
 use Rattle.canon.specs.Canon as canon
-use Rattle.canon.specs.Canon.{every, isClassValue, entryOk, entriesOk, wf, Answer, readAt}
+use Rattle.canon.specs.Canon.{isClassValue, entryOk, entriesOk, wf, Answer, readAt}
 use Rattle.canon.proofs.Back.{back}
-use Rattle.canon.proofs.Every.{every-weaker}
 use Rattle.canon.proofs.Parts.{entry-ok, classes-ok, value-ok, joined}
 use Rattle.sets.specs.Types.{Texts, valueBytes, zeroRow}
-use Rattle.sets.specs.Rows.{Rows, noRows, isThere, isSome, idValues, slotEntry, meant, rowsIn, meaningOf}
+use Rattle.sets.specs.Rows.{Rows, noRows, isThere, idValues, slotEntry, meant, rowsIn, meaningOf}
 use Rattle.sets.specs.Shape.{times, isSlot, isPresent, nameAt, Shaped}
 use Rattle.sets.specs.declared.Attrs.{Attrs}
 use Rattle.sets.specs.declared.Id as ids
@@ -34,9 +33,10 @@ use Rattle.sets.specs.declared.Slot.the-variants.{Id, Class, Key}
 use Rattle.sets.specs.declared.Value.{Value}
 use Rattle.sets.proofs.Shaping.{free-parts}
 use Rattle.sets.proofs.Slots.{times-le, times-head}
-use Rattle.wellformed.specs.WellFormed.{textOk, valueOk, identOk, classOk, keyOk, tableOk}
-use Rattle.wellformed.proofs.Decide.{every-map}
-use Rattle.wellformed.proofs.Shape.{every-at, slots-named, Passed, keyed, passed-shaped, table-passed}
+use Rattle.values.specs.Values.{textOk, valueOk, identOk, classOk, keyOk}
+use Rattle.wellformed.specs.WellFormed.{tableOk}
+use Rattle.wellformed.proofs.Decide.{all-map}
+use Rattle.wellformed.proofs.Shape.{all-at, slots-named, Passed, keyed, passed-shaped, table-passed}
 
 -- ---- one value, one class
 flat : (t : Texts) (v : Value) → valueOk t v ≡ true → noLf (valueBytes t v) ≡ true
@@ -66,26 +66,26 @@ class-class = refl
 module _ {t : Texts} {s : Rows} (p : Passed t s) where
   -- ---- each slot that is there has an entry that may stand
   id-entry : (i : ids.Id) → isThere i ≡ true → identOk t i ≡ true → entryOk (record { name = idName; values = idValues t i }) ≡ true
-  unfolding every
+  unfolding all
   id-entry id.Missing h e = contra false h refl
   id-entry (id.Given v) h e = entry-ok _ (record { key = id-key; flat = rw (flat t v e); shape = value-ok idName (valueBytes t v) id-no-class })
 
-  class-entry : (cs : List Value) → isSome cs ≡ true → every (classOk t) cs ≡ true → entryOk (record { name = className; values = map (valueBytes t) cs }) ≡ true
+  class-entry : (cs : List Value) → isSome cs ≡ true → all (classOk t) cs ≡ true → entryOk (record { name = className; values = map (valueBytes t) cs }) ≡ true
   class-entry cs h e =
       entry-ok _ (record {
         key = class-key;
-        flat = rw every-map (every-weaker (classOk t) (λ v. noLf (valueBytes t v)) (λ v q. flat t v (class-value t v q .0)) cs e);
-        shape = classes-ok className (map (valueBytes t) cs) class-class (some cs h) (rw every-map (every-weaker (classOk t) (λ v. isClassValue (valueBytes t v)) (λ v q. class-value t v q .1) cs e));
+        flat = rw all-map (all-weaker (classOk t) (λ v. noLf (valueBytes t v)) (λ v q. flat t v (class-value t v q .0)) cs e);
+        shape = classes-ok className (map (valueBytes t) cs) class-class (some cs h) (rw all-map (all-weaker (classOk t) (λ v. isClassValue (valueBytes t v)) (λ v q. class-value t v q .1) cs e));
       })
     where
-      some : (cs : List Value) → isSome cs ≡ true → canon.isSome (map (valueBytes t) cs) ≡ true
+      some : (cs : List Value) → isSome cs ≡ true → isSome (map (valueBytes t) cs) ≡ true
       some [] h = h
       some (c ∷ cs) h = refl
 
   key-entry : (k : ℕ) → k < length (s .keys) → entryOk (slotEntry t s (Key k)) ≡ true
-  unfolding slotEntry every isClass
+  unfolding slotEntry all isClass
   key-entry k h =
-      let r = keyed (every-at (keyOk t) zeroRow (s .keys) (p .keys) k h) in
+      let r = keyed (all-at (keyOk t) zeroRow (s .keys) (p .keys) k h) in
       entry-ok _ (record { key = r .key; flat = rw (flat t _ (r .value)); shape = value-ok _ _ (free-parts _ (r .free) .1) })
 
   slot-entry : (x : Slot) → isPresent s x ≡ true → entryOk (slotEntry t s x) ≡ true
@@ -94,10 +94,10 @@ module _ {t : Texts} {s : Rows} (p : Passed t s) where
   slot-entry Class h = class-entry (s .classes) h (p .classes)
   slot-entry (Key k) h = key-entry k (ltb-true k (length (s .keys)) h)
 
-  entries : (o : List Slot) → every (isPresent s) o ≡ true → entriesOk (map (slotEntry t s) o) ≡ true
-  unfolding every entriesOk
+  entries : (o : List Slot) → all (isPresent s) o ≡ true → entriesOk (map (slotEntry t s) o) ≡ true
+  unfolding all entriesOk
   entries [] h = refl
-  entries (x ∷ o) h = let z = both (isPresent s x) (every (isPresent s) o) h in rw (slot-entry x (z .0)) (entries o (z .1))
+  entries (x ∷ o) h = let z = both (isPresent s x) (all (isPresent s) o) h in rw (slot-entry x (z .0)) (entries o (z .1))
 
 -- ---- two slots that are there have two names
 module _ {t : Texts} {s : Rows} (h : Shaped t s) where
@@ -120,22 +120,22 @@ module _ {t : Texts} {s : Rows} (h : Shaped t s) where
       go true r = absurd (eqb-false (suc (suc j)) (suc (suc k)) e (ap (λ i. suc (suc i)) (sym (h .apart k j (ltb-true k (length (s .keys)) q) (ltb-true j (length (s .keys)) p) r))))
       go false r = refl
 
-  not-there : (x : Slot) → isPresent s x ≡ true → (o : List Slot) → every (isPresent s) o ≡ true → times x o ≡ 0 → absent (slotEntry t s x .name) (map (slotEntry t s) o) ≡ true
-  unfolding every times absent
+  not-there : (x : Slot) → isPresent s x ≡ true → (o : List Slot) → all (isPresent s) o ≡ true → times x o ≡ 0 → absent (slotEntry t s x .name) (map (slotEntry t s) o) ≡ true
+  unfolding all times absent
   not-there x p [] a e = refl
-  not-there x p (y ∷ o) a e = go (isSlot x y) refl e (both (isPresent s y) (every (isPresent s) o) a) (not-there x p o)
+  not-there x p (y ∷ o) a e = go (isSlot x y) refl e (both (isPresent s y) (all (isPresent s) o) a) (not-there x p o)
     where
-      go : (b : Bool) → isSlot x y ≡ b → cond b (suc (times x o)) (times x o) ≡ 0 → (isPresent s y ≡ true) × (every (isPresent s) o ≡ true)
-          → (every (isPresent s) o ≡ true → times x o ≡ 0 → absent (slotEntry t s x .name) (map (slotEntry t s) o) ≡ true)
+      go : (b : Bool) → isSlot x y ≡ b → cond b (suc (times x o)) (times x o) ≡ 0 → (isPresent s y ≡ true) × (all (isPresent s) o ≡ true)
+          → (all (isPresent s) o ≡ true → times x o ≡ 0 → absent (slotEntry t s x .name) (map (slotEntry t s) o) ≡ true)
           → (not (same (slotEntry t s y .name) (slotEntry t s x .name)) && absent (slotEntry t s x .name) (map (slotEntry t s) o)) ≡ true
       go true r e z ih = absurd (omega arith)
       go false r e z ih = rw (names-apart x y p (z .0) r) (ih (z .1) e)
 
-  slots-distinct : (o : List Slot) → every (isPresent s) o ≡ true → ((x : Slot) → times x o ≤ 1) → distinct (map (slotEntry t s) o) ≡ true
-  unfolding every distinct
+  slots-distinct : (o : List Slot) → all (isPresent s) o ≡ true → ((x : Slot) → times x o ≤ 1) → distinct (map (slotEntry t s) o) ≡ true
+  unfolding all distinct
   slots-distinct [] a e = refl
   slots-distinct (x ∷ o) a e =
-      let z = both (isPresent s x) (every (isPresent s) o) a in
+      let z = both (isPresent s x) (all (isPresent s) o) a in
       rw (not-there x (z .0) o (z .1) (omega (arith, e x, times-head x o))) (slots-distinct o (z .1) (λ y. omega (arith, e y, times-le y x o)))
 
   once-most : (x : Slot) → times x (s .order) ≤ 1

@@ -9,7 +9,7 @@ use lib.Dec.{leb, eqb, ltb}
 use lib.ListN.{length}
 use borrow.Author.Tests.{ltb-true, leb-true, leb-false, le-leb, lt-leb, ne-eqb}
 use Rattle.lists.specs.Lists.{all, isIn}
-use Rattle.lists.proofs.Scan.{both}
+use Rattle.lists.proofs.Scan.{both, all-append}
 use Rattle.lists.proofs.More.{contra, all-weaker}
 use Rattle.ascii.specs.Bytes.{within, isLetter, isDigit, isAlnum, isNamePart, isPunct}
 use Rattle.names.specs.Names.{isKey}
@@ -24,8 +24,7 @@ use Rattle.escapes.specs.Unescape.{unescape, unescapeFrom}
 use Rattle.grammar.specs.Close.{noLf}
 use Rattle.grammar.specs.Meaning.{Entry, idName, className}
 use Rattle.grammar.proofs.Bytes.{key-parts}
-use Rattle.canon.specs.Canon.{every, escape, Pair, pairText, moreText, pairsText, pairsOf, pairs, canon}
-use Rattle.canon.proofs.Every.{every-weaker, every-append}
+use Rattle.canon.specs.Canon.{escape, Pair, pairText, moreText, pairsText, pairsOf, pairs, canon}
 use Rattle.sets.specs.Types.{Texts, one, rangeBytes, textBytes, valueBytes, zeroRow}
 use Rattle.sets.specs.Rows.{Rows, isThere, idValues, slotEntry, meant, rowsIn, meaningOf}
 use Rattle.sets.specs.Shape.{isPresent}
@@ -37,9 +36,10 @@ use Rattle.sets.specs.declared.Slot.the-variants.{Id, Class, Key}
 use Rattle.sets.specs.declared.Text.{Text}
 use Rattle.sets.specs.declared.Text.the-variants.{Plain, Quoted, Empty}
 use Rattle.sets.specs.declared.Value.{Value}
-use Rattle.wellformed.specs.WellFormed.{rangeOk, textOk, valueOk, identOk, classOk, keyOk, tableOk, wellFormed}
-use Rattle.wellformed.proofs.Decide.{every-map}
-use Rattle.wellformed.proofs.Shape.{every-at, slots-named, Passed, keyed, table-passed}
+use Rattle.values.specs.Values.{rangeOk, textOk, valueOk, identOk, classOk, keyOk}
+use Rattle.wellformed.specs.WellFormed.{tableOk, wellFormed}
+use Rattle.wellformed.proofs.Decide.{all-map}
+use Rattle.wellformed.proofs.Shape.{all-at, slots-named, Passed, keyed, table-passed}
 use Rattle.wellformed.proofs.Means.{class-value}
 
 -- ---- a character is one ASCII byte, or bytes that are all above ASCII
@@ -140,7 +140,7 @@ escape-utf8 s e = escaped (sound s e .octets)
 
 -- ---- canonical text
 abbrev pub entryUtf8 : Entry → Bool
-entryUtf8 e = isUtf8 (e .name) && every isUtf8 (e .values)
+entryUtf8 e = isUtf8 (e .name) && all isUtf8 (e .values)
 
 abbrev pairUtf8 : Pair → Bool
 pairUtf8 p = isUtf8 (p .name) && isUtf8 (p .value)
@@ -151,32 +151,32 @@ pair-utf8 p e =
     let h = both (isUtf8 (p .name)) (isUtf8 (p .value)) e in
     append-utf8 (p .name) _ (h .0) (low-utf8 61 _ (omega arith) (low-utf8 34 _ (omega arith) (append-utf8 (escape (p .value)) (34 ∷ []) (escape-utf8 (p .value) (h .1)) (ascii (34 ∷ []) refl))))
 
-more-utf8 : (ps : List Pair) → every pairUtf8 ps ≡ true → isUtf8 (moreText ps) ≡ true
-unfolding moreText every all
+more-utf8 : (ps : List Pair) → all pairUtf8 ps ≡ true → isUtf8 (moreText ps) ≡ true
+unfolding moreText all
 more-utf8 [] e = ascii [] refl
 more-utf8 (p ∷ ps) e =
-    let h = both (pairUtf8 p) (every pairUtf8 ps) e in
+    let h = both (pairUtf8 p) (all pairUtf8 ps) e in
     low-utf8 32 _ (omega arith) (append-utf8 (pairText p) (moreText ps) (pair-utf8 p (h .0)) (more-utf8 ps (h .1)))
 
-pairs-text-utf8 : (ps : List Pair) → every pairUtf8 ps ≡ true → isUtf8 (pairsText ps) ≡ true
-unfolding pairsText every all
+pairs-text-utf8 : (ps : List Pair) → all pairUtf8 ps ≡ true → isUtf8 (pairsText ps) ≡ true
+unfolding pairsText all
 pairs-text-utf8 [] e = ascii [] refl
-pairs-text-utf8 (p ∷ ps) e = let h = both (pairUtf8 p) (every pairUtf8 ps) e in append-utf8 (pairText p) (moreText ps) (pair-utf8 p (h .0)) (more-utf8 ps (h .1))
+pairs-text-utf8 (p ∷ ps) e = let h = both (pairUtf8 p) (all pairUtf8 ps) e in append-utf8 (pairText p) (moreText ps) (pair-utf8 p (h .0)) (more-utf8 ps (h .1))
 
-values-utf8 : (n : List ℕ) (vs : List (List ℕ)) → isUtf8 n ≡ true → every isUtf8 vs ≡ true → every pairUtf8 (pairsOf n vs) ≡ true
-unfolding every pairsOf
+values-utf8 : (n : List ℕ) (vs : List (List ℕ)) → isUtf8 n ≡ true → all isUtf8 vs ≡ true → all pairUtf8 (pairsOf n vs) ≡ true
+unfolding all pairsOf
 values-utf8 n [] e h = refl
-values-utf8 n (v ∷ vs) e h = let z = both (isUtf8 v) (every isUtf8 vs) h in rw (e, z .0) (values-utf8 n vs e (z .1))
+values-utf8 n (v ∷ vs) e h = let z = both (isUtf8 v) (all isUtf8 vs) h in rw (e, z .0) (values-utf8 n vs e (z .1))
 
-pairs-utf8 : (m : List Entry) → every entryUtf8 m ≡ true → every pairUtf8 (pairs m) ≡ true
-unfolding every pairs
+pairs-utf8 : (m : List Entry) → all entryUtf8 m ≡ true → all pairUtf8 (pairs m) ≡ true
+unfolding all pairs
 pairs-utf8 [] e = refl
 pairs-utf8 (x ∷ m) e =
-    let h = both (entryUtf8 x) (every entryUtf8 m) e in
-    let z = both (isUtf8 (x .name)) (every isUtf8 (x .values)) (h .0) in
-    every-append pairUtf8 (pairsOf (x .name) (x .values)) (pairs m) (values-utf8 (x .name) (x .values) (z .0) (z .1)) (pairs-utf8 m (h .1))
+    let h = both (entryUtf8 x) (all entryUtf8 m) e in
+    let z = both (isUtf8 (x .name)) (all isUtf8 (x .values)) (h .0) in
+    all-append pairUtf8 (pairsOf (x .name) (x .values)) (pairs m) (values-utf8 (x .name) (x .values) (z .0) (z .1)) (pairs-utf8 m (h .1))
 
-pub canon-utf8 : (m : List Entry) → every entryUtf8 m ≡ true → isUtf8 (canon m) ≡ true
+pub canon-utf8 : (m : List Entry) → all entryUtf8 m ≡ true → isUtf8 (canon m) ≡ true
 unfolding canon all
 canon-utf8 m e = low-utf8 123 _ (omega arith) (append-utf8 (pairsText (pairs m)) (125 ∷ []) (pairs-text-utf8 (pairs m) (pairs-utf8 m e)) (ascii (125 ∷ []) refl))
 
@@ -213,23 +213,23 @@ module _ (t : Texts) (u : isUtf8 (t .text) ≡ true) where
       go Empty h = ascii [] refl
 
   module _ {s : Rows} (p : Passed t s) where
-    id-utf8 : (i : ids.Id) → isThere i ≡ true → identOk t i ≡ true → every isUtf8 (idValues t i) ≡ true
-    unfolding every
+    id-utf8 : (i : ids.Id) → isThere i ≡ true → identOk t i ≡ true → all isUtf8 (idValues t i) ≡ true
+    unfolding all
     id-utf8 id.Missing h e = refl
     id-utf8 (id.Given v) h e = rw (value-utf8 v e)
 
     slot-utf8 : (x : Slot) → isPresent s x ≡ true → entryUtf8 (slotEntry t s x) ≡ true
-    unfolding slotEntry every all
+    unfolding slotEntry all
     slot-utf8 Id h = rw (ascii idName refl) (id-utf8 (s .ident) h (p .ident))
-    slot-utf8 Class h = rw (ascii className refl, every-map) (every-weaker (classOk t) (λ v. isUtf8 (valueBytes t v)) (λ v e. value-utf8 v (class-value t v e .0)) (s .classes) (p .classes))
+    slot-utf8 Class h = rw (ascii className refl, all-map) (all-weaker (classOk t) (λ v. isUtf8 (valueBytes t v)) (λ v e. value-utf8 v (class-value t v e .0)) (s .classes) (p .classes))
     slot-utf8 (Key k) h =
-        let r = keyed (every-at (keyOk t) zeroRow (s .keys) (p .keys) k (ltb-true k (length (s .keys)) h)) in
+        let r = keyed (all-at (keyOk t) zeroRow (s .keys) (p .keys) k (ltb-true k (length (s .keys)) h)) in
         rw (key-utf8 _ (r .key), value-utf8 _ (r .value))
 
-    slots-utf8 : (o : List Slot) → every (isPresent s) o ≡ true → every entryUtf8 (map (slotEntry t s) o) ≡ true
-    unfolding every
+    slots-utf8 : (o : List Slot) → all (isPresent s) o ≡ true → all entryUtf8 (map (slotEntry t s) o) ≡ true
+    unfolding all
     slots-utf8 [] h = refl
-    slots-utf8 (x ∷ o) h = let z = both (isPresent s x) (every (isPresent s) o) h in rw (slot-utf8 x (z .0)) (slots-utf8 o (z .1))
+    slots-utf8 (x ∷ o) h = let z = both (isPresent s x) (all (isPresent s) o) h in rw (slot-utf8 x (z .0)) (slots-utf8 o (z .1))
 
 -- ======== of a table
 module _ (t : List ℕ) (a : Attrs) (e : wellFormed t a ≡ true) where
@@ -245,7 +245,7 @@ module _ (t : List ℕ) (a : Attrs) (e : wellFormed t a ≡ true) where
   unfolding wellFormed
   table-ok = both (isText t) (tableOk (one t) a) e .1
 
-  pub means-utf8 : every entryUtf8 (meaningOf (one t) a) ≡ true
+  pub means-utf8 : all entryUtf8 (meaningOf (one t) a) ≡ true
   unfolding meaningOf meant
   means-utf8 = let p = table-passed (one t) a table-ok in slots-utf8 (one t) text-utf8 p (rowsIn a .order) (slots-named (rowsIn a) (p .slots))
 

@@ -17,21 +17,20 @@ use Rattle.names.specs.Names.{isKey}
 use Rattle.escapes.specs.Unescape.{unescape}
 use Rattle.escapes.proofs.Pieces.{no-lf, no-space, only-space}
 use Rattle.grammar.specs.Grammar.{Item, Placed, Token, Payload}
-use Rattle.grammar.specs.Meaning.{Range, mark, rangesFrom, idName, className}
+use Rattle.grammar.specs.Meaning.{Range, mark, rangesFrom, idName, className, orWhole}
 use Rattle.grammar.specs.Close.{noLf}
 use Rattle.grammar.proofs.Bytes.{blank-not, bare-key}
 use Rattle.grammar.proofs.Chain.{Chain, payload-chain}
-use Rattle.canon.specs.Canon.{every, isClassValue}
-use Rattle.canon.proofs.Every.{every-append, every-parts}
+use Rattle.canon.specs.Canon.{isClassValue}
 use Rattle.canon.proofs.WellFormed.{notLf, solid, solid-class, white-class, name-class}
 use Rattle.sets.specs.Types.{one, nameBytes, textBytes, valueBytes, rangeBytes}
 use Rattle.sets.specs.Rows.{Put}
-use Rattle.sets.specs.Puts.{valueOf, pieceOf, orWhole, byName, valued, putsOf, putsIn}
+use Rattle.sets.specs.Puts.{valueOf, pieceOf, byName, valued, putsOf, putsIn}
 use Rattle.sets.specs.Shape.{isFree}
 use Rattle.sets.specs.declared.Text.{Text}
 use Rattle.sets.specs.declared.Text.the-variants as texts
 use Rattle.sets.specs.declared.Name.the-variants as name
-use Rattle.wellformed.specs.WellFormed.{rangeOk, textOk, nameOk, valueOk, classOk, keyOk}
+use Rattle.values.specs.Values.{rangeOk, textOk, nameOk, valueOk, classOk, keyOk}
 use Rattle.wellformed.proofs.PutsKept.{putOk}
 use Rattle.wellformed.proofs.PutsParts.{Part, range-ok, range-is, before, behind}
 
@@ -95,17 +94,17 @@ module _ (w : List ℕ) where
 
     -- the piece c was begun at `from`, and the rest s of the value stands at `at`
     marked : {from at : ℕ} {c rest : List ℕ} (rs : List Range) → Part w from c rest → at ≡ from + length c → noLf c ≡ true → all solid c ≡ true
-        → every (putOk (one w)) (map (pieceOf kind) rs) ≡ true → every (putOk (one w)) (map (pieceOf kind) (mark from at rs)) ≡ true
-    unfolding every putOk
+        → all (putOk (one w)) (map (pieceOf kind) rs) ≡ true → all (putOk (one w)) (map (pieceOf kind) (mark from at rs)) ≡ true
+    unfolding all putOk
     marked {from} {at} {c} rs p e h d r = go (ltb from at)
       where
-        go : (x : Bool) → every (putOk (one w)) (map (pieceOf kind) (cond x (record { from = from; to = at } ∷ rs) rs)) ≡ true
+        go : (x : Bool) → all (putOk (one w)) (map (pieceOf kind) (cond x (record { from = from; to = at } ∷ rs) rs)) ≡ true
         go true = rw (e, class-ok p h (solid-class c d)) r
         go false = r
 
     pieces-ok : {rest : List ℕ} (s c : List ℕ) {from at : ℕ} → Part w from (c ++ s) rest → at ≡ from + length c → noLf (c ++ s) ≡ true → all solid c ≡ true
-        → every (putOk (one w)) (map (pieceOf kind) (rangesFrom from at s)) ≡ true
-    unfolding rangesFrom noLf every all
+        → all (putOk (one w)) (map (pieceOf kind) (rangesFrom from at s)) ≡ true
+    unfolding rangesFrom noLf all
     pieces-ok [] c p e h d = marked [] (rw append-nil at p) e (rw append-nil at h) d refl
     pieces-ok {rest} (b ∷ s) c {from} {at} p e h d =
         let g = all-parts notLf c (b ∷ s) h in
@@ -114,35 +113,35 @@ module _ (w : List ℕ) where
         space : isSpace b ≡ true → Part w (suc at) s rest
         space q = behind c b s (space-low b q) p (omega arith)
 
-        go : (x : Bool) → isSpace b ≡ x → noLf c ≡ true → (isSpace b ≡ true → every (putOk (one w)) (map (pieceOf kind) (rangesFrom (suc at) (suc at) s)) ≡ true)
-            → (isSpace b ≡ false → every (putOk (one w)) (map (pieceOf kind) (rangesFrom from (suc at) s)) ≡ true)
-            → every (putOk (one w)) (map (pieceOf kind) (cond x (mark from at (rangesFrom (suc at) (suc at) s)) (rangesFrom from (suc at) s))) ≡ true
+        go : (x : Bool) → isSpace b ≡ x → noLf c ≡ true → (isSpace b ≡ true → all (putOk (one w)) (map (pieceOf kind) (rangesFrom (suc at) (suc at) s)) ≡ true)
+            → (isSpace b ≡ false → all (putOk (one w)) (map (pieceOf kind) (rangesFrom from (suc at) s)) ≡ true)
+            → all (putOk (one w)) (map (pieceOf kind) (cond x (mark from at (rangesFrom (suc at) (suc at) s)) (rangesFrom from (suc at) s))) ≡ true
         go true q f i j = marked (rangesFrom (suc at) (suc at) s) (before c b s (space-low b q) p) e f d (i q)
         go false q f i j = j q
 
     classes-ok : {from : ℕ} {v rest : List ℕ} → Part w from v rest → noLf v ≡ true
-        → every (putOk (one w)) (orWhole (Put.class (valueOf (kind from (from + length v)))) (map (pieceOf kind) (rangesFrom from from v))) ≡ true
-    unfolding every putOk all
+        → all (putOk (one w)) (orWhole (Put.class (valueOf (kind from (from + length v)))) (map (pieceOf kind) (rangesFrom from from v))) ≡ true
+    unfolding all putOk
     classes-ok {from} {v} p h = go (rangesFrom from from v) refl (pieces-ok v [] p (omega arith) h refl)
       where
-        go : (rs : List Range) → rangesFrom from from v ≡ rs → every (putOk (one w)) (map (pieceOf kind) (rangesFrom from from v)) ≡ true
-            → every (putOk (one w)) (orWhole (Put.class (valueOf (kind from (from + length v)))) (map (pieceOf kind) rs)) ≡ true
+        go : (rs : List Range) → rangesFrom from from v ≡ rs → all (putOk (one w)) (map (pieceOf kind) (rangesFrom from from v)) ≡ true
+            → all (putOk (one w)) (orWhole (Put.class (valueOf (kind from (from + length v)))) (map (pieceOf kind) rs)) ≡ true
         go [] q i = rw (class-ok p h (white-class v (no-ranges v from q)))
         go (r ∷ rs) q i = rw q at i
 
   -- ---- items
-  by-name : {at : ℕ} {k rest : List ℕ} → Part w at k rest → isKey k ≡ true → (x : Text) → valueOk (one w) (valueOf x) ≡ true → (classes : List Put) → every (putOk (one w)) classes ≡ true
-      → every (putOk (one w)) (byName at k x classes) ≡ true
-  unfolding every putOk byName keyOk nameOk nameBytes isFree
+  by-name : {at : ℕ} {k rest : List ℕ} → Part w at k rest → isKey k ≡ true → (x : Text) → valueOk (one w) (valueOf x) ≡ true → (classes : List Put) → all (putOk (one w)) classes ≡ true
+      → all (putOk (one w)) (byName at k x classes) ≡ true
+  unfolding all putOk byName keyOk nameOk nameBytes isFree
   by-name {at} {k} p h x v classes c = go (same k idName) refl (same k className) refl
     where
-      go : (a : Bool) → same k idName ≡ a → (b : Bool) → same k className ≡ b → every (putOk (one w)) (cond a (Put.ident (valueOf x) ∷ []) (cond b classes (Put.key (name.Range at (at + length k)) (valueOf x) ∷ []))) ≡ true
+      go : (a : Bool) → same k idName ≡ a → (b : Bool) → same k className ≡ b → all (putOk (one w)) (cond a (Put.ident (valueOf x) ∷ []) (cond b classes (Put.key (name.Range at (at + length k)) (valueOf x) ∷ []))) ≡ true
       go true q b r = rw v
       go false q true r = c
       go false q false r = rw (range-ok p, range-is p, h, q, r, v)
 
   valued-ok : {kind : ℕ → ℕ → Text} {f : List ℕ → List ℕ} → Kind kind f → {at from : ℕ} {k v rest post : List ℕ} → Part w at k rest → isKey k ≡ true → Part w from v post → noLf v ≡ true
-      → every (putOk (one w)) (valued at k kind from v) ≡ true
+      → all (putOk (one w)) (valued at k kind from v) ≡ true
   unfolding valued
   valued-ok {kind} o {at} {from} {k} {v} p h q g =
       by-name p h (kind from (from + length v)) (value-ok o q g) (orWhole (Put.class (valueOf (kind from (from + length v)))) (map (pieceOf kind) (rangesFrom from from v))) (classes-ok o q g)
@@ -155,12 +154,12 @@ module _ (w : List ℕ) where
   unfolding valueOk textOk valueBytes noLf all
   bare-value = refl
 
-  bare-class : every (putOk (one w)) (Put.class (valueOf texts.Empty) ∷ []) ≡ true
-  unfolding every putOk classOk valueOk textOk valueBytes noLf isClassValue all
+  bare-class : all (putOk (one w)) (Put.class (valueOf texts.Empty) ∷ []) ≡ true
+  unfolding all putOk classOk valueOk textOk valueBytes noLf isClassValue
   bare-class = refl
 
-  token-ok : {t : List ℕ} {i : Item} → Token t i → {at : ℕ} {rest : List ℕ} → Part w at t rest → noLf t ≡ true → every (putOk (one w)) (putsOf at i) ≡ true
-  unfolding putsOf every putOk noLf all
+  token-ok : {t : List ℕ} {i : Item} → Token t i → {at : ℕ} {rest : List ℕ} → Part w at t rest → noLf t ≡ true → all (putOk (one w)) (putsOf at i) ≡ true
+  unfolding putsOf all putOk noLf
   token-ok (Token.colon {t = t} h) {at} p f = rw (lang-ok (texts.Plain (at + 1) (at + 1 + length t)) (value-ok plain-kind (behind [] 58 t (omega arith) p (omega arith)) f))
   token-ok (Token.hash {n = n} h) {at} p f = rw (value-ok plain-kind {from = at + 1} (behind [] 35 n (omega arith) p (omega arith)) f)
   token-ok (Token.dot {n = n} h) {at} p f = rw (class-ok plain-kind {from = at + 1} (behind [] 46 n (omega arith) p (omega arith)) f (name-class n h))
@@ -179,22 +178,22 @@ module _ (w : List ℕ) where
   last-part m [] h p = rw append-nil at p
   last-part m {t = t} (b ∷ e) h p = before t b e (blank-low m b (both (isBlank m b) (all (isBlank m) e) h .0)) p
 
-  chain-ok : {m : Mode} {at : ℕ} {s : List ℕ} {is : List Placed} → Chain m at s is → {rest : List ℕ} → Part w at s rest → noLf s ≡ true → every (putOk (one w)) (putsIn is) ≡ true
-  unfolding noLf all putsIn every
+  chain-ok : {m : Mode} {at : ℕ} {s : List ℕ} {is : List Placed} → Chain m at s is → {rest : List ℕ} → Part w at s rest → noLf s ≡ true → all (putOk (one w)) (putsIn is) ≡ true
+  unfolding noLf all putsIn
   chain-ok {m} (Chain.blank {b = b} {s = s} h c) p f = chain-ok c (behind [] b s (blank-low m b h) p (omega arith)) (both (notLf b) (all notLf s) f .1)
   chain-ok {m} {at} (Chain.last {t = t} {e = e} {i = i} h b) p f =
-      every-append (putOk (one w)) (putsOf at i) [] (token-ok h (last-part m e (b .each) p) (all-parts notLf t e f .0)) refl
+      all-append (putOk (one w)) (putsOf at i) [] (token-ok h (last-part m e (b .each) p) (all-parts notLf t e f .0)) refl
   chain-ok {m} {at} (Chain.more {t = t} {s = s} {i = i} {is = is} b h q c) p f =
       let g = all-parts notLf t (b ∷ s) f in
-      every-append (putOk (one w)) (putsOf at i) (putsIn is) (token-ok h (before t b s (blank-low m b q) p) (g .0))
+      all-append (putOk (one w)) (putsOf at i) (putsIn is) (token-ok h (before t b s (blank-low m b q) p) (g .0))
       (chain-ok c (behind t b s (blank-low m b q) p refl) (both (notLf b) (all notLf s) (g .1) .1))
 
   -- the payload s stands in w at `at`
-  pub items-ok : {m : Mode} {at : ℕ} {s rest : List ℕ} {is : List Placed} → Payload m at s is → Part w at s rest → noLf s ≡ true → every (putOk (one w)) (putsIn is) ≡ true
+  pub items-ok : {m : Mode} {at : ℕ} {s rest : List ℕ} {is : List Placed} → Payload m at s is → Part w at s rest → noLf s ≡ true → all (putOk (one w)) (putsIn is) ≡ true
   items-ok h p f = chain-ok (payload-chain h) p f
 
   -- items one after the other
-  pub more-ok : (is js : List Placed) → every (putOk (one w)) (putsIn is) ≡ true → every (putOk (one w)) (putsIn js) ≡ true → every (putOk (one w)) (putsIn (is ++ js)) ≡ true
+  pub more-ok : (is js : List Placed) → all (putOk (one w)) (putsIn is) ≡ true → all (putOk (one w)) (putsIn js) ≡ true → all (putOk (one w)) (putsIn (is ++ js)) ≡ true
   unfolding putsIn
   more-ok [] js h k = k
-  more-ok (p ∷ is) js h k = let z = every-parts (putOk (one w)) (putsOf (p .at) (p .item)) (putsIn is) h in every-append (putOk (one w)) (putsOf (p .at) (p .item)) (putsIn (is ++ js)) (z .0) (more-ok is js (z .1) k)
+  more-ok (p ∷ is) js h k = let z = all-parts (putOk (one w)) (putsOf (p .at) (p .item)) (putsIn is) h in all-append (putOk (one w)) (putsOf (p .at) (p .item)) (putsIn (is ++ js)) (z .0) (more-ok is js (z .1) k)

@@ -5,8 +5,8 @@ use mathlib.Core.Bool.{Bool, true, false, cond}
 use mathlib.Core.List.{List, [], _∷_}
 use Prim.Native.Nat.{_≤_}
 use lib.ListN.{length}
-use Rattle.lists.proofs.Scan.{both}
-use Rattle.canon.specs.Canon.{every}
+use Rattle.lists.specs.Lists.{all}
+use Rattle.lists.proofs.Scan.{both, all-append}
 use Rattle.sets.specs.Types.{Texts, maxClasses, maxKeys}
 use Rattle.sets.specs.Rows.{Rows, Put, noRows, isNamed, putRow, withPut, withPuts, tableOf}
 use Rattle.sets.specs.Shape.{times, isAllowed, Shaped}
@@ -16,10 +16,10 @@ use Rattle.sets.specs.declared.Value.{Value}
 use Rattle.sets.proofs.Slots.{slots-fit}
 use Rattle.sets.proofs.Meant.{shaped-put}
 use Rattle.sets.proofs.Whole.{rows-table}
-use Rattle.wellformed.specs.WellFormed.{valueOk, classOk, keyOk, keysApart, keysOnce, slotsOk, rowsOk, tableOk}
+use Rattle.values.specs.Values.{valueOk, classOk, keyOk}
+use Rattle.wellformed.specs.WellFormed.{keysApart, keysOnce, slotsOk, rowsOk, tableOk}
 use Rattle.wellformed.proofs.Decide.{counts}
 use Rattle.wellformed.proofs.Shape.{Passed, rows-passed, passed-rows, Keyed, keyed, keyed-ok, rows-shaped, shaped-apart, shaped-slots}
-pub use Rattle.canon.proofs.Every.{every-append, every-parts}
 
 -- what may be put into a set
 unfoldable pub putOk : Texts → Put → Bool
@@ -28,13 +28,13 @@ putOk t (Put.class v) = classOk t v
 putOk t (Put.key n v) = keyOk t (record { name = n; value = v })
 
 module _ (t : Texts) where
-  keys-put : (n : Name) (v : Value) → keyOk t (record { name = n; value = v }) ≡ true → (rs : List Row) → every (keyOk t) rs ≡ true → every (keyOk t) (putRow t n v rs) ≡ true
-  unfolding every putRow
+  keys-put : (n : Name) (v : Value) → keyOk t (record { name = n; value = v }) ≡ true → (rs : List Row) → all (keyOk t) rs ≡ true → all (keyOk t) (putRow t n v rs) ≡ true
+  unfolding all putRow
   keys-put n v p [] h = rw p
-  keys-put n v p (r ∷ rs) h = let z = both (keyOk t r) (every (keyOk t) rs) h in go (isNamed t n r) (keyed (z .0)) (z .0) (z .1) (keys-put n v p rs (z .1))
+  keys-put n v p (r ∷ rs) h = let z = both (keyOk t r) (all (keyOk t) rs) h in go (isNamed t n r) (keyed (z .0)) (z .0) (z .1) (keys-put n v p rs (z .1))
     where
-      go : (b : Bool) → Keyed t r → keyOk t r ≡ true → every (keyOk t) rs ≡ true → every (keyOk t) (putRow t n v rs) ≡ true
-          → every (keyOk t) (cond b (record { name = r .name; value = v } ∷ rs) (r ∷ putRow t n v rs)) ≡ true
+      go : (b : Bool) → Keyed t r → keyOk t r ≡ true → all (keyOk t) rs ≡ true → all (keyOk t) (putRow t n v rs) ≡ true
+          → all (keyOk t) (cond b (record { name = r .name; value = v } ∷ rs) (r ∷ putRow t n v rs)) ≡ true
       go true k a rest ih = rw (keyed-ok {r = record { name = r .name; value = v }} (record { range = k .range; key = k .key; free = k .free; value = keyed p .value })) rest
       go false k a rest ih = rw a ih
 
@@ -47,23 +47,23 @@ module _ (t : Texts) where
 
   -- the rows of a put are shaped, so each has only to be looked at alone
   pub rows-put : (s : Rows) (p : Put) → rowsOk t s ≡ true → putOk t p ≡ true → rowsOk t (withPut t s p) ≡ true
-  unfolding putOk withPut every
+  unfolding putOk withPut all
   rows-put s p h k = passed-rows (go p (rows-passed t s h) k (shaped-put (rows-shaped h) p (allowed p k)))
     where
       go : (p : Put) → Passed t s → putOk t p ≡ true → Shaped t (withPut t s p) → Passed t (withPut t s p)
       go (Put.ident v) r k g = record { ident = k; classes = r .classes; keys = r .keys; apart = r .apart; slots = shaped-slots g }
-      go (Put.class v) r k g = record { ident = r .ident; classes = every-append (classOk t) (s .classes) (v ∷ []) (r .classes) (rw k); keys = r .keys; apart = r .apart; slots = shaped-slots g }
+      go (Put.class v) r k g = record { ident = r .ident; classes = all-append (classOk t) (s .classes) (v ∷ []) (r .classes) (rw k); keys = r .keys; apart = r .apart; slots = shaped-slots g }
       go (Put.key n v) r k g = record { ident = r .ident; classes = r .classes; keys = keys-put n v k (s .keys) (r .keys); apart = shaped-apart g; slots = shaped-slots g }
 
   -- the set with nothing in it
   pub rows-none : rowsOk t noRows ≡ true
-  unfolding rowsOk every keysApart slotsOk keysOnce times
+  unfolding rowsOk all keysApart slotsOk keysOnce times
   rows-none = refl
 
-  pub rows-puts : (s : Rows) (ps : List Put) → rowsOk t s ≡ true → every (putOk t) ps ≡ true → rowsOk t (withPuts t s ps) ≡ true
-  unfolding withPuts every
+  pub rows-puts : (s : Rows) (ps : List Put) → rowsOk t s ≡ true → all (putOk t) ps ≡ true → rowsOk t (withPuts t s ps) ≡ true
+  unfolding withPuts all
   rows-puts s [] h k = h
-  rows-puts s (p ∷ ps) h k = let z = both (putOk t p) (every (putOk t) ps) k in rows-puts (withPut t s p) ps (rows-put s p h (z .0)) (z .1)
+  rows-puts s (p ∷ ps) h k = let z = both (putOk t p) (all (putOk t) ps) k in rows-puts (withPut t s p) ps (rows-put s p h (z .0)) (z .1)
 
   -- ---- the table
   pub table-ok : (s : Rows) → rowsOk t s ≡ true → length (s .classes) ≤ maxClasses → length (s .keys) ≤ maxKeys → tableOk t (tableOf s) ≡ true

@@ -16,7 +16,7 @@ use Rattle.utf8.specs.Utf8.{isUtf8, isBoundary}
 use Rattle.utf8.proofs.Laws.{past-ascii}
 use Rattle.utf8.proofs.Boundaries.{parts, rest-boundary, before-ascii}
 use Rattle.sets.specs.Types.{one, rangeBytes}
-use Rattle.wellformed.specs.WellFormed.{rangeOk}
+use Rattle.values.specs.Values.{rangeOk}
 
 -- b stands in w at `from`, and `rest` behind it
 pub record Part (w : List ℕ) (from : ℕ) (b rest : List ℕ) : Type 0 where

@@ -8,6 +8,7 @@ use native.Mathlib.Numerals.{add-one}
 use native.Mathlib.Omega.{arith}
 use lib.ListN.{length, getD, drop, length-append}
 use lib.Seq.{slice}
+use Rattle.lists.specs.Lists.{all}
 use Rattle.lists.proofs.Parts.{slice-part}
 use Rattle.ascii.specs.declared.Mode.{Mode}
 use Rattle.utf8.specs.Utf8.{isUtf8, isBoundary}
@@ -18,7 +19,6 @@ use Rattle.grammar.specs.Close.{noLf, findClose}
 use Rattle.grammar.specs.declared.Place.the-variants.{At}
 use Rattle.grammar.proofs.Payload.{sound}
 use Rattle.grammar.proofs.Close.{found}
-use Rattle.canon.specs.Canon.{every}
 use Rattle.sets.specs.Types.{one}
 use Rattle.sets.specs.Rows.{noRows, withPuts}
 use Rattle.sets.specs.Puts.{putsIn}
@@ -29,11 +29,11 @@ use Rattle.wellformed.proofs.PutsItems.{items-ok}
 
 module _ (w : List ℕ) where
   -- a payload without LF that is read from a part of the text
-  pub read-ok : (m : Mode) {at : ℕ} {s rest : List ℕ} (is : List Placed) → Part w at s rest → noLf s ≡ true → readPayload m at s ≡ Reading.items is → every (putOk (one w)) (putsIn is) ≡ true
+  pub read-ok : (m : Mode) {at : ℕ} {s rest : List ℕ} (is : List Placed) → Part w at s rest → noLf s ≡ true → readPayload m at s ≡ Reading.items is → all (putOk (one w)) (putsIn is) ≡ true
   read-ok m {at} {s} is p f e = items-ok w (sound m at s is e) p f
 
   -- items whose puts are good, from one payload or several
-  pub good-rows : (is : List Placed) → every (putOk (one w)) (putsIn is) ≡ true → rowsOk (one w) (withPuts (one w) noRows (putsIn is)) ≡ true
+  pub good-rows : (is : List Placed) → all (putOk (one w)) (putsIn is) ≡ true → rowsOk (one w) (withPuts (one w) noRows (putsIn is)) ≡ true
   good-rows is h = rows-puts (one w) noRows (putsIn is) (rows-none (one w)) h
 
   -- ---- where a block stands

@@ -8,11 +8,10 @@ use native.Mathlib.Omega.{arith}
 use lib.Dec.{ltb}
 use lib.ListN.{length, getD}
 use borrow.Author.Tests.{ltb-true, ltb-false, eqb-true, eq-eqb}
-use Rattle.lists.specs.Lists.{same}
+use Rattle.lists.specs.Lists.{same, all}
 use Rattle.lists.proofs.Scan.{both}
 use Rattle.lists.proofs.More.{contra, same-sym}
 use Rattle.names.specs.Names.{isKey}
-use Rattle.canon.specs.Canon.{every}
 use Rattle.sets.specs.Types.{Texts, nameBytes, zeroRow}
 use Rattle.sets.specs.Rows.{Rows, rowsIn}
 use Rattle.sets.specs.Shape.{times, isSlot, isPresent, nameAt, isFree, Shaped}
@@ -21,26 +20,27 @@ use Rattle.sets.specs.declared.Row.{Row}
 use Rattle.sets.specs.declared.Slot.{Slot}
 use Rattle.sets.specs.declared.Slot.the-variants.{Id, Class, Key}
 use Rattle.sets.proofs.Slots.{slot-same, times-le, times-head}
-use Rattle.wellformed.specs.WellFormed.{countsOk, nameOk, valueOk, identOk, classOk, keyOk, keysApart, isOnce, keysOnce, slotsOk, rowsOk, tableOk}
+use Rattle.wellformed.specs.WellFormed.{countsOk, keysApart, isOnce, keysOnce, slotsOk, rowsOk, tableOk}
+use Rattle.values.specs.Values.{nameOk, valueOk, identOk, classOk, keyOk}
 use Rattle.wellformed.proofs.Decide.{apart-differ, differ-apart}
 
 -- ---- every, at a place
 module _ {A : Type 0} (f : A → Bool) (d : A) where
-  pub every-at : (xs : List A) → every f xs ≡ true → (k : ℕ) → k < length xs → f (getD xs k d) ≡ true
-  unfolding every
-  every-at [] e k h = absurd (omega arith)
-  every-at (x ∷ xs) e zero h = both (f x) (every f xs) e .0
-  every-at (x ∷ xs) e (suc k) h = every-at xs (both (f x) (every f xs) e .1) k (omega arith)
+  pub all-at : (xs : List A) → all f xs ≡ true → (k : ℕ) → k < length xs → f (getD xs k d) ≡ true
+  unfolding all
+  all-at [] e k h = absurd (omega arith)
+  all-at (x ∷ xs) e zero h = both (f x) (all f xs) e .0
+  all-at (x ∷ xs) e (suc k) h = all-at xs (both (f x) (all f xs) e .1) k (omega arith)
 
 -- ---- every slot stands once where it is there, and never where it isn't
 module _ (s : Rows) where
-  never : (f : Slot → Bool) (x : Slot) → f x ≡ false → (o : List Slot) → every f o ≡ true → times x o ≡ 0
-  unfolding every times
+  never : (f : Slot → Bool) (x : Slot) → f x ≡ false → (o : List Slot) → all f o ≡ true → times x o ≡ 0
+  unfolding all times
   never f x e [] h = refl
-  never f x e (y ∷ o) h = go (isSlot x y) refl (never f x e o (both (f y) (every f o) h .1))
+  never f x e (y ∷ o) h = go (isSlot x y) refl (never f x e o (both (f y) (all f o) h .1))
     where
       go : (b : Bool) → isSlot x y ≡ b → times x o ≡ 0 → cond b (suc (times x o)) (times x o) ≡ 0
-      go true q ih = contra (f y) (both (f y) (every f o) h .0) (rw (slot-same x y q) at e)
+      go true q ih = contra (f y) (both (f y) (all f o) h .0) (rw (slot-same x y q) at e)
       go false q ih = ih
 
   keys-once : (n : ℕ) → keysOnce s n ≡ true → (k : ℕ) → k < n → isOnce s (Key k) ≡ true
@@ -57,15 +57,15 @@ module _ (s : Rows) where
   once-keys h zero = refl
   once-keys h (suc n) = rw (h (Key n)) (once-keys h n)
 
-  pub slots-named : slotsOk s ≡ true → every (isPresent s) (s .order) ≡ true
+  pub slots-named : slotsOk s ≡ true → all (isPresent s) (s .order) ≡ true
   unfolding slotsOk
-  slots-named e = both (every (isPresent s) (s .order)) (isOnce s Id && (isOnce s Class && keysOnce s (length (s .keys)))) e .0
+  slots-named e = both (all (isPresent s) (s .order)) (isOnce s Id && (isOnce s Class && keysOnce s (length (s .keys)))) e .0
 
   pub slots-once : slotsOk s ≡ true → (x : Slot) → times x (s .order) ≡ cond (isPresent s x) 1 0
   unfolding slotsOk
   slots-once e = once
     where
-      named : (every (isPresent s) (s .order) ≡ true) × ((isOnce s Id && (isOnce s Class && keysOnce s (length (s .keys)))) ≡ true)
+      named : (all (isPresent s) (s .order) ≡ true) × ((isOnce s Id && (isOnce s Class && keysOnce s (length (s .keys)))) ≡ true)
       named = both _ _ e
 
       ids : (isOnce s Id ≡ true) × ((isOnce s Class && keysOnce s (length (s .keys))) ≡ true)
@@ -83,8 +83,8 @@ module _ (s : Rows) where
       once Class = eqb-true _ _ (classes .0)
       once (Key k) = key k (ltb k (length (s .keys))) refl
 
-  there : (f : Slot → Bool) (o : List Slot) → ((y : Slot) → 0 < times y o → f y ≡ true) → every f o ≡ true
-  unfolding every
+  there : (f : Slot → Bool) (o : List Slot) → ((y : Slot) → 0 < times y o → f y ≡ true) → all f o ≡ true
+  unfolding all
   there f [] h = refl
   there f (y ∷ o) h = rw (h y (omega (arith, times-head y o))) (there f o (λ z i. h z (omega (arith, times-le z y o))))
 
@@ -102,17 +102,17 @@ module _ (s : Rows) where
 -- ---- the tests of the rows, one by one
 pub record Passed (t : Texts) (s : Rows) : Type 0 where
   pub ident : identOk t (s .ident) ≡ true
-  pub classes : every (classOk t) (s .classes) ≡ true
-  pub keys : every (keyOk t) (s .keys) ≡ true
+  pub classes : all (classOk t) (s .classes) ≡ true
+  pub keys : all (keyOk t) (s .keys) ≡ true
   pub apart : keysApart t (s .keys) ≡ true
   pub slots : slotsOk s ≡ true
 
 pub rows-passed : (t : Texts) (s : Rows) → rowsOk t s ≡ true → Passed t s
 unfolding rowsOk
 rows-passed t s e =
-    let a = both (identOk t (s .ident)) (every (classOk t) (s .classes) && (every (keyOk t) (s .keys) && (keysApart t (s .keys) && slotsOk s))) e in
-    let b = both (every (classOk t) (s .classes)) (every (keyOk t) (s .keys) && (keysApart t (s .keys) && slotsOk s)) (a .1) in
-    let c = both (every (keyOk t) (s .keys)) (keysApart t (s .keys) && slotsOk s) (b .1) in
+    let a = both (identOk t (s .ident)) (all (classOk t) (s .classes) && (all (keyOk t) (s .keys) && (keysApart t (s .keys) && slotsOk s))) e in
+    let b = both (all (classOk t) (s .classes)) (all (keyOk t) (s .keys) && (keysApart t (s .keys) && slotsOk s)) (a .1) in
+    let c = both (all (keyOk t) (s .keys)) (keysApart t (s .keys) && slotsOk s) (b .1) in
     let d = both (keysApart t (s .keys)) (slotsOk s) (c .1) in
     record { ident = a .0; classes = b .0; keys = c .0; apart = d .0; slots = d .1 }
 
@@ -147,7 +147,7 @@ module _ {t : Texts} {s : Rows} where
   passed-shaped p =
       record {
         once = slots-once s (p .slots);
-        free = λ k h. keyed (every-at (keyOk t) zeroRow (s .keys) (p .keys) k h) .free;
+        free = λ k h. keyed (all-at (keyOk t) zeroRow (s .keys) (p .keys) k h) .free;
         apart = λ j k i l e. go j k i l e (ltb j k) refl (ltb k j) refl;
       }
     where

@@ -4,7 +4,7 @@ use Prim.Native.Nat.{ℕ, zero, suc}
 use mathlib.Core.Bool.{Bool, true, cond, _&&_}
 use mathlib.Core.List.{List}
 use lib.Dec.{eqb, ltb}
-use Rattle.canon.specs.Canon.{every}
+use Rattle.lists.specs.Lists.{all}
 use Rattle.sets.specs.Shape.{times}
 use Rattle.sets.specs.declared.Slot.{Slot}
 use Rattle.sets.specs.declared.Slot.the-variants.{Id, Class, Key}
@@ -21,4 +21,4 @@ keysIn o zero = true
 keysIn o (suc k) = eqb (times (Key k) o) 1 && keysIn o k
 
 unfoldable pub slotsIn : List Slot → Bool → Bool → ℕ → Bool
-slotsIn o id class n = every (presentBy id class n) o && (eqb (times Id o) (cond id 1 0) && (eqb (times Class o) (cond class 1 0) && keysIn o n))
+slotsIn o id class n = all (presentBy id class n) o && (eqb (times Id o) (cond id 1 0) && (eqb (times Class o) (cond class 1 0) && keysIn o n))

@@ -6,6 +6,7 @@ use mathlib.Core.List.{List, [], _∷_}
 use Prim.Native.Nat.{ℕ, _<_}
 use native.Mathlib.Omega.{arith}
 use lib.ListN.{length}
+use Rattle.lists.specs.Lists.{isSome}
 use Rattle.refusals.specs.declared.Refusal.{Refusal}
 use Rattle.refusals.specs.declared.Refusal.the-variants.{NotWellFormed, EmptySet}
 use Rattle.checks.specs.Check.{checkOf}
@@ -13,7 +14,7 @@ use Rattle.checks.specs.declared.Check.{Check}
 use Rattle.checks.specs.declared.Check.the-variants as checks
 use Rattle.canon.specs.Canon.{canon}
 use Rattle.sets.specs.Types.{one, maxSlots}
-use Rattle.sets.specs.Rows.{isSome, meaningOf}
+use Rattle.sets.specs.Rows.{meaningOf}
 use Rattle.sets.specs.declared.Attrs.{Attrs}
 use Rattle.wellformed.specs.WellFormed.{tableOk}
 use Rattle.wellformed.proofs.Means.{none-means}

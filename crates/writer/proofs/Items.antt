@@ -15,10 +15,11 @@ use Rattle.grammar.specs.Meaning.{Entry}
 use Rattle.canon.specs.Canon.{Pair, escape, pairText, moreText, pairsText, pairs, canon}
 use Rattle.refusals.specs.Numbers.{maxText}
 use Rattle.writer.proofs.Fills.{sets-append}
-use Rattle.writer.proofs.Values.{escape-short, bytes-short, raw-value}
+use Rattle.marks.proofs.Values.{escape-short, bytes-short, raw-value}
 use Rattle.sets.specs.Types.{Texts, valueBytes}
 use Rattle.sets.specs.declared.Value.{Value}
-use Rattle.writer.specs.Steps.{maxItem, put, wroteTo, bytesIn, rawBytes, isQuoted, leadOf, itemText, itemsText, closing}
+use Rattle.writer.specs.Steps.{maxItem, put, wroteTo, leadOf, itemText, itemsText, closing}
+use Rattle.marks.specs.Marks.{bytesIn, rawBytes, isQuoted}
 
 more-append : (ps qs : List Pair) → moreText (ps ++ qs) ≡ moreText ps ++ moreText qs
 unfolding moreText

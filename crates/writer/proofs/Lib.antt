@@ -1,6 +1,6 @@
 -- What callers of writer cite beyond the contracts.
 pub mod Fills
-pub mod Values
+pub mod Writes
 pub mod Items
 pub mod Walks
 pub mod Room

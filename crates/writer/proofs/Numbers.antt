@@ -6,6 +6,7 @@ use mathlib.Core.List.{List}
 use Prim.Native.Nat.{ℕ}
 use lib.Dec.{ltb}
 use lib.ListN.{length}
+use Rattle.lists.specs.Lists.{isSome}
 use Rattle.utf8.specs.Utf8.{isUtf8}
 use Rattle.refusals.specs.Numbers.{numberOf}
 use Rattle.refusals.specs.declared.Refusal.the-variants.{TextTooLong, NotUtf8, CanonTooLong, NotWellFormed, EmptySet}
@@ -13,7 +14,7 @@ use Rattle.checks.specs.Check.{checkOf}
 use Rattle.checks.specs.declared.Check.the-variants as checks
 use Rattle.canon.specs.Canon.{canon}
 use Rattle.sets.specs.Types.{one}
-use Rattle.sets.specs.Rows.{isSome, meaningOf}
+use Rattle.sets.specs.Rows.{meaningOf}
 use Rattle.sets.specs.declared.Attrs.{Attrs}
 use Rattle.wellformed.specs.WellFormed.{tableOk}
 use Rattle.writer.specs.declared.Wrote.the-variants.{Refused, Bytes}

@@ -1,57 +1,20 @@
 -- The canonical text part by part, as the code's own functions promise it. No definition of a public promise rests on these.
-use Prim.Native.Nat.{ℕ, _+_}
-use mathlib.Core.Bool.{Bool, true, false, cond}
+use Prim.Native.Nat.{ℕ}
+use mathlib.Core.Bool.{Bool, cond}
 use mathlib.Core.List.{List, [], _∷_, map}
 use lib.Dec.{eqb, leb}
-use lib.ListN.{length, getD, take}
+use lib.ListN.{take}
 use lib.Seq.{sets}
-use Rattle.lists.specs.Lists.{isIn}
 use Rattle.refusals.specs.declared.Refusal.the-variants.{CanonTooLong}
-use Rattle.escapes.specs.Unescape.{unescape, pieceAt}
-use Rattle.escapes.specs.declared.Piece.{Piece}
-use Rattle.escapes.specs.declared.Piece.the-variants.{End, Byte}
 use Rattle.grammar.specs.Meaning.{idName, className}
 use Rattle.canon.specs.Canon.{Pair, pairText, pairsText, pairsOf}
-use Rattle.sets.specs.Types.{Texts, rangeBytes, nameBytes, valueBytes}
+use Rattle.sets.specs.Types.{Texts, nameBytes, valueBytes}
 use Rattle.sets.specs.Rows.{idValues}
 use Rattle.sets.specs.declared.Value.{Value}
 use Rattle.sets.specs.declared.Row.{Row}
 use Rattle.sets.specs.declared.Ident.{Ident}
-use Rattle.sets.specs.declared.Text as texts
-use Rattle.sets.specs.declared.Text.the-variants as text
 use Rattle.writer.specs.declared.Wrote.{Wrote}
 use Rattle.writer.specs.declared.Wrote.the-variants.{Refused, Bytes}
-
--- ---- a value
-
--- the raw text of a value, and whether it is to be unescaped
-abbrev pub rawText : Texts → texts.Text → List ℕ
-rawText t (text.Plain from to) = rangeBytes t from to
-rawText t (text.Quoted from to) = rangeBytes t from to
-rawText t text.Empty = []
-
-unfoldable pub rawBytes : Texts → Value → List ℕ
-rawBytes t v = rawText t (v .text)
-
-abbrev pub isQuotedText : texts.Text → Bool
-isQuotedText (text.Plain from to) = false
-isQuotedText (text.Quoted from to) = true
-isQuotedText text.Empty = false
-
-unfoldable pub isQuoted : Value → Bool
-isQuoted v = isQuotedText (v .text)
-
--- what a raw text stands for
-abbrev pub bytesIn : Bool → List ℕ → List ℕ
-bytesIn quoted s = cond quoted (unescape s) s
-
--- its byte at i, and where the next one stands
-unfoldable pub pieceIn : Bool → List ℕ → ℕ → Piece
-pieceIn quoted s i = cond quoted (pieceAt s i) (cond (leb (length s) i) End (Byte (getD s i 0) (i + 1)))
-
--- a byte with its backslash
-unfoldable pub marked : ℕ → List ℕ
-marked b = cond (isIn (34 ∷ 92 ∷ []) b) (92 ∷ (b ∷ [])) (b ∷ [])
 
 -- ---- an item
 

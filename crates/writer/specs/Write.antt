@@ -4,6 +4,7 @@ use mathlib.Core.Bool.{Bool, true, false, cond, _&&_}
 use mathlib.Core.List.{List, _++_}
 use lib.Dec.{leb}
 use lib.ListN.{length, drop}
+use Rattle.lists.specs.Lists.{isSome}
 use Rattle.refusals.specs.Numbers.{maxText, numberOf}
 use Rattle.refusals.specs.declared.Refusal.{Refusal}
 use Rattle.refusals.specs.declared.Refusal.the-variants.{CanonTooLong, NotWellFormed, EmptySet}
@@ -12,7 +13,7 @@ use Rattle.checks.specs.declared.Check.{Check}
 use Rattle.checks.specs.declared.Check.the-variants as checks
 use Rattle.canon.specs.Canon.{canon}
 use Rattle.sets.specs.Types.{one}
-use Rattle.sets.specs.Rows.{isSome, meaningOf}
+use Rattle.sets.specs.Rows.{meaningOf}
 use Rattle.sets.specs.declared.Attrs.{Attrs}
 use Rattle.wellformed.specs.WellFormed.{tableOk}
 use Rattle.writer.specs.declared.Wrote.{Wrote}

@@ -12,17 +12,16 @@ use sets::Text;
 use sets::Value;
 ghost use mathlib.Core.Path.{_≡_};
 ghost use mathlib.Core.Bool.{true};
-ghost use mathlib.Core.List.{[], _∷_};
 ghost use Prim.Native.Nat.{_+_, _≤_, min};
 ghost use lib.ListN.{length};
 ghost use lib.Seq.{sets};
-ghost use Rattle.lists.specs.Lists.{isIn};
 ghost use Rattle.refusals.specs.Numbers.{maxText};
 ghost use Rattle.canon.specs.Canon.{escape, canon};
 ghost use Rattle.sets.specs.Types.{one, valueBytes, zeroRow};
 ghost use Rattle.sets.specs.Rows.{meaningOf};
 ghost use Rattle.writer.specs.Write.{wroteOf, contentAfter, attrsWrote, attrsContent};
-ghost use Rattle.writer.specs.Steps.{bytesIn, pieceIn, marked, leadOf, itemText, itemsText, closing, put, wroteTo, rawBytes, isQuoted, maxItem, maxItems, idPairs, keyPairs, classPairs};
+ghost use Rattle.marks.specs.Marks.{bytesIn, marked};
+ghost use Rattle.writer.specs.Steps.{leadOf, itemText, itemsText, closing, put, wroteTo, maxItem, maxItems, idPairs, keyPairs, classPairs};
 
 // How many bytes were written, or why none were.
 pub enum Wrote {
@@ -40,70 +39,19 @@ fn least(a: usize, b: usize) -> usize
     b
 }
 
-// Whether a byte takes a backslash.
-fn is_marked(b: u8) -> bool
-    ensures { λ r. ⌜ r ≡ isIn (34 ∷ 92 ∷ []) b ⌝ }
-{
-    match b {
-        b'"' | b'\\' => true,
-        _ => false,
-    }
-}
-
-// How many bytes a byte takes with its backslash.
-fn marked_len(b: u8) -> usize
-    ensures { λ r. ⌜ r ≡ length (marked b) ⌝ }
-{
-    if is_marked(b) {
-        return 2;
-    }
-    1
-}
-
 // Writes a byte with its backslash.
 fn put_marked(out: &mut [u8], at: usize, b: u8) -> usize
     requires { ⌜ at + length (marked b) ≤ length (now out) ⌝ }
     ensures { λ r. ⌜ r ≡ at + length (marked b) ⌝ }
     ensures { λ r. ⌜ now (out .exit) ≡ sets (now (out .entry)) at (marked b) ⌝ }
 {
-    if is_marked(b) {
+    if marks::is_marked(b) {
         out[at] = b'\\';
         out[at + 1] = b;
         return at + 2;
     }
     out[at] = b;
     at + 1
-}
-
-// The byte of a value at i of its raw text, and where the next one stands: a quoted value is unescaped.
-fn value_piece(s: &[u8], i: usize, quoted: bool) -> Piece
-    ensures { λ r. ⌜ r ≡ pieceIn quoted (now (s .entry)) i ⌝ }
-{
-    if quoted {
-        return escapes::piece_at(s, i);
-    }
-    if s.len() <= i {
-        return Piece::End;
-    }
-    Piece::Byte(s[i], i + 1)
-}
-
-// How many bytes a value takes with its backslashes.
-fn escaped_len(s: &[u8], quoted: bool) -> usize
-    ensures { λ r. ⌜ r ≡ length (escape (bytesIn quoted (now (s .entry)))) ⌝ }
-{
-    let mut n: usize = 0;
-    let mut i = 0;
-    'pieces: loop {
-        match value_piece(s, i, quoted) {
-            Piece::End => break 'pieces n,
-            Piece::Byte(b, next) => {
-                n += marked_len(b);
-                i = next;
-                continue 'pieces;
-            }
-        }
-    }
 }
 
 // Writes a value with its backslashes.
@@ -115,7 +63,7 @@ fn put_escaped(out: &mut [u8], at: usize, s: &[u8], quoted: bool) -> usize
     let mut k = at;
     let mut i = 0;
     'pieces: loop {
-        match value_piece(s, i, quoted) {
+        match marks::value_piece(s, i, quoted) {
             Piece::End => break 'pieces k,
             Piece::Byte(b, next) => {
                 k = put_marked(out, k, b);
@@ -140,30 +88,6 @@ fn put_bytes(out: &mut [u8], at: usize, s: &[u8]) -> usize
         i += 1;
     }
     k
-}
-
-// The raw bytes of a value.
-fn raw_bytes(text: &[u8], value: Value) -> &[u8]
-    ensures { λ r. ⌜ (now r ≡ rawBytes (one (now (text .entry))) value) × (length (now r) ≤ maxText) ⌝ }
-{
-    let v = value.text;
-    match v {
-        Text::Plain(f, t) => sets::bytes_of(text, f as usize, t as usize),
-        Text::Quoted(f, t) => sets::bytes_of(text, f as usize, t as usize),
-        Text::Empty => &text[0..0],
-    }
-}
-
-// Whether a value is to be unescaped.
-fn is_quoted(value: Value) -> bool
-    ensures { λ r. ⌜ r ≡ isQuoted value ⌝ }
-{
-    let v = value.text;
-    match v {
-        Text::Plain(_, _) => false,
-        Text::Quoted(_, _) => true,
-        Text::Empty => false,
-    }
 }
 
 // The byte before an item: a brace before the first, else a space.
@@ -198,12 +122,12 @@ fn item(out: &mut [u8], at: usize, name: &[u8], text: &[u8], value: Value, reall
     ensures { λ r. ⌜ (r ≡ at + length (itemText at (now (name .entry)) (valueBytes (one (now (text .entry))) value))) × (r ≤ at + maxItem) ⌝ }
     ensures { λ r. ⌜ now (out .exit) ≡ put really (now (out .entry)) at (itemText at (now (name .entry)) (valueBytes (one (now (text .entry))) value)) ⌝ }
 {
-    let s = raw_bytes(text, value);
-    let quoted = is_quoted(value);
+    let s = marks::raw_bytes(text, value);
+    let quoted = marks::is_quoted(value);
     if really {
         return put_item(out, at, name, s, quoted);
     }
-    at + name.len() + escaped_len(s, quoted) + 4
+    at + name.len() + marks::escaped_len(s, quoted) + 4
 }
 
 // The id's item, where there is an id.

@@ -2,6 +2,7 @@ use mathlib.Core.Path.{sym, _∙_, ap}
 use borrow.Author.Tests.{not-true, not-false}
 use Rattle.blocks.specs.Blocks.{unlessLine}
 use Rattle.blocks.proofs.Finds as laws
+use Rattle.blocks.proofs.Wraps as wraps
 use borrow.Author.Needs.{needs}
 use Rattle.blocks.proofs.wrapped_only.Statement.{statement}
 use Rattle.blocks.proofs.wrapped_only.Tie as tie
@@ -43,7 +44,7 @@ same-length : tie.Need-same-length
 same-length c = search needs
 
 returns-4 : tie.Need-returns-4
-returns-4 c = laws.measured-by _ _ _ (ap unlessLine (laws.found-run _ _ _ _ (c .before .before .before .before .before .before .before .before .before .before .trimmed-line .ensures) (sym (c .before .before .before .before .before .before .before .before .before .opens .ensures) ∙ not-false _ (c .before .before .before .before .before .before .before .before .if1 .left)) (sym (c .before .before .before .before .before .before .before .good-line .ensures) ∙ (c .before .before .before .before .before .before .if2 .left)) (sym (c .before .before .before .before .before .closes .ensures) ∙ (c .before .before .before .before .if3 .left))) ∙ laws.run-stays _ _ _ _) (c .before .before .measure-run .ensures .0) (c .before .before .measure-run .ensures .1)
+returns-4 c = laws.measured-by _ _ _ (ap unlessLine (laws.found-run _ _ _ _ (c .before .before .before .before .before .before .before .before .before .before .trimmed-line .ensures) (sym (c .before .before .before .before .before .before .before .before .before .opens .ensures) ∙ not-false _ (c .before .before .before .before .before .before .before .before .if1 .left)) (sym (c .before .before .before .before .before .before .before .good-line .ensures) ∙ (c .before .before .before .before .before .before .if2 .left)) (sym (c .before .before .before .before .before .closes .ensures) ∙ (c .before .before .before .before .if3 .left))) ∙ wraps.run-stays _ _ _ _ (sym (c .before .before .before .before .before .closes .ensures) ∙ (c .before .before .before .before .if3 .left))) (c .before .before .measure-run .ensures .0) (c .before .before .measure-run .ensures .1)
 
 pub wrapped-only-spec : {M : Type 1} → statement M
 wrapped-only-spec =

@@ -17,13 +17,13 @@ trim-ascii-requires : tie.Need-trim-ascii-requires
 trim-ascii-requires c κs = search needs
 
 sub-continues-run : tie.Need-sub-continues-run
-sub-continues-run c = omega (arith, laws.ordered (c .before .before .before .before .args .s .now) (c .trim-ascii .ensures))
+sub-continues-run c = omega (arith, laws.core-from (c .before .before .before .before .args .s .now) (c .trim-ascii .ensures))
 
 part-continues-run-start : tie.Need-part-continues-run-start
-part-continues-run-start c = omega (arith, laws.ordered (c .before .before .before .before .args .s .now) (c .trim-ascii .ensures))
+part-continues-run-start c = omega (arith, laws.core-from (c .before .before .before .before .args .s .now) (c .trim-ascii .ensures))
 
 part-continues-run-end : tie.Need-part-continues-run-end
-part-continues-run-end c = omega (arith, laws.inside (c .before .before .before .before .args .s .now) (c .trim-ascii .ensures))
+part-continues-run-end c = omega (arith, laws.core-to (c .before .before .before .before .args .s .now) (c .trim-ascii .ensures))
 
 continues-run-requires : tie.Need-continues-run-requires
 continues-run-requires c κs = search needs

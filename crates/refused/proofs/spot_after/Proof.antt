@@ -1,7 +1,7 @@
 use mathlib.Core.Path.{_∙_}
 use native.Mathlib.Omega.{arith}
 use Rattle.columns.proofs.Laws.{capped-id}
-use Rattle.refused.specs.Refused.{spotAfter}
+use Rattle.spots.specs.Spots.{spotAfter}
 use Rattle.refused.proofs.Leaves.{behind-le}
 use borrow.Author.Needs.{needs}
 use Rattle.refused.proofs.spot_after.Statement.{statement}

@@ -1,6 +1,6 @@
 use mathlib.Core.Path.{sym, _∙_}
 use borrow.Author.Tests.{eq-eqb, ne-eqb}
-use Rattle.scanners.specs.Scanners.{turned}
+use Rattle.grammar.specs.Close.{turned}
 use borrow.Author.Needs.{needs}
 use Rattle.scanners.proofs.turn.Statement.{statement}
 use Rattle.scanners.proofs.turn.Tie as tie

@@ -4,7 +4,7 @@ use native.Mathlib.Omega.{arith}
 use borrow.Author.Tests.{not-true, not-false}
 use borrow.Author.Needs.{needs}
 use lib.ListN.{take}
-use Rattle.canon.specs.Canon.{every}
+use Rattle.lists.specs.Lists.{all}
 use Rattle.sets.specs.Types.{zeroSlot}
 use Rattle.sets.specs.Rows.{slotIn}
 use Rattle.wellformed.specs.Decide.{presentBy}
@@ -13,7 +13,7 @@ use Rattle.wellformed.proofs.all_there.Statement.{statement}
 use Rattle.wellformed.proofs.all_there.Tie as tie
 
 abbrev Inv-loop : tie.InvT-loop
-Inv-loop n id class keys order k₀ k = laws.Each (λ p. presentBy id class keys (slotIn p)) order n (every (λ p. presentBy id class keys (slotIn p)) (take n order)) k
+Inv-loop n id class keys order k₀ k = laws.Each (λ p. presentBy id class keys (slotIn p)) order n (all (λ p. presentBy id class keys (slotIn p)) (take n order)) k
 
 abbrev μ-loop : tie.MeasureT-loop
 μ-loop n id class keys order k₀ k = n - k
@@ -31,7 +31,7 @@ is-there-requires : tie.Need-is-there-requires Inv-loop μ-loop
 is-there-requires c κs = search needs
 
 returns : tie.Need-returns Inv-loop μ-loop
-returns c = rw laws.every-map (laws.each-stop (c .before .before .before .before .loop .inv) zeroSlot (omega arith) (sym (c .before .is-there .ensures) ∙ not-true _ (c .if1 .taken)))
+returns c = rw laws.all-map (laws.each-stop (c .before .before .before .before .loop .inv) zeroSlot (omega arith) (sym (c .before .is-there .ensures) ∙ not-true _ (c .if1 .taken)))
 
 add-k : tie.Need-add-k Inv-loop μ-loop
 add-k c = omega arith
@@ -43,7 +43,7 @@ loop-again : tie.Need-loop-again Inv-loop μ-loop
 loop-again c = laws.each-go (c .before .before .before .before .loop .inv) zeroSlot (omega arith) (sym (c .before .is-there .ensures) ∙ not-false _ (c .if1 .left))
 
 returns-2 : tie.Need-returns-2 Inv-loop μ-loop
-returns-2 c = rw laws.every-map (laws.each-end (c .before .loop .inv) (omega arith))
+returns-2 c = rw laws.all-map (laws.each-end (c .before .loop .inv) (omega arith))
 
 pub all-there-spec : {M : Type 1} → statement M
 all-there-spec =

@@ -4,15 +4,15 @@ use native.Mathlib.Omega.{arith}
 use borrow.Author.Tests.{not-true, not-false}
 use borrow.Author.Needs.{needs}
 use lib.ListN.{take}
-use Rattle.canon.specs.Canon.{every}
+use Rattle.lists.specs.Lists.{all}
 use Rattle.sets.specs.Types.{one, zeroValue}
-use Rattle.wellformed.specs.WellFormed.{classOk}
+use Rattle.values.specs.Values.{classOk}
 use Rattle.wellformed.proofs.Decide as laws
 use Rattle.wellformed.proofs.classes_ok.Statement.{statement}
 use Rattle.wellformed.proofs.classes_ok.Tie as tie
 
 abbrev Inv-loop : tie.InvT-loop
-Inv-loop text n classes k₀ k = laws.Each (classOk (one text)) classes n (every (classOk (one text)) (take n classes)) k
+Inv-loop text n classes k₀ k = laws.Each (classOk (one text)) classes n (all (classOk (one text)) (take n classes)) k
 
 abbrev μ-loop : tie.MeasureT-loop
 μ-loop text n classes k₀ k = n - k

@@ -4,15 +4,15 @@ use native.Mathlib.Omega.{arith}
 use borrow.Author.Tests.{not-true, not-false}
 use borrow.Author.Needs.{needs}
 use lib.ListN.{take}
-use Rattle.canon.specs.Canon.{every}
+use Rattle.lists.specs.Lists.{all}
 use Rattle.sets.specs.Types.{one, zeroRow}
-use Rattle.wellformed.specs.WellFormed.{keyOk}
+use Rattle.values.specs.Values.{keyOk}
 use Rattle.wellformed.proofs.Decide as laws
 use Rattle.wellformed.proofs.keys_ok.Statement.{statement}
 use Rattle.wellformed.proofs.keys_ok.Tie as tie
 
 abbrev Inv-loop : tie.InvT-loop
-Inv-loop text n keys k₀ k = laws.Each (keyOk (one text)) keys n (every (keyOk (one text)) (take n keys)) k
+Inv-loop text n keys k₀ k = laws.Each (keyOk (one text)) keys n (all (keyOk (one text)) (take n keys)) k
 
 abbrev μ-loop : tie.MeasureT-loop
 μ-loop text n keys k₀ k = n - k

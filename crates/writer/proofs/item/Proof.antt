@@ -1,6 +1,5 @@
 use Rattle.sets.specs.Types.{one, valueBytes}
 use native.Mathlib.Omega.{arith}
-use Rattle.sets.specs.Types.{one}
 use Rattle.writer.proofs.Items as items
 use borrow.Author.Needs.{needs}
 use Rattle.writer.proofs.item.Statement.{statement}

@@ -2,7 +2,7 @@ use mathlib.Core.List.{[], _∷_}
 use native.Mathlib.Omega.{arith}
 use Rattle.grammar.specs.Meaning.{langName}
 use Rattle.sets.specs.Types.{one, valueBytes}
-use Rattle.writer.proofs.Values as values
+use Rattle.marks.proofs.Values as values
 use Rattle.writer.proofs.Walks as walks
 use borrow.Author.Needs.{needs}
 use Rattle.writer.proofs.key_item.Statement.{statement}

@@ -1,5 +1,5 @@
 use native.Mathlib.Omega.{arith}
-use Rattle.writer.specs.Steps.{bytesIn}
+use Rattle.marks.specs.Marks.{bytesIn}
 use lib.ListN.{length-set}
 use Rattle.writer.proofs.Items as items
 use borrow.Author.Needs.{needs}

@@ -2,7 +2,7 @@ use lib.ListN.{length-set}
 use mathlib.Core.Path.{refl, sym, _∙_}
 use native.Mathlib.Omega.{arith}
 use native.Mathlib.Numerals.{add-one}
-use Rattle.writer.proofs.Values as values
+use Rattle.marks.proofs.Values as values
 use borrow.Author.Needs.{needs}
 use Rattle.writer.proofs.put_marked.Statement.{statement}
 use Rattle.writer.proofs.put_marked.Tie as tie

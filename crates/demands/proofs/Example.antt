@@ -1,0 +1,62 @@
+-- The example of document 01's 'The sheet program', computed.
+-- Assumes nothing.
+use mathlib.Core.Path.{_≡_, refl}
+use mathlib.Core.List.{List, [], _∷_}
+use Prim.Native.Nat.{ℕ}
+use Rattle.lists.specs.Lists.{isIn, all, headed, run, same}
+use Rattle.ascii.specs.Bytes.{isBlank, isPlain, isQuote, within, isLetter, isDigit, isAlnum, isNamePart, isKeyStart, isNameStart, isSpace, isPunct, isTail, isIndent}
+use Rattle.utf8.specs.Utf8.{leadOf, afterOf, octetsFrom, isUtf8}
+use Rattle.refusals.specs.Numbers.{numberOf}
+use Rattle.checks.specs.Check.{checkOf}
+use Rattle.names.specs.Names.{isKey, isBareName, isName}
+use Rattle.names.specs.Tags.{isSize, tagFrom, isTag, isLanguage}
+use Rattle.escapes.specs.Unescape.{unescapeFrom, unescape}
+use Rattle.lines.specs.Lines.{lines, eol, lineFrom, rangesFrom, ranges}
+use Rattle.lines.specs.Trim.{trimEnd, trimStart, trim, trimRange, isBlankLine}
+use Rattle.columns.specs.Columns.{tabStop, columnAfter, indentFrom, capped}
+use Rattle.grammar.specs.Read.{ends, finish, shutOf, valueToken, afterName, tokenOf, text, readFrom, readPayload}
+use Rattle.grammar.specs.Grammar.{isValue}
+use Rattle.grammar.specs.Close.{turned, stepOf, closeFrom}
+use Rattle.grammar.specs.Meaning as meaning
+use Rattle.canon.specs.Canon.{pairsOf, pairs, escape, moreText, pairsText, canon}
+use Rattle.payloads.specs.Payloads.{lastIs, behindFrom, behindLast, continues}
+use Rattle.scanners.specs.Scanners.{passed, seekStep, seekFrom, lastOpenBrace, scanFrom, openQuoteAtEnd, heldStep, holdFrom, holdsOpen}
+use Rattle.sets.specs.Rows.{padded, tableOf, putRow, hasKey, withPut, withPuts, slotEntry, meant, rowsIn, meaningOf}
+use Rattle.sets.specs.Puts.{byName, valued, putsOf, putsIn}
+use Rattle.sets.specs.Types.{rangeBytes, nameBytes, valueBytes}
+use Rattle.chain.specs.Chain.{blocksFrom, readBlocks, goodLine}
+use Rattle.fill.specs.Fill.{limited, chainAt}
+use Rattle.joins.specs.Joins.{passes}
+use Rattle.runs.specs.Runs.{runFrom, runAt}
+use Rattle.blocks.specs.Blocks.{lineAt, frontOf, opensAt, runFound, found, flushLeft}
+use Rattle.sheets.specs.Sheets.{triesFrom, onlyBlocks, blocksOf}
+use Rattle.report.specs.Decimal.{placesIn, places, decimal}
+use Rattle.report.specs.Report.{reportLine, refusedLine, canonLine, blockLine, reportOf, report}
+
+-- the sheet
+abbrev sheet : List ℕ
+sheet =
+    -- {.wheel side=left}
+    123 ∷ 46 ∷ 119 ∷ 104 ∷ 101 ∷ 101 ∷ 108 ∷ 32 ∷ 115 ∷ 105 ∷ 100 ∷ 101 ∷ 61 ∷ 108 ∷ 101 ∷ 102 ∷ 116 ∷ 125 ∷ 10 ∷
+    -- text
+    116 ∷ 101 ∷ 120 ∷ 116 ∷ 10 ∷
+    -- {#v17
+    123 ∷ 35 ∷ 118 ∷ 49 ∷ 55 ∷ 10 ∷
+    --  side=right}
+    32 ∷ 115 ∷ 105 ∷ 100 ∷ 101 ∷ 61 ∷ 114 ∷ 105 ∷ 103 ∷ 104 ∷ 116 ∷ 125 ∷ 10 ∷
+    -- {.a}{.b side="x}y"}
+    123 ∷ 46 ∷ 97 ∷ 125 ∷ 123 ∷ 46 ∷ 98 ∷ 32 ∷ 115 ∷ 105 ∷ 100 ∷ 101 ∷ 61 ∷ 34 ∷ 120 ∷ 125 ∷ 121 ∷ 34 ∷ 125 ∷ 10 ∷ []
+
+-- its report
+abbrev written : List ℕ
+written =
+    -- block→1→1→{class="wheel" side="left"}
+    98 ∷ 108 ∷ 111 ∷ 99 ∷ 107 ∷ 9 ∷ 49 ∷ 9 ∷ 49 ∷ 9 ∷ 123 ∷ 99 ∷ 108 ∷ 97 ∷ 115 ∷ 115 ∷ 61 ∷ 34 ∷ 119 ∷ 104 ∷ 101 ∷ 101 ∷ 108 ∷ 34 ∷ 32 ∷ 115 ∷ 105 ∷ 100 ∷ 101 ∷ 61 ∷ 34 ∷ 108 ∷ 101 ∷ 102 ∷ 116 ∷ 34 ∷ 125 ∷ 10 ∷
+    -- block→3→2→{id="v17" side="right"}
+    98 ∷ 108 ∷ 111 ∷ 99 ∷ 107 ∷ 9 ∷ 51 ∷ 9 ∷ 50 ∷ 9 ∷ 123 ∷ 105 ∷ 100 ∷ 61 ∷ 34 ∷ 118 ∷ 49 ∷ 55 ∷ 34 ∷ 32 ∷ 115 ∷ 105 ∷ 100 ∷ 101 ∷ 61 ∷ 34 ∷ 114 ∷ 105 ∷ 103 ∷ 104 ∷ 116 ∷ 34 ∷ 125 ∷ 10 ∷
+    -- block→5→1→{class="a" class="b" side="x}y"}
+    98 ∷ 108 ∷ 111 ∷ 99 ∷ 107 ∷ 9 ∷ 53 ∷ 9 ∷ 49 ∷ 9 ∷ 123 ∷ 99 ∷ 108 ∷ 97 ∷ 115 ∷ 115 ∷ 61 ∷ 34 ∷ 97 ∷ 34 ∷ 32 ∷ 99 ∷ 108 ∷ 97 ∷ 115 ∷ 115 ∷ 61 ∷ 34 ∷ 98 ∷ 34 ∷ 32 ∷ 115 ∷ 105 ∷ 100 ∷ 101 ∷ 61 ∷ 34 ∷ 120 ∷ 125 ∷ 121 ∷ 34 ∷ 125 ∷ 10 ∷ []
+
+pub example : report sheet ≡ written
+unfolding isIn all headed run same isBlank isPlain isQuote within isLetter isDigit isAlnum isNamePart isKeyStart isNameStart isSpace isPunct isTail isIndent leadOf afterOf octetsFrom isUtf8 numberOf checkOf isKey isBareName isName isSize tagFrom isTag isLanguage unescapeFrom unescape lines eol lineFrom rangesFrom ranges trimEnd trimStart trim trimRange isBlankLine tabStop columnAfter indentFrom capped ends finish shutOf valueToken afterName tokenOf text readFrom readPayload isValue stepOf closeFrom meaning.rangesFrom pairsOf pairs escape moreText pairsText canon lastIs behindFrom behindLast continues turned passed seekStep seekFrom lastOpenBrace scanFrom openQuoteAtEnd heldStep holdFrom holdsOpen padded tableOf putRow hasKey withPut withPuts slotEntry meant rowsIn meaningOf byName valued putsOf putsIn rangeBytes nameBytes valueBytes blocksFrom readBlocks goodLine limited chainAt passes runFrom runAt lineAt frontOf opensAt runFound found flushLeft triesFrom onlyBlocks blocksOf placesIn places decimal reportLine refusedLine canonLine blockLine reportOf report
+example = refl

@@ -1,0 +1,2 @@
+-- The definitions that the contracts of joins cite.
+pub mod Joins

@@ -1,0 +1,2 @@
+-- Laws of values byte by byte.
+pub mod Values

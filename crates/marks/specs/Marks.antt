@@ -1,0 +1,43 @@
+-- A value byte by byte: its raw text, what that stands for, and the backslashes of the canonical text. No definition of the writer's own promises rests on these.
+use Prim.Native.Nat.{ℕ, _+_}
+use mathlib.Core.Bool.{Bool, true, false, cond}
+use mathlib.Core.List.{List, [], _∷_}
+use lib.Dec.{leb}
+use lib.ListN.{length, getD}
+use Rattle.lists.specs.Lists.{isIn}
+use Rattle.escapes.specs.Unescape.{unescape, pieceAt}
+use Rattle.escapes.specs.declared.Piece.{Piece}
+use Rattle.escapes.specs.declared.Piece.the-variants.{End, Byte}
+use Rattle.sets.specs.Types.{Texts, rangeBytes}
+use Rattle.sets.specs.declared.Value.{Value}
+use Rattle.sets.specs.declared.Text as texts
+use Rattle.sets.specs.declared.Text.the-variants as text
+
+-- the raw text of a value, and whether it is to be unescaped
+abbrev pub rawText : Texts → texts.Text → List ℕ
+rawText t (text.Plain from to) = rangeBytes t from to
+rawText t (text.Quoted from to) = rangeBytes t from to
+rawText t text.Empty = []
+
+unfoldable pub rawBytes : Texts → Value → List ℕ
+rawBytes t v = rawText t (v .text)
+
+abbrev pub isQuotedText : texts.Text → Bool
+isQuotedText (text.Plain from to) = false
+isQuotedText (text.Quoted from to) = true
+isQuotedText text.Empty = false
+
+unfoldable pub isQuoted : Value → Bool
+isQuoted v = isQuotedText (v .text)
+
+-- what a raw text stands for
+abbrev pub bytesIn : Bool → List ℕ → List ℕ
+bytesIn quoted s = cond quoted (unescape s) s
+
+-- its byte at i, and where the next one stands
+unfoldable pub pieceIn : Bool → List ℕ → ℕ → Piece
+pieceIn quoted s i = cond quoted (pieceAt s i) (cond (leb (length s) i) End (Byte (getD s i 0) (i + 1)))
+
+-- a byte with its backslash
+unfoldable pub marked : ℕ → List ℕ
+marked b = cond (isIn (34 ∷ 92 ∷ []) b) (92 ∷ (b ∷ [])) (b ∷ [])

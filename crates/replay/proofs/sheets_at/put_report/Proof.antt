@@ -1,0 +1,88 @@
+-- `put_report` ends, since its turns are counted down; the buffers keep their lengths.
+-- Assumes nothing.
+use borrow.Author.Needs.{needs}
+use mathlib.Core.Path.{_≡_}
+use lib.ListN.{length}
+use Rattle.replay.proofs.sheets_at.put_report.Statement.{statement}
+use Rattle.replay.proofs.sheets_at.put_report.Tie as tie
+
+abbrev Inv-loop : tie.InvT-loop
+Inv-loop text join₀ b₀ output₀ at part₀ to₀ turns₀ join b output part to turns = (length join ≡ length join₀) × (length b ≡ length b₀) × (length output ≡ length output₀)
+
+abbrev μ-loop : tie.MeasureT-loop
+μ-loop text join₀ b₀ output₀ at part₀ to₀ turns₀ join b output part to turns = turns
+
+report-start-requires : tie.Need-report-start-requires Inv-loop μ-loop
+report-start-requires c κs = search needs
+
+loop-holds : tie.Need-loop-holds Inv-loop μ-loop
+loop-holds c = search needs
+
+part-requires : tie.Need-part-requires Inv-loop μ-loop
+part-requires c κs = search needs
+
+put-pairs-requires : tie.Need-put-pairs-requires Inv-loop μ-loop
+put-pairs-requires c κs = search needs
+
+is-more-requires : tie.Need-is-more-requires Inv-loop μ-loop
+is-more-requires c κs = search needs
+
+same-length : tie.Need-same-length Inv-loop μ-loop
+same-length c = search needs
+
+same-length-2 : tie.Need-same-length-2 Inv-loop μ-loop
+same-length-2 c = search needs
+
+same-length-3 : tie.Need-same-length-3 Inv-loop μ-loop
+same-length-3 c = search needs
+
+returns : tie.Need-returns Inv-loop μ-loop
+returns c = search needs
+
+report-part-requires : tie.Need-report-part-requires Inv-loop μ-loop
+report-part-requires c κs = search needs
+
+sub-turns : tie.Need-sub-turns Inv-loop μ-loop
+sub-turns c = search needs
+
+loop-less : tie.Need-loop-less Inv-loop μ-loop
+loop-less c = search needs
+
+loop-again : tie.Need-loop-again Inv-loop μ-loop
+loop-again c = search needs
+
+same-length-4 : tie.Need-same-length-4 Inv-loop μ-loop
+same-length-4 c = search needs
+
+same-length-5 : tie.Need-same-length-5 Inv-loop μ-loop
+same-length-5 c = search needs
+
+same-length-6 : tie.Need-same-length-6 Inv-loop μ-loop
+same-length-6 c = search needs
+
+returns-2 : tie.Need-returns-2 Inv-loop μ-loop
+returns-2 c = search needs
+
+pub put-report-spec : {M : Type 1} → statement M
+put-report-spec =
+    tie.close
+    (tie.spec
+    Inv-loop
+    μ-loop
+    report-start-requires
+    loop-holds
+    part-requires
+    put-pairs-requires
+    is-more-requires
+    same-length
+    same-length-2
+    same-length-3
+    returns
+    report-part-requires
+    sub-turns
+    loop-less
+    loop-again
+    same-length-4
+    same-length-5
+    same-length-6
+    returns-2)

@@ -1,0 +1,120 @@
+-- The two entries: which refusal comes first, and what a refusal leaves.
+-- Assumes nothing.
+use mathlib.Core.Path.{_≡_, refl, sym, _∙_}
+use mathlib.Core.Bool.{Bool, true, false, cond, _&&_}
+use mathlib.Core.List.{List, [], append-nil}
+use Prim.Native.Nat.{ℕ, zero, suc, _+_, _-_, _≤_, _<_}
+use native.Mathlib.Nat.{zero-add}
+use native.Mathlib.Omega.{arith}
+use borrow.Author.Tests.{le-leb, lt-leb, leb-true, le-ltb, lt-ltb}
+use lib.Dec.{leb, ltb, leb·suc-suc}
+use lib.ListN.{length}
+use lib.Seq.{sets-eq}
+use Rattle.lists.proofs.Scan.{both}
+use Rattle.refusals.specs.Numbers.{maxText}
+use Rattle.refusals.specs.declared.Refusal.{Refusal}
+use Rattle.refusals.specs.declared.Refusal.the-variants.{TextTooLong, NothingThere, JoinFull, CanonTooLong}
+use Rattle.checks.specs.Check.{checkOf}
+use Rattle.checks.specs.declared.Check as checks
+use Rattle.checks.specs.declared.Check.the-variants as check
+use Rattle.runs.specs.Runs.{over}
+use Rattle.sheets.specs.Sheets.{triesAt, joinBehind}
+use Rattle.report.specs.declared.Told.{Told}
+use Rattle.report.specs.declared.Told.the-variants.{Refused, Done}
+use Rattle.report.specs.declared.Part.{Part}
+use Rattle.report.specs.Report.{refusedLine}
+use Rattle.report.specs.Parts.{maxLine, Laid, ended, behind, layFrom, mayBegin, partOf, refusal, startOf, shown}
+use Rattle.report.specs.Steps.{Put}
+use Rattle.report.proofs.Laying.{refused-le}
+use Rattle.report.proofs.Lays.{Tells}
+
+-- ---- where a line can begin
+
+module _ (t : List ℕ) (at n : ℕ) where
+  pub begins-far : length t < at → false ≡ mayBegin t at n
+  begins-far h = rw (lt-leb at (length t) h)
+
+  pub begins-none : n ≡ 0 → false ≡ mayBegin t at n
+  begins-none e = rw e (go (leb at (length t)))
+    where
+      go : (x : Bool) → false ≡ (x && false)
+      go true = refl
+      go false = refl
+
+  pub begins-is : at ≤ length t → (n ≡ 0 → ⊥) → leb (n - 1) at ≡ mayBegin t at n
+  begins-is h z = rw (le-leb at (length t) h, le-leb 1 n (omega arith)) (go n z)
+    where
+      go : (m : ℕ) → (m ≡ 0 → ⊥) → leb (m - 1) at ≡ leb m (suc at)
+      go zero z = absurd (z refl)
+      go (suc m) z = let e : suc m - 1 ≡ m = omega arith in rw e (sym (leb·suc-suc m at))
+
+  pub begins-so : mayBegin t at n ≡ true → (at ≤ length t) × ((1 ≤ n) × (n ≤ at + 1))
+  begins-so e =
+      let p = both (leb at (length t)) (leb 1 n && leb n (suc at)) e in
+      let q = both (leb 1 n) (leb n (suc at)) (p .1) in
+      (leb-true at (length t) (p .0), (leb-true 1 n (q .0), omega (arith, leb-true n (suc at) (q .1))))
+
+  pub begins-at : at ≤ length t → 1 ≤ n → n ≤ at + 1 → mayBegin t at n ≡ true
+  begins-at h l m = rw (le-leb at (length t) h, le-leb 1 n l, le-leb n (suc at) (omega arith))
+
+  -- ---- the report from there on
+
+  module _ (cap size : ℕ) where
+    pub part-long : maxText < length t → partOf t at n cap size ≡ ended (Refused TextTooLong)
+    unfolding partOf
+    part-long h = rw (lt-ltb maxText (length t) h)
+
+    module _ (h : length t ≤ maxText) where
+      pub part-nowhere : mayBegin t at n ≡ false → partOf t at n cap size ≡ ended (Refused NothingThere)
+      unfolding partOf
+      part-nowhere e = rw (le-ltb maxText (length t) h, e)
+
+      module _ (e : mayBegin t at n ≡ true) where
+        pub part-join : cap < maxText → partOf t at n cap size ≡ ended (Refused JoinFull)
+        unfolding partOf
+        part-join j = rw (le-ltb maxText (length t) h, e, lt-ltb cap maxText j)
+
+        module _ (j : maxText ≤ cap) where
+          pub part-full : size < maxLine → partOf t at n cap size ≡ ended (Refused CanonTooLong)
+          unfolding partOf
+          part-full s = rw (le-ltb maxText (length t) h, e, le-ltb cap maxText j, lt-ltb size maxLine s)
+
+          pub part-lays : maxLine ≤ size → partOf t at n cap size ≡ layFrom t size (triesAt t maxText n at)
+          unfolding partOf
+          part-lays s = rw (le-ltb maxText (length t) h, e, le-ltb cap maxText j, le-ltb size maxLine s)
+
+-- ---- what is told
+
+module _ (join out : List ℕ) {R : Laid} where
+  pub told-nothing : {a : Told} {p : Part} → R ≡ ended a → p ≡ shown (ended a) → Tells join out R p join out
+  unfolding joinBehind
+  told-nothing e q = rw e (q, (refl, refl))
+
+  pub told-by : {S : Laid} {p : Part} {join′ out′ : List ℕ} → R ≡ S → Tells join out S p join′ out′ → Tells join out R p join′ out′
+  told-by e q = rw e q
+
+-- ---- a text that is refused
+
+module _ (out : List ℕ) (why : Refusal) where
+  pub refusal-none : {p : Part} → length out < maxLine → p ≡ shown (ended (Refused why)) → (p ≡ shown (refusal (length out) why)) × (out ≡ over (refusal (length out) why .text) out)
+  refusal-none h e = rw (lt-ltb (length out) maxLine h) (e, refl)
+
+  pub refusal-laid : {p : Part} {k : ℕ} {out′ : List ℕ} → maxLine ≤ length out → Put out 0 (refusedLine 0 0 why) k out′ → p ≡ record { told = Done; len = k; at = 0; line = 0 }
+      → (p ≡ shown (refusal (length out) why)) × (out′ ≡ over (refusal (length out) why .text) out)
+  refusal-laid h w e =
+      rw (le-ltb (length out) maxLine h, append-nil (refusedLine 0 0 why))
+      (e ∙ rw (w .behind, zero-add (length (refusedLine 0 0 why))), w .content ∙ (rw (zero-add (length (refusedLine 0 0 why))) at (sets-eq (refusedLine 0 0 why) out 0 (omega (arith, refused-le 0 0 why (omega arith) (omega arith))))))
+
+module _ (t join out : List ℕ) {c : checks.Check} (e : c ≡ checkOf t) where
+  pub start-refused : {why : Refusal} {p : Part} {out′ : List ℕ} → c ≡ check.Refused why
+      → (p ≡ shown (refusal (length out) why)) × (out′ ≡ over (refusal (length out) why .text) out) → Tells join out (startOf t (length join) (length out)) p join out′
+  unfolding startOf joinBehind
+  start-refused {why} q w = rw (sym e ∙ q) (w .0, (go (ltb (length out) maxLine), w .1))
+    where
+      go : (x : Bool) → join ≡ joinBehind join (cond x (ended (Refused why)) (behind [] (refusedLine 0 0 why) (ended Done)) .past)
+      go true = refl
+      go false = refl
+
+  pub start-passed : c ≡ check.Passed → startOf t (length join) (length out) ≡ partOf t 0 1 (length join) (length out)
+  unfolding startOf
+  start-passed q = rw (sym e ∙ q)

@@ -1,0 +1,7 @@
+-- Laws that the proofs of report cite.
+pub mod Decimals
+pub mod Laying
+pub mod Lays
+pub mod Entries
+pub mod Calls
+pub mod Said

@@ -1,0 +1,256 @@
+// The report on a sheet: a line for each of its blocks.
+use blocks::Block;
+use checks::Check;
+use fill::Outcome;
+use refusals::Refusal;
+use sets::Attrs;
+use writer::Wrote;
+ghost use mathlib.Core.Path.{_≡_};
+ghost use mathlib.Core.List.{_∷_};
+ghost use Prim.Native.Nat.{_+_, _≤_};
+ghost use lib.ListN.{length};
+ghost use Rattle.refusals.specs.Numbers.{maxText};
+ghost use Rattle.canon.specs.Canon.{canon};
+ghost use Rattle.sets.specs.Types.{one};
+ghost use Rattle.sets.specs.Rows.{meaningOf};
+ghost use Rattle.writer.specs.Steps.{wroteTo};
+ghost use Rattle.runs.specs.Runs.{over};
+ghost use Rattle.sheets.specs.Sheets.{triesAt, joinBehind};
+ghost use Rattle.report.specs.declared.Told.the-variants.{Refused, More, Done};
+ghost use Rattle.report.specs.Decimal.{decimal};
+ghost use Rattle.report.specs.Report.{refusedLine, canonLine, lineBy};
+ghost use Rattle.report.specs.Parts.{maxLine, ended, layFrom, mayBegin, partOf, refusal, startOf, shown};
+ghost use Rattle.report.specs.Steps.{Put, front, putShort, textOf};
+
+// No line of a report is longer.
+pub const LINE: usize = 65600;
+
+// Whether the report goes on, or why nothing is laid.
+pub enum Told {
+    Refused(Refusal),
+    More,
+    Done,
+}
+
+// How many bytes are laid, and at which place and line the next call goes on.
+pub struct Part {
+    pub told: Told,
+    pub len: usize,
+    pub at: usize,
+    pub line: usize,
+}
+
+// Writes bytes as they stand.
+fn put_bytes(out: &mut [u8], at: usize, s: &[u8]) -> usize
+    requires { ⌜ at + length (now s) ≤ length (now out) ⌝ }
+    ensures { λ r. ⌜ Put (now (out .entry)) at (now (s .entry)) r (now (out .exit)) ⌝ }
+{
+    let mut k = at;
+    let mut i = 0;
+    while i < s.len() {
+        out[k] = s[i];
+        k += 1;
+        i += 1;
+    }
+    k
+}
+
+// Writes a tab and a number.
+fn put_field(out: &mut [u8], at: usize, n: usize) -> usize
+    requires { ⌜ at + length (9 ∷ decimal n) ≤ length (now out) ⌝ }
+    ensures { λ r. ⌜ Put (now (out .entry)) at (9 ∷ decimal n) r (now (out .exit)) ⌝ }
+{
+    let mut digits = [0u8; 20];
+    let k = io::decimal(n as u64, &mut digits);
+    out[at] = b'\t';
+    put_bytes(out, at + 1, &digits[..k])
+}
+
+// Writes a word, the first line and the line count.
+fn put_front(out: &mut [u8], at: usize, word: &[u8], n: usize, lines: usize) -> usize
+    requires { ⌜ at + length (front (now word) n lines) ≤ length (now out) ⌝ }
+    ensures { λ r. ⌜ Put (now (out .entry)) at (front (now (word .entry)) n lines) r (now (out .exit)) ⌝ }
+{
+    let k = put_bytes(out, at, word);
+    let e = put_field(out, k, n);
+    put_field(out, e, lines)
+}
+
+// Lays the line of a block that is refused.
+fn lay_refused(out: &mut [u8], at: usize, n: usize, lines: usize, why: Refusal) -> usize
+    requires { ⌜ at + maxLine ≤ length (now out) ⌝ }
+    ensures { λ r. ⌜ Put (now (out .entry)) at (refusedLine n lines why) r (now (out .exit)) ⌝ }
+{
+    let k = put_front(out, at, b"refused", n, lines);
+    let e = put_field(out, k, refusals::number(why) as usize);
+    out[e] = b'\n';
+    e + 1
+}
+
+// Writes the canonical text of a set, where it isn't too long.
+fn put_set(out: &mut [u8], at: usize, text: &[u8], set: Attrs) -> Wrote
+    requires { ⌜ at + maxText ≤ length (now out) ⌝ }
+    ensures { λ r. ⌜ r ≡ wroteTo maxText (length (canon (meaningOf (one (now (text .entry))) set))) ⌝ }
+    ensures { λ r. ⌜ now (out .exit) ≡ putShort (now (out .entry)) at (canon (meaningOf (one (now (text .entry))) set)) ⌝ }
+{
+    writer::write_set(text, set, &mut out[at..])
+}
+
+// Lays the line of a block whose set is over the text.
+fn lay_set(out: &mut [u8], at: usize, n: usize, lines: usize, text: &[u8], set: Attrs) -> usize
+    requires { ⌜ at + maxLine ≤ length (now out) ⌝ }
+    ensures { λ r. ⌜ Put (now (out .entry)) at (canonLine n lines (canon (meaningOf (one (now (text .entry))) set))) r (now (out .exit)) ⌝ }
+{
+    let k = put_front(out, at, b"block", n, lines);
+    out[k] = b'\t';
+    match put_set(out, k + 1, text, set) {
+        Wrote::Refused(why) => lay_refused(out, at, n, lines, why),
+        Wrote::Bytes(m) => {
+            let e = k + 1 + m;
+            out[e] = b'\n';
+            e + 1
+        }
+    }
+}
+
+// Lays the line of a block, whose set is over the joined bytes if there are any.
+fn lay_block(out: &mut [u8], at: usize, n: usize, text: &[u8], join: &[u8], block: Block) -> usize
+    requires { ⌜ (at + maxLine ≤ length (now out)) × (block .joined ≤ length (now join)) ⌝ }
+    ensures { λ r. ⌜ Put (now (out .entry)) at (lineBy n (block .lines) (textOf (now (text .entry)) (now (join .entry)) (block .joined)) (block .set) (block .outcome)) r (now (out .exit)) ⌝ }
+{
+    let joined = block.joined;
+    let outcome = block.outcome;
+    match outcome {
+        Outcome::Refused(why) => lay_refused(out, at, n, block.lines, why),
+        Outcome::Done => {
+            if joined == 0 {
+                return lay_set(out, at, n, block.lines, text, block.set);
+            }
+            lay_set(out, at, n, block.lines, &join[..joined], block.set)
+        }
+    }
+}
+
+// The report is whole.
+fn done(len: usize) -> Part
+    ensures { λ r. ⌜ r ≡ record { told = Done; len = len; at = 0; line = 0 } ⌝ }
+{
+    Part {
+        told: Told::Done,
+        len,
+        at: 0,
+        line: 0,
+    }
+}
+
+// The report goes on from a place and its line.
+fn more(len: usize, at: usize, line: usize) -> Part
+    ensures { λ r. ⌜ r ≡ record { told = More; len = len; at = at; line = line } ⌝ }
+{
+    Part {
+        told: Told::More,
+        len,
+        at,
+        line,
+    }
+}
+
+// Nothing is laid.
+fn refused(why: Refusal) -> Part
+    ensures { λ r. ⌜ r ≡ shown (ended (Refused why)) ⌝ }
+{
+    Part {
+        told: Told::Refused(why),
+        len: 0,
+        at: 0,
+        line: 0,
+    }
+}
+
+// Whether a line of that number can begin at the place.
+fn may_begin(text: &[u8], at: usize, line: usize) -> bool
+    ensures { λ r. ⌜ r ≡ mayBegin (now (text .entry)) at line ⌝ }
+{
+    if text.len() < at {
+        return false;
+    }
+    if line == 0 {
+        return false;
+    }
+    line - 1 <= at
+}
+
+// Lays the lines of the blocks from the place on, as long as there is room.
+fn lay_from(text: &[u8], from: usize, first: usize, join: &mut [u8], out: &mut [u8]) -> Part
+    requires { ⌜ (length (now text) ≤ maxText) × ((from ≤ length (now text)) × (first ≤ from + 1)) ⌝ }
+    requires { ⌜ (maxText ≤ length (now join)) × (maxLine ≤ length (now out)) ⌝ }
+    ensures { λ r. ⌜ r ≡ shown (layFrom (now (text .entry)) (length (now (out .entry))) (triesAt (now (text .entry)) maxText first from)) ⌝ }
+    ensures { λ r. ⌜ now (join .exit) ≡ joinBehind (now (join .entry)) (layFrom (now (text .entry)) (length (now (out .entry))) (triesAt (now (text .entry)) maxText first from) .past) ⌝ }
+    ensures { λ r. ⌜ now (out .exit) ≡ over (layFrom (now (text .entry)) (length (now (out .entry))) (triesAt (now (text .entry)) maxText first from) .text) (now (out .entry)) ⌝ }
+{
+    let mut at = from;
+    let mut line = first;
+    let mut k = 0;
+    'sheet: loop {
+        if text.len() <= at {
+            return done(k);
+        }
+        if out.len() - k < LINE {
+            return more(k, at, line);
+        }
+        let next = sheets::next_block(text, at, join);
+        let block = next.block;
+        if block.lines == 0 {
+            return done(k);
+        }
+        let n = line + next.skipped;
+        k = lay_block(out, k, n, text, join, block);
+        line = n + block.lines;
+        at = block.next;
+        continue 'sheet;
+    }
+}
+
+// The report from a line on, whose place and number a call before has told; the text has passed the checks already.
+pub fn report_part(text: &[u8], at: usize, line: usize, join: &mut [u8], out: &mut [u8]) -> Part
+    ensures { λ r. ⌜ r ≡ shown (partOf (now (text .entry)) at line (length (now (join .entry))) (length (now (out .entry)))) ⌝ }
+    ensures { λ r. ⌜ now (join .exit) ≡ joinBehind (now (join .entry)) (partOf (now (text .entry)) at line (length (now (join .entry))) (length (now (out .entry))) .past) ⌝ }
+    ensures { λ r. ⌜ now (out .exit) ≡ over (partOf (now (text .entry)) at line (length (now (join .entry))) (length (now (out .entry))) .text) (now (out .entry)) ⌝ }
+{
+    if refusals::MAX_TEXT < text.len() {
+        return refused(Refusal::TextTooLong);
+    }
+    if !may_begin(text, at, line) {
+        return refused(Refusal::NothingThere);
+    }
+    if join.len() < refusals::MAX_TEXT {
+        return refused(Refusal::JoinFull);
+    }
+    if out.len() < LINE {
+        return refused(Refusal::CanonTooLong);
+    }
+    lay_from(text, at, line, join, out)
+}
+
+// The only line of a report on a text that is refused, where it has room.
+fn lay_refusal(why: Refusal, out: &mut [u8]) -> Part
+    ensures { λ r. ⌜ r ≡ shown (refusal (length (now (out .entry))) why) ⌝ }
+    ensures { λ r. ⌜ now (out .exit) ≡ over (refusal (length (now (out .entry))) why .text) (now (out .entry)) ⌝ }
+{
+    if out.len() < LINE {
+        return refused(why);
+    }
+    done(lay_refused(out, 0, 0, 0, why))
+}
+
+// The report from the first line on; the text is checked here, once for a sheet.
+pub fn report_start(text: &[u8], join: &mut [u8], out: &mut [u8]) -> Part
+    ensures { λ r. ⌜ r ≡ shown (startOf (now (text .entry)) (length (now (join .entry))) (length (now (out .entry)))) ⌝ }
+    ensures { λ r. ⌜ now (join .exit) ≡ joinBehind (now (join .entry)) (startOf (now (text .entry)) (length (now (join .entry))) (length (now (out .entry))) .past) ⌝ }
+    ensures { λ r. ⌜ now (out .exit) ≡ over (startOf (now (text .entry)) (length (now (join .entry))) (length (now (out .entry))) .text) (now (out .entry)) ⌝ }
+{
+    match checks::check_text(text) {
+        Check::Refused(why) => lay_refusal(why, out),
+        Check::Passed => report_part(text, 0, 1, join, out),
+    }
+}

@@ -1,0 +1,66 @@
+-- A block of a sheet is read, or refused for a limit: "or for 6, 7 or 10 `refused`", where 10 is the writer's.
+-- Assumes nothing.
+use mathlib.Core.Path.{_≡_, refl}
+use mathlib.Core.Bool.{Bool, true, false, cond}
+use mathlib.Core.List.{List, [], _∷_}
+use Prim.Native.Nat.{ℕ, _≤_}
+use native.Mathlib.Omega.{arith}
+use borrow.Author.Tests.{ltb-false, le-ltb}
+use lib.Dec.{ltb}
+use lib.ListN.{length}
+use lib.Seq.{slice}
+use Rattle.lists.specs.Lists.{isIn}
+use Rattle.lists.proofs.More.{contra}
+use Rattle.ascii.specs.declared.Mode.the-variants.{Loose}
+use Rattle.refusals.specs.Numbers.{maxText, numberOf}
+use Rattle.refusals.specs.declared.Refusal.the-variants.{TooManyClasses, TooManyKeys, TooManySlots}
+use Rattle.grammar.specs.Read.{Reading}
+use Rattle.tokens.specs.Shown.{accepted}
+use Rattle.chain.specs.Chain.{readBlocks, goodLine}
+use Rattle.sets.specs.Types.{one, maxClasses, maxKeys, maxSlots}
+use Rattle.sets.specs.Rows.{Rows, tableOf}
+use Rattle.fill.specs.Fill as fill
+use Rattle.fill.specs.declared.Outcome as outcomes
+use Rattle.fill.specs.declared.Outcome.the-variants.{Done, Refused}
+use Rattle.fill.proofs.Slots.{Shaped, shaped-puts, shaped-none, slots}
+use Rattle.runs.specs.Runs.{runAt}
+use Rattle.runs.proofs.Bounds.{text-short}
+use Rattle.blocks.specs.Blocks.{Found, filledBy, blockOf, flushLeft}
+use Rattle.sheets.specs.Sheets.{isBlock}
+use Rattle.sheets.proofs.Tries.{found-by, run-found-by, flush-by}
+
+-- read, or refused 6 or 7
+abbrev pub isLimited : outcomes.Outcome → Bool
+isLimited Done = true
+isLimited (Refused r) = isIn (6 ∷ 7 ∷ []) (numberOf r)
+
+limited : (s : Rows) → Shaped s → isLimited (fill.limited s .outcome) ≡ true
+unfolding fill.limited isIn numberOf
+limited s h = go (ltb maxClasses (length (s .classes))) (ltb maxKeys (length (s .keys))) refl
+  where
+    go : (x y : Bool) → ltb maxKeys (length (s .keys)) ≡ y
+        → isLimited (cond x (fill.refusing TooManyClasses) (cond y (fill.refusing TooManyKeys) (cond (ltb maxSlots (length (s .order))) (fill.refusing TooManySlots) (record { outcome = Done; set = tableOf s }))) .outcome) ≡ true
+    go true y k = refl
+    go false true k = refl
+    go false false k = rw (le-ltb maxSlots (length (s .order)) (slots h (ltb-false maxKeys (length (s .keys)) k)))
+
+chain-limited : (t : List ℕ) (from to : ℕ) → length t ≤ maxText → goodLine t from to ≡ true → isLimited (fill.chainAt Loose t from to .outcome) ≡ true
+unfolding fill.chainAt goodLine
+chain-limited t from to k g = rw (le-ltb maxText (length t) k) (go (readBlocks Loose from (slice from to t)) g)
+  where
+    go : (r : Reading) → accepted r ≡ true → isLimited (fill.filledBy (one t) r .outcome) ≡ true
+    go Reading.refused g = contra false g refl
+    go (Reading.items is) g = limited _ (shaped-puts (one t) _ shaped-none)
+
+pub block-limited : (t : List ℕ) (cap at : ℕ) → length t ≤ maxText → isBlock (flushLeft t cap at) ≡ true → isLimited (blockOf t at (flushLeft t cap at) .outcome) ≡ true
+unfolding blockOf
+block-limited t cap at k =
+    flush-by P t at cap (λ e. contra false e refl)
+    (found-by P t at 0 cap (λ g e. chain-limited t _ _ k g) (λ e. contra false e refl) (λ e. contra false e refl)
+    (run-found-by P t at 0 cap (λ r e g b. chain-limited (r .text) 0 (length (r .text)) (rw e short) g) (λ r e q b. contra false b refl)))
+  where
+    P : Found → Type 0
+    P f = isBlock f ≡ true → isLimited (filledBy t at f .outcome) ≡ true
+
+    short : length (runAt cap 0 t at .text) ≤ maxText
+    short = omega (arith, k, text-short cap 0 t at)

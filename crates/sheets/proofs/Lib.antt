@@ -1,0 +1,7 @@
+-- Laws of sheets.
+pub mod Tries
+pub mod Seeks
+pub mod Goes
+pub mod Rooms
+pub mod Answers
+pub mod Order

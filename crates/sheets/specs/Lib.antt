@@ -1,0 +1,3 @@
+-- The definitions that the contracts of sheets cite.
+pub mod Sheets
+pub mod Steps

@@ -1,0 +1,2 @@
+-- Laws of a line's front and of comments.
+pub mod Leaves

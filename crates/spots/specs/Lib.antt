@@ -1,0 +1,2 @@
+-- The definitions that the contracts of spots cite.
+pub mod Spots

@@ -1,0 +1,51 @@
+-- The walk in a line, byte by byte, and what a line opens with and closes.
+use Prim.Native.Nat.{ℕ}
+use mathlib.Core.Bool.{Bool, false, cond, _&&_, _||_, not}
+use mathlib.Core.List.{List, [], _∷_}
+use lib.Dec.{eqb, leb}
+use Rattle.lines.specs.Trim.{trimStart}
+use Rattle.payloads.specs.Payloads.{beginsOpen}
+use Rattle.scanners.specs.Scanners.{passed, ignored, isBare, columnBehind}
+use Rattle.spots.specs.declared.Spot.{Spot}
+
+-- ---- the walk in a line, from its first byte that is no whitespace on
+
+-- "a stray `}`": outside quotes, where no block is open
+abbrev pub isStray : Spot → ℕ → Bool
+isStray p b = not (p .inside) && isBare (p .scan) b 125
+
+-- a `{` opens a block where none is open
+abbrev pub opensAt : Spot → ℕ → Bool
+opensAt p b = not (p .inside) && isBare (p .scan) b 123
+
+abbrev pub insideAfter : Spot → ℕ → Bool
+insideAfter p b = cond (p .inside) (not (isBare (p .scan) b 125)) (isBare (p .scan) b 123)
+
+unfoldable pub spotAfter : Spot → ℕ → Spot
+spotAfter p b =
+    record {
+      scan = passed ignored (p .scan) b;
+      column = columnBehind (p .scan .escaped) (p .column) b;
+      inside = insideAfter p b;
+      brace = cond (opensAt p b) (p .column) (p .brace);
+    }
+
+-- ---- a line
+
+abbrev pub opens : List ℕ → Bool
+opens l = beginsOpen (trimStart l)
+
+-- "a continuation at or below its `{` column" (000)
+abbrev pub shallowOr : Bool → Bool → ℕ → ℕ → Bool
+shallowOr shallow first column brace = shallow || (not first && leb column brace)
+
+-- the list begins with b and then c
+abbrev pub beginsPair : ℕ → ℕ → List ℕ → Bool
+beginsPair b c [] = false
+beginsPair b c (x ∷ []) = false
+beginsPair b c (x ∷ y ∷ s) = eqb x b && eqb y c
+
+-- `%}` stands in it
+unfoldable pub closesComment : List ℕ → Bool
+closesComment [] = false
+closesComment (b ∷ s) = beginsPair 37 125 (b ∷ s) || closesComment s

@@ -1,0 +1,2 @@
+-- Laws about the rows of keys.
+pub mod Keys
