@@ -1,0 +1,3 @@
+-- The laws of lent.
+pub mod Standing
+pub mod Taken

@@ -1,0 +1,2 @@
+-- The laws of loans.
+pub mod Local

@@ -1,0 +1,1 @@
+// Laws for proofs that walk code by hand. No code.

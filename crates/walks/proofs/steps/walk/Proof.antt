@@ -1,0 +1,62 @@
+-- `walk` ends, since each token takes the walker on.
+-- Assumes nothing.
+use Prim.Native.Nat.{_-_, _≤_, zero-le}
+use native.Mathlib.Omega.{arith}
+use borrow.Author.Needs.{needs}
+use lib.ListN.{length}
+use Rattle.walker.proofs.Steps.{tag-not-bad, onward}
+use Rattle.walks.proofs.steps.walk.Statement.{statement}
+use Rattle.walks.proofs.steps.walk.Tie as tie
+
+abbrev Inv-steps : tie.InvT-steps
+Inv-steps text mode i₀ i = i ≤ length text
+
+abbrev μ-steps : tie.MeasureT-steps
+μ-steps text mode i₀ i = length text - i
+
+steps-holds : tie.Need-steps-holds Inv-steps μ-steps
+steps-holds c = zero-le
+
+step-from-requires : tie.Need-step-from-requires Inv-steps μ-steps
+step-from-requires c κs = search needs
+
+say-step-requires : tie.Need-say-step-requires Inv-steps μ-steps
+say-step-requires c κs = search needs
+
+enum-told : tie.Need-enum-told Inv-steps μ-steps
+enum-told c = search needs
+
+returns : tie.Need-returns Inv-steps μ-steps
+returns c = search needs
+
+enum-known-ahead : tie.Need-enum-known-ahead Inv-steps μ-steps
+enum-known-ahead c = search needs
+
+enum-told-2 : tie.Need-enum-told-2 Inv-steps μ-steps
+enum-told-2 c = search needs
+
+returns-2 : tie.Need-returns-2 Inv-steps μ-steps
+returns-2 c = search needs
+
+steps-less : tie.Need-steps-less Inv-steps μ-steps
+steps-less c = let o = onward _ _ _ (c .before .before .before .before .before .before .steps .inv) (c .before .before .before .before .before .step-from .ensures) (c .before .before .ahead .given .1) (tag-not-bad _ (c .match2 .keys2)) in omega (arith, o .ahead, o .within)
+
+steps-again : tie.Need-steps-again Inv-steps μ-steps
+steps-again c = (onward _ _ _ (c .before .before .before .before .before .before .steps .inv) (c .before .before .before .before .before .step-from .ensures) (c .before .before .ahead .given .1) (tag-not-bad _ (c .match2 .keys2))) .within
+
+pub walk-spec : {M : Type 1} → statement M
+walk-spec =
+    tie.close
+    (tie.spec
+    Inv-steps
+    μ-steps
+    steps-holds
+    step-from-requires
+    say-step-requires
+    enum-told
+    returns
+    enum-known-ahead
+    enum-told-2
+    returns-2
+    steps-less
+    steps-again)

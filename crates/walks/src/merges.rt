@@ -1,0 +1,113 @@
+// Sets merged into one that is lent, where it stands; a refusal leaves it as it was.
+use crate::part;
+use crate::say;
+use crate::say_number;
+use crate::say_refusal;
+use fill::Outcome;
+use lent::Both;
+use sets::Attrs;
+use sets::Text;
+use sets::Value;
+use writer::Wrote;
+
+// Three blocks of a text, by their places: the middle one is lent, the first one leads it, and the last one comes in behind.
+pub(crate) fn run() {
+    // all three
+    three(b"{.a k=1}{#x .b k=2 m=3}{.c #y m=4 n}", 0, 8, 23);
+    // nothing leads
+    three(b"{.a k=1}{#x .b k=2 m=3}", 23, 0, 8);
+    // 17 classes are there, and 17 more lead: 6; the last set comes in all the same
+    three(
+        b"{.a .a .a .a .a .a .a .a .a .a .a .a .a .a .a .a .a}{.b .b .b .b .b .b .b .b .b .b .b .b .b .b .b .b .b}{k}",
+        0,
+        52,
+        104,
+    );
+    // 17 classes are there, a key leads, and 17 more come in: 6, and the key that led stays
+    three(
+        b"{k}{.a .a .a .a .a .a .a .a .a .a .a .a .a .a .a .a .a}{.b .b .b .b .b .b .b .b .b .b .b .b .b .b .b .b .b}",
+        0,
+        3,
+        55,
+    );
+    // the text isn't UTF-8 elsewhere: 2, both times
+    three(b"{.a}{.b}{.c}\xFF", 0, 4, 8);
+    broken(b"{.a k=1}{#x .b k=2}");
+}
+
+fn three(text: &[u8], leading: usize, target: usize, incoming: usize) {
+    let first = reader::read_attrs_at(text, leading);
+    let middle = reader::read_attrs_at(text, target);
+    let last = reader::read_attrs_at(text, incoming);
+    tell(
+        text,
+        lent::merge_both(text, middle.set, first.set, last.set),
+    );
+}
+
+// A set with rows past its counts is lent to one that is no set: 11, and not even those rows are touched.
+fn broken(text: &[u8]) {
+    let read = reader::read_attrs_at(text, 0);
+    let mut target = read.set;
+    target.classes[31] = Value {
+        text: Text::Plain(9, 4),
+    };
+    let mut bad = Attrs::empty();
+    bad.nclass = 33;
+    let both = lent::merge_both(text, target, bad, bad);
+    tell(text, both);
+    let set = both.set;
+    say_row(set.classes[31]);
+    let both = lent::merge_both(text, bad, target, target);
+    tell(text, both);
+    let set = both.set;
+    say(b"  33 classes still: ");
+    say_number(set.nclass as usize);
+    say(b"\n");
+}
+
+fn say_row(value: Value) {
+    let text = value.text;
+    match text {
+        Text::Plain(from, to) => {
+            say(b"  the last row still goes from ");
+            say_number(from as usize);
+            say(b" to ");
+            say_number(to as usize);
+            say(b"\n");
+        }
+        Text::Quoted(_, _) => say(b"  ANOTHER ROW\n"),
+        Text::Empty => say(b"  ANOTHER ROW\n"),
+    }
+}
+
+fn tell(text: &[u8], both: Both) {
+    let led = both.led;
+    let merged = both.merged;
+    say(b"leading: ");
+    say_outcome(led);
+    say(b", incoming: ");
+    say_outcome(merged);
+    say(b"\n");
+    let set = both.set;
+    say_set(text, set);
+}
+
+fn say_outcome(outcome: Outcome) {
+    match outcome {
+        Outcome::Refused(r) => say_refusal(r),
+        Outcome::Done => say(b"merged"),
+    }
+}
+
+// The set's canonical text, for every table.
+fn say_set(text: &[u8], set: Attrs) {
+    let mut out = [0u8; 400];
+    let wrote = writer::write_set(text, set, &mut out);
+    say(b"  ");
+    match wrote {
+        Wrote::Refused(r) => say_refusal(r),
+        Wrote::Bytes(n) => say(part(&out, 0, n)),
+    }
+    say(b"\n");
+}
