@@ -1,6 +1,6 @@
 -- Before a line, and the walk over a byte.
 -- Assumes nothing.
-use mathlib.Core.Path.{_≡_, refl, ap}
+use mathlib.Core.Path.{_≡_, ap}
 use mathlib.Core.Bool.{Bool, true, false}
 use mathlib.Core.List.{List}
 use Prim.Native.Nat.{ℕ, suc, _+_, _-_, _*_, _<_, _≤_}
@@ -10,8 +10,6 @@ use borrow.Author.Tests.{ne-eqb, lt-ltb, le-ltb}
 use lib.Dec.{eqb}
 use lib.ListN.{length, getD, drop, drop-of-length-le}
 use lib.Seq.{drop-cons}
-use Rattle.refusals.specs.Numbers.{numberOf}
-use Rattle.refusals.specs.declared.Refusal.the-variants.{JoinFull}
 use Rattle.lines.specs.Trim.{isBlankLine}
 use Rattle.columns.proofs.Laws.{after-le}
 use Rattle.scanners.specs.Scanners.{columnBehind}
@@ -59,9 +57,3 @@ module _ {s : List ℕ} {r : Spot} {i : ℕ} {p : Spot} (inv : Passes s r i p) w
   pub passes-end : length s ≤ i → p ≡ r
   unfolding spotsFrom
   passes-end h = rw (drop-of-length-le s h) at (inv .rest)
-
--- ---- the number that a run hands on
-
-pub full-no : numberOf JoinFull ≡ 9
-unfolding numberOf
-full-no = refl

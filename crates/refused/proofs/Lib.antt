@@ -7,3 +7,4 @@ pub mod Answers
 pub mod Bounds
 pub mod Copies
 pub mod Upwards
+pub mod Numbers

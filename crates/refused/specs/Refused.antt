@@ -80,7 +80,8 @@ pub record On : Type 0 where
 abbrev pub halts : Bool → ℕ → ℕ → List ℕ → Bool
 halts first brace opener l = isBlankLine l || (not first && (ltb (suc brace) opener || opens l))
 
--- "Padded `repaired` copies: pads as numbers": a later line keeps its place beside the first, and is moved beyond the brace
+-- "Padded `repaired` copies: pads as numbers": a later line keeps its distance from the opener's column, but stands at least one column beyond the last brace that
+-- opened, and never in column 0
 abbrev pub padOf : Bool → ℕ → ℕ → ℕ → ℕ
 padOf first column brace opener = cond first 0 (max (column - opener) (max (suc brace - opener) 1))
 
@@ -118,7 +119,7 @@ pub record Told : Type 0 where
 abbrev pub unjoined : Answer → Told
 unjoined a = record { answer = a; lookahead = 0; text = [] }
 
--- the padded lines, so many, must be a good run that takes them all; "or 1, 2, 9"
+-- the padded lines, so many, must be a good run that takes them all; of "1, 2, 9" only 9 can arise here, where a line doesn't fit the join buffer
 abbrev pub answerBy : stops.Stop → Bool → ℕ → Answer
 answerBy stop.Closed good count = cond good (Lines count) (No 0)
 answerBy (stop.Refused r) good count = cond (eqb (numberOf r) (numberOf JoinFull)) (Refused r) (No 0)
@@ -136,7 +137,7 @@ unfoldable pub foundIn : ℕ → Found → Told
 foundIn cap Found.none = unjoined (No 0)
 foundIn cap (Found.block shallow ls) = cond shallow (judged (length ls) (runOf cap 0 ls)) (unjoined (No 0))
 
--- ---- comments (000): `{%` up to the first line with `%}`, or to the end
+-- ---- comments (000): `{%` up to the first line with `%}`, or to a blank line or the text's end, which both answer No to the end
 
 abbrev pub commentBy : Bool → ℕ → Answer
 commentBy shallow n = cond shallow (Lines n) (No n)

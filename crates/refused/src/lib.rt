@@ -334,7 +334,7 @@ fn answer_of(r: Ran, count: usize, join: &[u8]) -> Answer
             Answer::No(0)
         }
         Stop::Refused(x) => {
-            if refusals::number(x) == 9 {
+            if refusals::number(x) == refusals::number(Refusal::JoinFull) {
                 return Answer::Refused(x);
             }
             Answer::No(0)

@@ -26,8 +26,8 @@ use Rattle.sheets.proofs.Rooms.{blocks-are}
 use Rattle.report.specs.declared.Told.the-variants.{More, Done}
 use Rattle.report.specs.declared.Part.{Part}
 use Rattle.report.specs.Report.{refusedLine, blockLine, reportOf, reportBy, report}
-use Rattle.report.specs.Parts.{maxLine, Laid, ended, stopped, behind, tryLine, layFrom, partOf, startBy, startOf, shown}
-use Rattle.report.proofs.Entries.{begins-at, part-lays}
+use Rattle.report.specs.Parts.{maxLine, Laid, ended, stopped, behind, tryLine, layFrom, beginsLine, partOf, startBy, startOf, shown}
+use Rattle.report.proofs.Entries.{Begins, next-begins, past-begins, begins-at, part-lays}
 use Rattle.report.proofs.Lays.{lay-on, lay-here, lay-stop}
 
 -- ---- the report of tries
@@ -72,53 +72,53 @@ one-call t room (x ∷ xs) h =
 
 -- ---- from the line at a place on
 
--- all of it was laid, or the next call goes on at a line farther on, where a line of its number can begin, and the tries from there on are those that are left
+-- all of it was laid, or the next call goes on at a line farther on, where a line begins that can have its number, and the tries from there on are those that are left
 pub data Led (t : List ℕ) (cap room n at : ℕ) (R : Laid) : Type 0 where
   whole : R .told ≡ Done → R .past ≡ triesAt t cap n at → Led t cap room n at R
-  part : R .told ≡ More → n ≤ R .line → R .line ≤ R .at + 1 → R .at < length t → at ≤ R .at → (maxLine ≤ room → at < R .at)
+  part : R .told ≡ More → n ≤ R .line → R .line ≤ R .at + 1 → R .at < length t → beginsLine t (R .at) ≡ true → at ≤ R .at → (maxLine ≤ room → at < R .at)
       → triesAt t cap n at ≡ R .past ++ triesAt t cap (R .line) (R .at) → Led t cap room n at R
 
 module _ (t : List ℕ) (cap : ℕ) where
   led-on : {room room′ n at m k : ℕ} (xs : List ℕ) (R : Laid) → triesAt t cap n at ≡ try t cap n at ∷ triesAt t cap m k → n ≤ m → at < k
       → Led t cap room′ m k R → Led t cap room n at (behind (try t cap n at ∷ []) xs R)
   led-on {n = n} {at = at} xs R e h l (Led.whole d p) = Led.whole d (rw e (ap (λ (ys : List Try). try t cap n at ∷ ys) p))
-  led-on {n = n} {at = at} xs R e h l (Led.part d a b c f g p) =
-      Led.part d (omega arith) b c (omega arith) (λ r. omega arith) (rw e (ap (λ (ys : List Try). try t cap n at ∷ ys) p))
+  led-on {n = n} {at = at} xs R e h l (Led.part d a b c s f g p) =
+      Led.part d (omega arith) b c s (omega arith) (λ r. omega arith) (rw e (ap (λ (ys : List Try). try t cap n at ∷ ys) p))
 
-  led : (fuel room n at : ℕ) → length t ≤ at + fuel → n ≤ at + 1 → Led t cap room n at (layFrom t room (triesAt t cap n at))
+  led : (fuel room n at : ℕ) → length t ≤ at + fuel → n ≤ at + 1 → Begins t at → Led t cap room n at (layFrom t room (triesAt t cap n at))
   unfolding layFrom
-  led zero room n at h b = let e = tries-end t cap n at (omega arith) in Led.whole (rw e) (rw e)
-  led (suc fuel) room n at h b = go (ltb at (length t)) refl (ltb room maxLine) refl (isBlock f) refl (led fuel)
+  led zero room n at h b s = let e = tries-end t cap n at (omega arith) in Led.whole (rw e) (rw e)
+  led (suc fuel) room n at h b s = go (ltb at (length t)) refl (ltb room maxLine) refl (isBlock f) refl (led fuel)
     where
       f : Found
       f = flushLeft t cap at
 
       go : (x : Bool) → ltb at (length t) ≡ x → (y : Bool) → ltb room maxLine ≡ y → (z : Bool) → isBlock f ≡ z
-          → ((room n at : ℕ) → length t ≤ at + fuel → n ≤ at + 1 → Led t cap room n at (layFrom t room (triesAt t cap n at))) → Led t cap room n at (layFrom t room (triesAt t cap n at))
+          → ((room n at : ℕ) → length t ≤ at + fuel → n ≤ at + 1 → Begins t at → Led t cap room n at (layFrom t room (triesAt t cap n at))) → Led t cap room n at (layFrom t room (triesAt t cap n at))
       go false x y p z q ih = let e = tries-end t cap n at (ltb-false at (length t) x) in Led.whole (rw e) (rw e)
       go true x true p z q ih =
           let l = ltb-true at (length t) x in
-          rw (lay-stop t cap n at l (ltb-true room maxLine p)) (Led.part refl (omega arith) b l (omega arith) (λ r. absurd (omega (arith, ltb-true room maxLine p))) refl)
+          rw (lay-stop t cap n at l (ltb-true room maxLine p)) (Led.part refl (omega arith) b l (s l) (omega arith) (λ r. absurd (omega (arith, ltb-true room maxLine p))) refl)
       go true x false p false q ih =
           let l = ltb-true at (length t) x in
           let e = tries-on t cap n at l q in
           let m = next-beyond t at l in
           rw (ap (layFrom t room) e ∙ lay-on t (ltb-false room maxLine p) (try t cap n at) (triesAt t cap (suc n) (lineFrom t at .next)) q)
-          (led-on [] _ e (omega arith) m (ih room (suc n) (lineFrom t at .next) (omega (arith, h, m)) (omega (arith, b, m))))
+          (led-on [] _ e (omega arith) m (ih room (suc n) (lineFrom t at .next) (omega (arith, h, m)) (omega (arith, b, m)) (next-begins t at)))
       go true x false p true q ih =
           let l = ltb-true at (length t) x in
           let e = tries-past t cap n at l q in
           let m = block-bytes t cap at l in
           let k = some-lines t at cap q in
           rw (ap (layFrom t room) e ∙ lay-here t (ltb-false room maxLine p) (try t cap n at) (triesAt t cap (n + linesOf f) (pastLines (linesOf f) t at)) q)
-          (led-on (blockLine t (try t cap n at)) _ e (omega arith) (omega (arith, m, k)) (ih (room - length (blockLine t (try t cap n at))) (n + linesOf f) (pastLines (linesOf f) t at) (omega (arith, h, m, k)) (omega (arith, b, m))))
+          (led-on (blockLine t (try t cap n at)) _ e (omega arith) (omega (arith, m, k)) (ih (room - length (blockLine t (try t cap n at))) (n + linesOf f) (pastLines (linesOf f) t at) (omega (arith, h, m, k)) (omega (arith, b, m)) (past-begins (linesOf f) t at s)))
 
 -- ---- an answer, and what it leaves of the report
 
 -- nothing where the report is whole; else the report from the line on where the next call goes on
 pub data Leaves (t : List ℕ) (p : Part) : List ℕ → Type 0 where
   nothing : p .told ≡ Done → Leaves t p []
-  more : p .told ≡ More → length t ≤ maxText → 1 ≤ p .line → p .line ≤ p .at + 1 → p .at < length t → Leaves t p (reportOf t (onlyBlocks (triesAt t maxText (p .line) (p .at))))
+  more : p .told ≡ More → length t ≤ maxText → 1 ≤ p .line → p .line ≤ p .at + 1 → p .at < length t → beginsLine t (p .at) ≡ true → Leaves t p (reportOf t (onlyBlocks (triesAt t maxText (p .line) (p .at))))
 
 -- what stands in the lent memory as far as a call counts
 abbrev pub laidIn : List ℕ → Laid → List ℕ
@@ -144,20 +144,20 @@ module _ (t : List ℕ) (fits : length t ≤ maxText) where
         sum = append-nil (laidIn out R) ∙ laid-text out R ∙ rw (← p) e;
         farther = λ m. let z : _≡_ {A = ℕ} 0 1 = cc in absurd (omega arith);
       }
-  goes-by n at out h s R e (Led.part d a b c f g p) =
+  goes-by n at out h s R e (Led.part d a b c i f g p) =
       record {
         rest = reportOf t (onlyBlocks (triesAt t maxText (R .line) (R .at)));
-        leaves = Leaves.more d fits (omega arith) b c;
+        leaves = Leaves.more d fits (omega arith) b c i;
         sum = rw (laid-text out R, e) (sym (ap (λ (xs : List Try). reportOf t (onlyBlocks xs)) p ∙ report-append t (R .past) (triesAt t maxText (R .line) (R .at))));
         farther = λ m. g s;
       }
 
   -- a call that goes on where an answer says
-  pub part-goes : (n at : ℕ) (join out : List ℕ) → 1 ≤ n → n ≤ at + 1 → at ≤ length t → maxText ≤ length join → maxLine ≤ length out
+  pub part-goes : (n at : ℕ) (join out : List ℕ) → 1 ≤ n → n ≤ at + 1 → at ≤ length t → beginsLine t at ≡ true → maxText ≤ length join → maxLine ≤ length out
       → Goes-on t at out (partOf t at n (length join) (length out)) (reportOf t (onlyBlocks (triesAt t maxText n at)))
-  part-goes n at join out h b w j s =
-      rw (part-lays t at n (length join) (length out) fits (begins-at t at n w h b) j s)
-      (goes-by n at out h s _ (lay-text t (length out) (triesAt t maxText n at)) (led t maxText (length t) (length out) n at (omega arith) b))
+  part-goes n at join out h b w i j s =
+      rw (part-lays t at n (length join) (length out) fits j (begins-at t at n w h b i) s)
+      (goes-by n at out h s _ (lay-text t (length out) (triesAt t maxText n at)) (led t maxText (length t) (length out) n at (omega arith) b (λ l. i)))
 
 -- ---- the calls for a sheet
 
@@ -181,26 +181,26 @@ pub data Calls (t : List ℕ) (lend : ℕ → Lent) : ℕ → Part → List ℕ 
   next : {k : ℕ} {p : Part} {xs : List ℕ} → p .told ≡ More → Calls t lend (suc k) (shown (callAt t lend k p)) xs → Calls t lend k p (laidIn (lend k .out) (callAt t lend k p) ++ xs)
 
 module _ (t : List ℕ) (lend : ℕ → Lent) where
-  call-goes : (k : ℕ) (p : Part) → length t ≤ maxText → 1 ≤ p .line → p .line ≤ p .at + 1 → p .at < length t
+  call-goes : (k : ℕ) (p : Part) → length t ≤ maxText → 1 ≤ p .line → p .line ≤ p .at + 1 → p .at < length t → beginsLine t (p .at) ≡ true
       → Goes-on t (p .at) (lend k .out) (callAt t lend k p) (reportOf t (onlyBlocks (triesAt t maxText (p .line) (p .at))))
-  call-goes k p fits h b w = part-goes t fits (p .line) (p .at) (lend k .join) (lend k .out) h b (omega arith) (lend k .joins) (lend k .lines)
+  call-goes k p fits h b w i = part-goes t fits (p .line) (p .at) (lend k .join) (lend k .out) h b (omega arith) i (lend k .joins) (lend k .lines)
 
   -- they lay what was left, and nothing else
   calls-lay : {k : ℕ} {p : Part} {xs ys : List ℕ} → Calls t lend k p xs → Leaves t p ys → xs ≡ ys
   calls-lay (Calls.last d) (Leaves.nothing e) = refl
-  calls-lay (Calls.last d) (Leaves.more e fits h b w) = let z : _≡_ {A = ℕ} 0 1 = cc in absurd (omega arith)
+  calls-lay (Calls.last d) (Leaves.more e fits h b w i) = let z : _≡_ {A = ℕ} 0 1 = cc in absurd (omega arith)
   calls-lay (Calls.next d c) (Leaves.nothing e) = let z : _≡_ {A = ℕ} 0 1 = cc in absurd (omega arith)
-  calls-lay (Calls.next {k} {p} {xs} d c) (Leaves.more e fits h b w) =
-      let g = call-goes k p fits h b w in
+  calls-lay (Calls.next {k} {p} {xs} d c) (Leaves.more e fits h b w i) =
+      let g = call-goes k p fits h b w i in
       ap (λ (l : List ℕ). laidIn (lend k .out) (callAt t lend k p) ++ l) (calls-lay c (g .leaves)) ∙ g .sum
 
   -- they come to an end, since each goes on farther on
   calls-end : (fuel k : ℕ) (p : Part) {ys : List ℕ} → Leaves t p ys → (p .told ≡ More → length t ≤ p .at + fuel) → Calls t lend k p ys
   calls-end zero k p (Leaves.nothing e) f = Calls.last e
-  calls-end zero k p (Leaves.more e fits h b w) f = absurd (omega (arith, f e))
+  calls-end zero k p (Leaves.more e fits h b w i) f = absurd (omega (arith, f e))
   calls-end (suc fuel) k p (Leaves.nothing e) f = Calls.last e
-  calls-end (suc fuel) k p (Leaves.more e fits h b w) f =
-      let g = call-goes k p fits h b w in
+  calls-end (suc fuel) k p (Leaves.more e fits h b w i) f =
+      let g = call-goes k p fits h b w i in
       rw (← (g .sum)) (Calls.next e (calls-end fuel (suc k) (shown (callAt t lend k p)) (g .leaves) (λ m. omega (arith, f e, g .farther m))))
 
 -- ---- for any text
@@ -231,7 +231,7 @@ first-goes t lend = go (checkOf t) refl
         })
     go check.Passed e =
         let k = check-fits t e in
-        rw (blocks-are t maxText k k) (part-goes t k 1 0 (lend 0 .join) (lend 0 .out) (omega arith) (omega arith) (omega arith) (lend 0 .joins) (lend 0 .lines))
+        rw (blocks-are t maxText k k) (part-goes t k 1 0 (lend 0 .join) (lend 0 .out) (omega arith) (omega arith) (omega arith) refl (lend 0 .joins) (lend 0 .lines))
 
 -- Whatever memory is lent, the calls come to an end, and they lay the report of the sheet, each byte once and nothing else.
 module _ (t : List ℕ) (lend : ℕ → Lent) where
@@ -258,5 +258,5 @@ at-once t lent h = go (checkOf t) refl h
         let k = check-fits t e in
         let b = blocks-are t maxText k k in
         let w = one-call t size (triesAt t maxText 1 0) (rw b at h) in
-        rw (part-lays t 0 1 (length (lent .join)) size k (begins-at t 0 1 (omega arith) (omega arith) (omega arith)) (lent .joins) (lent .lines))
+        rw (part-lays t 0 1 (length (lent .join)) size k (lent .joins) (begins-at t 0 1 (omega arith) (omega arith) (omega arith) refl) (lent .lines))
         (w .0, lay-text t size (triesAt t maxText 1 0) ∙ rw (w .1, b))

@@ -2,14 +2,14 @@
 -- Assumes nothing.
 use mathlib.Core.Path.{_≡_, refl, sym, _∙_}
 use mathlib.Core.Bool.{Bool, true, false, cond, _&&_}
-use mathlib.Core.List.{List, [], append-nil}
+use mathlib.Core.List.{List, [], _∷_, append-nil}
 use Prim.Native.Nat.{ℕ, zero, suc, _+_, _-_, _≤_, _<_}
 use native.Mathlib.Nat.{zero-add}
 use native.Mathlib.Omega.{arith}
-use borrow.Author.Tests.{le-leb, lt-leb, leb-true, le-ltb, lt-ltb}
-use lib.Dec.{leb, ltb, leb·suc-suc}
-use lib.ListN.{length}
-use lib.Seq.{sets-eq}
+use borrow.Author.Tests.{eq-eqb, eqb-true, le-leb, lt-leb, leb-true, le-ltb, lt-ltb}
+use lib.Dec.{eqb, leb, ltb}
+use lib.ListN.{length, getD, drop, length-drop}
+use lib.Seq.{sets-eq, getD-drop}
 use Rattle.lists.proofs.Scan.{both}
 use Rattle.refusals.specs.Numbers.{maxText}
 use Rattle.refusals.specs.declared.Refusal.{Refusal}
@@ -17,18 +17,48 @@ use Rattle.refusals.specs.declared.Refusal.the-variants.{TextTooLong, NothingTh
 use Rattle.checks.specs.Check.{checkOf}
 use Rattle.checks.specs.declared.Check as checks
 use Rattle.checks.specs.declared.Check.the-variants as check
-use Rattle.runs.specs.Runs.{over}
+use Rattle.lines.specs.Lines.{eol, lineFrom}
+use Rattle.runs.specs.Runs.{over, pastLines}
 use Rattle.sheets.specs.Sheets.{triesAt, joinBehind}
 use Rattle.report.specs.declared.Told.{Told}
 use Rattle.report.specs.declared.Told.the-variants.{Refused, Done}
 use Rattle.report.specs.declared.Part.{Part}
 use Rattle.report.specs.Report.{refusedLine}
-use Rattle.report.specs.Parts.{maxLine, Laid, ended, behind, layFrom, mayBegin, partOf, refusal, startOf, shown}
+use Rattle.report.specs.Parts.{maxLine, Laid, ended, behind, layFrom, beginsLine, mayBegin, partOf, refusal, startOf, shown}
 use Rattle.report.specs.Steps.{Put}
 use Rattle.report.proofs.Laying.{refused-le}
 use Rattle.report.proofs.Lays.{Tells}
 
--- ---- where a line can begin
+-- ---- where a line begins
+
+pub behind-lf : (t : List ℕ) (at : ℕ) → (at ≡ 0 → ⊥) → eqb (getD t (at - 1) 0) 10 ≡ beginsLine t at
+behind-lf t zero h = absurd (h refl)
+behind-lf t (suc i) h = let e : suc i - 1 ≡ i = omega arith in rw e
+
+lf-there : (s : List ℕ) → eol s < length s → getD s (eol s) 0 ≡ 10
+unfolding eol
+lf-there [] h = absurd (omega arith)
+lf-there (b ∷ s) h = go (eqb b 10) refl h (lf-there s)
+  where
+    go : (x : Bool) → eqb b 10 ≡ x → cond x 0 (suc (eol s)) < suc (length s) → (eol s < length s → getD s (eol s) 0 ≡ 10) → getD (b ∷ s) (cond x 0 (suc (eol s))) 0 ≡ 10
+    go true e h ih = eqb-true b 10 e
+    go false e h ih = ih (omega arith)
+
+abbrev pub Begins : List ℕ → ℕ → Type 0
+Begins t at = at < length t → beginsLine t at ≡ true
+
+-- so does the line behind another, and behind several
+pub next-begins : (t : List ℕ) (at : ℕ) → Begins t (lineFrom t at .next)
+unfolding lineFrom
+next-begins t at h =
+    let l = length-drop at t in
+    let z : lineFrom t at .next ≡ suc (at + eol (drop at t)) = omega (arith, l, h) in
+    rw z (eq-eqb (getD t (at + eol (drop at t)) 0) 10 (sym (getD-drop at t (eol (drop at t)) 0) ∙ lf-there (drop at t) (omega (arith, l, h, z))))
+
+pub past-begins : (k : ℕ) (t : List ℕ) (at : ℕ) → Begins t at → Begins t (pastLines k t at)
+unfolding pastLines
+past-begins zero t at b = b
+past-begins (suc k) t at b = past-begins k t (lineFrom t at .next) (next-begins t at)
 
 module _ (t : List ℕ) (at n : ℕ) where
   pub begins-far : length t < at → false ≡ mayBegin t at n
@@ -41,21 +71,26 @@ module _ (t : List ℕ) (at n : ℕ) where
       go true = refl
       go false = refl
 
-  pub begins-is : at ≤ length t → (n ≡ 0 → ⊥) → leb (n - 1) at ≡ mayBegin t at n
-  begins-is h z = rw (le-leb at (length t) h, le-leb 1 n (omega arith)) (go n z)
+  pub begins-over : at < n - 1 → false ≡ mayBegin t at n
+  begins-over h = rw (lt-leb n (suc at) (omega arith)) (go (leb at (length t)) (leb 1 n))
     where
-      go : (m : ℕ) → (m ≡ 0 → ⊥) → leb (m - 1) at ≡ leb m (suc at)
-      go zero z = absurd (z refl)
-      go (suc m) z = let e : suc m - 1 ≡ m = omega arith in rw e (sym (leb·suc-suc m at))
+      go : (x y : Bool) → false ≡ (x && (y && false))
+      go true true = refl
+      go true false = refl
+      go false y = refl
+
+  pub begins-is : {r : Bool} → at ≤ length t → (n ≡ 0 → ⊥) → n - 1 ≤ at → r ≡ beginsLine t at → r ≡ mayBegin t at n
+  begins-is h z l e = rw (le-leb at (length t) h, le-leb 1 n (omega arith), le-leb n (suc at) (omega arith)) e
 
   pub begins-so : mayBegin t at n ≡ true → (at ≤ length t) × ((1 ≤ n) × (n ≤ at + 1))
   begins-so e =
-      let p = both (leb at (length t)) (leb 1 n && leb n (suc at)) e in
-      let q = both (leb 1 n) (leb n (suc at)) (p .1) in
-      (leb-true at (length t) (p .0), (leb-true 1 n (q .0), omega (arith, leb-true n (suc at) (q .1))))
+      let p = both (leb at (length t)) (leb 1 n && (leb n (suc at) && beginsLine t at)) e in
+      let q = both (leb 1 n) (leb n (suc at) && beginsLine t at) (p .1) in
+      let r = both (leb n (suc at)) (beginsLine t at) (q .1) in
+      (leb-true at (length t) (p .0), (leb-true 1 n (q .0), omega (arith, leb-true n (suc at) (r .0))))
 
-  pub begins-at : at ≤ length t → 1 ≤ n → n ≤ at + 1 → mayBegin t at n ≡ true
-  begins-at h l m = rw (le-leb at (length t) h, le-leb 1 n l, le-leb n (suc at) (omega arith))
+  pub begins-at : at ≤ length t → 1 ≤ n → n ≤ at + 1 → beginsLine t at ≡ true → mayBegin t at n ≡ true
+  begins-at h l m b = rw (le-leb at (length t) h, le-leb 1 n l, le-leb n (suc at) (omega arith), b)
 
   -- ---- the report from there on
 
@@ -65,16 +100,16 @@ module _ (t : List ℕ) (at n : ℕ) where
     part-long h = rw (lt-ltb maxText (length t) h)
 
     module _ (h : length t ≤ maxText) where
-      pub part-nowhere : mayBegin t at n ≡ false → partOf t at n cap size ≡ ended (Refused NothingThere)
+      pub part-join : cap < maxText → partOf t at n cap size ≡ ended (Refused JoinFull)
       unfolding partOf
-      part-nowhere e = rw (le-ltb maxText (length t) h, e)
+      part-join j = rw (le-ltb maxText (length t) h, lt-ltb cap maxText j)
 
-      module _ (e : mayBegin t at n ≡ true) where
-        pub part-join : cap < maxText → partOf t at n cap size ≡ ended (Refused JoinFull)
+      module _ (j : maxText ≤ cap) where
+        pub part-nowhere : mayBegin t at n ≡ false → partOf t at n cap size ≡ ended (Refused NothingThere)
         unfolding partOf
-        part-join j = rw (le-ltb maxText (length t) h, e, lt-ltb cap maxText j)
+        part-nowhere e = rw (le-ltb maxText (length t) h, le-ltb cap maxText j, e)
 
-        module _ (j : maxText ≤ cap) where
+        module _ (e : mayBegin t at n ≡ true) where
           pub part-full : size < maxLine → partOf t at n cap size ≡ ended (Refused CanonTooLong)
           unfolding partOf
           part-full s = rw (le-ltb maxText (length t) h, e, le-ltb cap maxText j, lt-ltb size maxLine s)

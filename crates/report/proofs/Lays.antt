@@ -133,6 +133,7 @@ pub record Lays (t join₀ out₀ : List ℕ) (R : Laid) (join out : List ℕ) (
   pub done : List ℕ
   pub past : List Try
   pub fits : length t ≤ maxText
+  pub wide : maxText ≤ length join₀
   pub within : at ≤ length t
   pub low : line ≤ at + 1
   pub same : length join ≡ length join₀
@@ -150,6 +151,7 @@ module _ (t join out : List ℕ) (at line : ℕ) where
         done = [];
         past = [];
         fits = k;
+        wide = j;
         within = w;
         low = l;
         same = refl;
@@ -199,12 +201,12 @@ module _ {t join₀ out₀ : List ℕ} {R : Laid} {join out : List ℕ} {at line
 
       pub lays-none : {p : Part} → r .block .lines ≡ 0 → p ≡ record { told = Done; len = k; at = 0; line = 0 } → Tells join₀ out₀ R p join′ out
       lays-none z q =
-          let w = stops t (length join₀) at (inv .fits) (rw is at z) in
+          let w = stops t (length join₀) at (inv .fits) (inv .wide) (rw is at z) in
           rw q (ends-so (triesAt t (length join₀) line at) Done 0 0 (rw (lay-none t has-room (triesAt t (length join₀) line at) (w .blocks line)) at (inv .rest)) (join-is ∙ sym (w .joins line join)))
 
       module _ (z : r .block .lines ≡ 0 → ⊥) where
         goes : Goes t (length join₀) at r
-        goes = rw is (goes-on t (length join₀) at (inv .fits) (λ y. z (rw is y)))
+        goes = rw is (goes-on t (length join₀) at (inv .fits) (inv .wide) (λ y. z (rw is y)))
 
         abbrev f : Found
         f = flushLeft t (length join₀) (r .at)
@@ -225,7 +227,7 @@ module _ {t join₀ out₀ : List ℕ} {R : Laid} {join out : List ℕ} {at line
         gone = upToBlock (triesAt t (length join₀) line at)
 
         joined-so : join′ ≡ joinBehind join gone
-        joined-so = join-is ∙ sym (upto-join t (length join₀) line at join (inv .fits))
+        joined-so = join-is ∙ sym (upto-join t (length join₀) line at join (inv .fits) (inv .wide))
 
         front : take (length (joinedIn f)) join′ ≡ joinedIn f
         front = rw joined-so (upto-front join (triesAt t (length join₀) line at) (goes .blocks line))
@@ -253,6 +255,7 @@ module _ {t join₀ out₀ : List ℕ} {R : Laid} {join out : List ℕ} {at line
               done = inv .done ++ L;
               past = inv .past ++ gone;
               fits = inv .fits;
+              wide = inv .wide;
               within = next-within;
               low = sum-le;
               same = join-same;

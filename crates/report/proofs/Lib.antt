@@ -3,5 +3,6 @@ pub mod Decimals
 pub mod Laying
 pub mod Lays
 pub mod Entries
+pub mod Numbers
 pub mod Calls
 pub mod Said

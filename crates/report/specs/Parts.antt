@@ -1,9 +1,9 @@
 -- The report part by part: what a call lays into lent memory, and where the next call goes on.
-use Prim.Native.Nat.{ℕ, suc, _-_}
-use mathlib.Core.Bool.{Bool, cond, _&&_}
+use Prim.Native.Nat.{ℕ, zero, suc, _-_}
+use mathlib.Core.Bool.{Bool, true, cond, _&&_}
 use mathlib.Core.List.{List, [], _∷_, _++_}
-use lib.Dec.{leb, ltb}
-use lib.ListN.{length}
+use lib.Dec.{eqb, leb, ltb}
+use lib.ListN.{length, getD}
 use Rattle.refusals.specs.Numbers.{maxText, numberOf}
 use Rattle.refusals.specs.declared.Refusal.{Refusal}
 use Rattle.refusals.specs.declared.Refusal.the-variants.{TextTooLong, NothingThere, JoinFull, CanonTooLong}
@@ -22,7 +22,8 @@ toldNo (Refused r) = numberOf r
 toldNo More = 0
 toldNo Done = 0
 
--- No line of a report is longer (proofs/Said.antt): where so many bytes are free, the next line has room, whatever it says.
+-- No line of a report is longer (proofs/Said.antt): where so many bytes are free, the next line has room, whatever it says. It is `maxText` for the canonical text and
+-- 65 for the rest: the word (5 bytes), two numbers of at most 20 digits, three tabs and the LF take 49 of them. The line of a refusal is far shorter.
 abbrev pub maxLine : ℕ
 maxLine = 65600
 
@@ -58,20 +59,26 @@ layFrom t room (x ∷ xs) = cond (ltb room maxLine) (stopped x) (behind (x ∷ [
 
 -- ---- the two entries
 
--- "no such line": whether a line of number n can begin at the place, since each line before it has a byte
-abbrev pub mayBegin : List ℕ → ℕ → ℕ → Bool
-mayBegin t at n = leb at (length t) && (leb 1 n && leb n (suc at))
+-- "Lines end at LF": a line begins at the text's front and behind each LF
+abbrev pub beginsLine : List ℕ → ℕ → Bool
+beginsLine t zero = true
+beginsLine t (suc i) = eqb (getD t i 0) 10
 
--- "text above 65,535 bytes", "no such line", "that buffer is shorter than whole sheets need", and 10 where the memory lent for the text, `size` bytes, has no room
--- for a line; the join buffer has `cap` bytes
+-- "no such line": a line begins at the place, and its number can be n, since each line before it has a byte. Behind the last line there is nothing to report, and the
+-- report is whole.
+abbrev pub mayBegin : List ℕ → ℕ → ℕ → Bool
+mayBegin t at n = leb at (length t) && (leb 1 n && (leb n (suc at) && beginsLine t at))
+
+-- "text above 65,535 bytes"; "answer 9, right after 2, for a shorter one", where the join buffer has `cap` bytes and 2 is the start's; "no such line"; and 10 where the
+-- memory lent for the text, `size` bytes, has no room for a line
 unfoldable pub partOf : List ℕ → ℕ → ℕ → ℕ → ℕ → Laid
 partOf t at n cap size =
     cond (ltb maxText (length t)) (ended (Refused TextTooLong))
-    (cond (mayBegin t at n)
     (cond (ltb cap maxText) (ended (Refused JoinFull))
+    (cond (mayBegin t at n)
     (cond (ltb size maxLine) (ended (Refused CanonTooLong))
-    (layFrom t size (triesAt t maxText n at))))
-    (ended (Refused NothingThere)))
+    (layFrom t size (triesAt t maxText n at)))
+    (ended (Refused NothingThere))))
 
 -- "For 1 or 2 the only output is `refused`, 0, 0, number."; where that line has no room, the refusal is only told
 abbrev pub refusal : ℕ → Refusal → Laid
@@ -81,7 +88,7 @@ abbrev pub startBy : List ℕ → ℕ → ℕ → checks.Check → Laid
 startBy t cap size (check.Refused r) = refusal size r
 startBy t cap size check.Passed = partOf t 0 1 cap size
 
--- "answer 9, right after 2, for a shorter one"
+-- "not UTF-8: .. the whole text elsewhere": 2 comes before what a part answers
 unfoldable pub startOf : List ℕ → ℕ → ℕ → Laid
 startOf t cap size = startBy t cap size (checkOf t)
 

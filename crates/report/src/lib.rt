@@ -19,10 +19,10 @@ ghost use Rattle.sheets.specs.Sheets.{triesAt, joinBehind};
 ghost use Rattle.report.specs.declared.Told.the-variants.{Refused, More, Done};
 ghost use Rattle.report.specs.Decimal.{decimal};
 ghost use Rattle.report.specs.Report.{refusedLine, canonLine, lineBy};
-ghost use Rattle.report.specs.Parts.{maxLine, ended, layFrom, mayBegin, partOf, refusal, startOf, shown};
+ghost use Rattle.report.specs.Parts.{maxLine, ended, layFrom, beginsLine, mayBegin, partOf, refusal, startOf, shown};
 ghost use Rattle.report.specs.Steps.{Put, front, putShort, textOf};
 
-// No line of a report is longer.
+// No line of a report is longer: a canonical text of 65,535 bytes, and 65 for the word, two numbers of at most 20 digits, three tabs and the LF.
 pub const LINE: usize = 65600;
 
 // Whether the report goes on, or why nothing is laid.
@@ -167,7 +167,18 @@ fn refused(why: Refusal) -> Part
     }
 }
 
-// Whether a line of that number can begin at the place.
+// Whether a line begins at the place.
+fn begins_line(text: &[u8], at: usize) -> bool
+    requires { ⌜ at ≤ length (now text) ⌝ }
+    ensures { λ r. ⌜ r ≡ beginsLine (now (text .entry)) at ⌝ }
+{
+    if at == 0 {
+        return true;
+    }
+    text[at - 1] == b'\n'
+}
+
+// Whether a line begins at the place, which can have that number.
 fn may_begin(text: &[u8], at: usize, line: usize) -> bool
     ensures { λ r. ⌜ r ≡ mayBegin (now (text .entry)) at line ⌝ }
 {
@@ -177,7 +188,10 @@ fn may_begin(text: &[u8], at: usize, line: usize) -> bool
     if line == 0 {
         return false;
     }
-    line - 1 <= at
+    if at < line - 1 {
+        return false;
+    }
+    begins_line(text, at)
 }
 
 // Lays the lines of the blocks from the place on, as long as there is room.
@@ -220,11 +234,11 @@ pub fn report_part(text: &[u8], at: usize, line: usize, join: &mut [u8], out: &m
     if refusals::MAX_TEXT < text.len() {
         return refused(Refusal::TextTooLong);
     }
-    if !may_begin(text, at, line) {
-        return refused(Refusal::NothingThere);
-    }
     if join.len() < refusals::MAX_TEXT {
         return refused(Refusal::JoinFull);
+    }
+    if !may_begin(text, at, line) {
+        return refused(Refusal::NothingThere);
     }
     if out.len() < LINE {
         return refused(Refusal::CanonTooLong);

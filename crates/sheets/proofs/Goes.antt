@@ -137,9 +137,9 @@ numbers t cap n m zero (r ∷ rs) buf = go (isBlock f) (numbers t cap (suc n) (s
     go true ih = refl
     go false ih = ih
 
-pub upto-join : (t : List ℕ) (cap n at : ℕ) (buf : List ℕ) → length t ≤ maxText → joinBehind buf (upToBlock (triesAt t cap n at)) ≡ joinBehind buf (nextTries t cap at)
+pub upto-join : (t : List ℕ) (cap n at : ℕ) (buf : List ℕ) → length t ≤ maxText → maxText ≤ cap → joinBehind buf (upToBlock (triesAt t cap n at)) ≡ joinBehind buf (nextTries t cap at)
 unfolding triesAt nextTries
-upto-join t cap n at buf k = rw (le-ltb maxText (length t) k) (numbers t cap n 0 0 _ buf)
+upto-join t cap n at buf k j = rw (le-ltb maxText (length t) k, le-ltb cap maxText j) (numbers t cap n 0 0 _ buf)
 
 -- ---- what is handed out
 
@@ -164,19 +164,19 @@ pub record Stops (t : List ℕ) (cap at : ℕ) (r : Next) : Type 0 where
   pub blocks : (n : ℕ) → onlyBlocks (triesAt t cap n at) ≡ []
   pub joins : (n : ℕ) (buf : List ℕ) → joinBehind buf (triesAt t cap n at) ≡ joinBehind buf (nextTries t cap at)
 
-module _ (t : List ℕ) (cap at : ℕ) (k : length t ≤ maxText) where
+module _ (t : List ℕ) (cap at : ℕ) (k : length t ≤ maxText) (j : maxText ≤ cap) where
   next-stops : Ends t cap at → Stops t cap at (nextOf t cap at)
   unfolding nextOf
   next-stops w =
       record {
-        is = rw (le-ltb maxText (length t) k, w .blocks 0);
+        is = rw (le-ltb maxText (length t) k, le-ltb cap maxText j, w .blocks 0);
         blocks = w .blocks;
-        joins = λ n buf. ap (joinBehind buf) (w .tries n) ∙ upto-join t cap n at buf k;
+        joins = λ n buf. ap (joinBehind buf) (w .tries n) ∙ upto-join t cap n at buf k j;
       }
 
   next-is : {s from : ℕ} → First t cap at s from → nextOf t cap at ≡ record { skipped = s; at = from; block = blockOf t from (flushLeft t cap from) }
   unfolding nextOf
-  next-is {s} w = rw (le-ltb maxText (length t) k, w .blocks 0, zero-add s)
+  next-is {s} w = rw (le-ltb maxText (length t) k, le-ltb cap maxText j, w .blocks 0, zero-add s)
 
   next-goes : {s from : ℕ} → First t cap at s from → Goes t cap at (nextOf t cap at)
   unfolding blockOf
@@ -192,7 +192,7 @@ module _ (t : List ℕ) (cap at : ℕ) (k : length t ≤ maxText) where
         inside = past-in (linesOf (flushLeft t cap from)) t from (omega (arith, w .within));
         blocks = w .blocks;
         tries = w .tries;
-        joins = λ n buf. ap (joinBehind buf) (w .tries n) ∙ join-append buf (upToBlock (triesAt t cap n at)) (rest n) ∙ ap (λ b. joinBehind b (rest n)) (upto-join t cap n at buf k);
+        joins = λ n buf. ap (joinBehind buf) (w .tries n) ∙ join-append buf (upToBlock (triesAt t cap n at)) (rest n) ∙ ap (λ b. joinBehind b (rest n)) (upto-join t cap n at buf k j);
       })
     where
       rest : ℕ → List Try
@@ -234,8 +234,9 @@ fits-long t cap n zero (r ∷ rs) buf e = go (isBlock f) (fits-long t cap (suc n
 
 pub join-long : (t : List ℕ) (at : ℕ) (buf : List ℕ) → length (joinBehind buf (nextTries t (length buf) at)) ≡ length buf
 unfolding nextTries triesAt joinBehind
-join-long t at buf = go (ltb maxText (length t))
+join-long t at buf = go (ltb maxText (length t)) (ltb (length buf) maxText)
   where
-    go : (x : Bool) → length (joinBehind buf (cond x [] (upToBlock (triesAt t (length buf) 0 at)))) ≡ length buf
-    go true = refl
-    go false = fits-long t (length buf) 0 0 _ buf refl
+    go : (x y : Bool) → length (joinBehind buf (cond x [] (cond y [] (upToBlock (triesAt t (length buf) 0 at))))) ≡ length buf
+    go true y = refl
+    go false true = refl
+    go false false = fits-long t (length buf) 0 0 _ buf refl

@@ -11,12 +11,13 @@ use lib.Dec.{eqb}
 use lib.ListN.{length, drop}
 use Rattle.refusals.specs.Numbers.{maxText}
 use Rattle.refusals.specs.declared.Refusal.{Refusal}
-use Rattle.refusals.specs.declared.Refusal.the-variants.{TextTooLong, NothingThere}
+use Rattle.refusals.specs.declared.Refusal.the-variants.{TextTooLong, NothingThere, JoinFull}
 use Rattle.lines.specs.Lines.{lineFrom}
 use Rattle.lines.specs.declared.LineEnd.{LineEnd}
 use Rattle.lines.proofs.Lines.{next-beyond}
 use Rattle.runs.specs.Runs.{pastLines}
-use Rattle.blocks.specs.Blocks.{nothing, found, joinHolds, blockOf, sized, flushLeft}
+use Rattle.fill.specs.declared.Outcome.the-variants.{Refused}
+use Rattle.blocks.specs.Blocks.{nothing, found, joinHolds, blockBy, blockOf, sized, flushLeft}
 use Rattle.blocks.specs.Steps.{unread}
 use Rattle.blocks.specs.declared.Block.{Block}
 use Rattle.blocks.proofs.Finds.{none-holds, sized-long, sized-is}
@@ -40,6 +41,15 @@ pub too-long : (t : List ℕ) (at : ℕ) (buf : List ℕ) {x : Block} {b : List 
 unfolding nextOf nextTries joinBehind
 too-long t at buf h w = let z = nothing-read t at buf TextTooLong (sized-long t _ h) w in rw (lt-ltb maxText (length t) h, z .0) (refl, z .1)
 
+-- "and answer 9, right after 2, for a shorter one"
+pub too-short : (t : List ℕ) (at : ℕ) (buf : List ℕ) {x : Block} {b : List ℕ} {r : Next} → length t ≤ maxText → length buf < maxText → Read t (length t) buf x b
+    → r ≡ record { skipped = 0; at = at; block = blockBy (record { outcome = Refused JoinFull; set = x .set }) 0 0 0 at }
+    → (r ≡ nextOf t (length buf) at) × (b ≡ joinBehind buf (nextTries t (length buf) at))
+unfolding nextOf nextTries joinBehind
+too-short t at buf h j w e =
+    let z = nothing-read t (length t) buf NothingThere (sized-is t _ h ∙ none-there t (length t) 0 (length buf) (omega arith)) w in
+    rw (le-ltb maxText (length t) h, lt-ltb (length buf) maxText j) (e ∙ rw (z .0), z .1)
+
 pub record Seeks (t : List ℕ) (at : ℕ) (buf₀ buf : List ℕ) (skipped from : ℕ) : Type 0 where
   pub fits : length t ≤ maxText
   pub long : length buf ≡ length buf₀
@@ -48,9 +58,12 @@ pub record Seeks (t : List ℕ) (at : ℕ) (buf₀ buf : List ℕ) (skipped from
   pub next : firstBlock t at (onlyBlocks (triesAt t (length buf₀) skipped from)) ≡ nextOf t (length buf₀) at
   pub join : joinBehind buf (upToBlock (triesAt t (length buf₀) skipped from)) ≡ joinBehind buf₀ (nextTries t (length buf₀) at)
 
-pub seeks-start : (t : List ℕ) (at : ℕ) (buf : List ℕ) → length t ≤ maxText → Seeks t at buf buf 0 at
+pub seeks-start : (t : List ℕ) (at : ℕ) (buf : List ℕ) → length t ≤ maxText → maxText ≤ length buf → Seeks t at buf buf 0 at
 unfolding nextOf nextTries
-seeks-start t at buf h = record { fits = h; long = refl; few = omega arith; next = rw (le-ltb maxText (length t) h); join = rw (le-ltb maxText (length t) h) }
+seeks-start t at buf h j =
+    let x = le-ltb maxText (length t) h in
+    let y = le-ltb (length buf) maxText j in
+    record { fits = h; long = refl; few = omega arith; next = rw (x, y); join = rw (x, y) }
 
 module _ {t : List ℕ} {at : ℕ} {buf₀ buf : List ℕ} {skipped from : ℕ} (inv : Seeks t at buf₀ buf skipped from) where
   abbrev Answers : Next → List ℕ → Type 0

@@ -6,7 +6,7 @@ use lib.Dec.{ltb}
 use lib.ListN.{length, drop}
 use Rattle.refusals.specs.Numbers.{maxText}
 use Rattle.refusals.specs.declared.Refusal.{Refusal}
-use Rattle.refusals.specs.declared.Refusal.the-variants.{TextTooLong, NothingThere}
+use Rattle.refusals.specs.declared.Refusal.the-variants.{TextTooLong, NothingThere, JoinFull}
 use Rattle.lines.specs.Lines.{rangesFrom, ranges}
 use Rattle.lines.specs.declared.Range.{Range}
 use Rattle.fill.specs.Fill.{refusing}
@@ -71,10 +71,14 @@ abbrev pub firstBlock : List ℕ → ℕ → List Try → Next
 firstBlock t at [] = nowhere NothingThere at
 firstBlock t at (x ∷ xs) = record { skipped = x .line; at = x .at; block = blockOf t (x .at) (x .found) }
 
--- the first block from the line on that begins at `at`; "text above 65,535 bytes" is refused before anything is read
+-- the first block from the line on that begins at `at`; before anything is read "text above 65,535 bytes" is refused, and a join buffer of fewer bytes: "later parts
+-- that read whole sheets are lent such a join buffer and answer 9, right after 2, for a shorter one" (2 is for the caller to ask)
 unfoldable pub nextOf : List ℕ → ℕ → ℕ → Next
-nextOf t cap at = cond (ltb maxText (length t)) (nowhere TextTooLong at) (firstBlock t at (onlyBlocks (triesAt t cap 0 at)))
+nextOf t cap at =
+    cond (ltb maxText (length t)) (nowhere TextTooLong at)
+    (cond (ltb cap maxText) (nowhere JoinFull at)
+    (firstBlock t at (onlyBlocks (triesAt t cap 0 at))))
 
 -- the tries that are made for it
 unfoldable pub nextTries : List ℕ → ℕ → ℕ → List Try
-nextTries t cap at = cond (ltb maxText (length t)) [] (upToBlock (triesAt t cap 0 at))
+nextTries t cap at = cond (ltb maxText (length t)) [] (cond (ltb cap maxText) [] (upToBlock (triesAt t cap 0 at)))

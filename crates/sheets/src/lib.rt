@@ -1,11 +1,17 @@
 // The blocks of a sheet, one after the other.
 use blocks::Block;
+use fill::Outcome;
+use refusals::Refusal;
+use sets::Attrs;
 ghost use mathlib.Core.Bool.{not};
 ghost use mathlib.Core.Path.{_≡_};
 ghost use Prim.Native.Nat.{_<_};
 ghost use lib.ListN.{length, drop};
 ghost use Rattle.lines.specs.Lines.{beforeLf};
 ghost use Rattle.sheets.specs.Sheets.{joinBehind, nextOf, nextTries};
+ghost use Rattle.refusals.specs.declared.Refusal.the-variants.{JoinFull};
+ghost use Rattle.fill.specs.declared.Outcome.the-variants.{Refused};
+ghost use Rattle.blocks.specs.Blocks.{blockBy};
 ghost use Rattle.sheets.specs.Steps.{mayOpen};
 
 // The next block: how many lines are gone past before it, where its first line begins, and what it reads. With no block `block.lines` is 0.
@@ -38,8 +44,27 @@ fn may_open(text: &[u8], at: usize) -> bool
     }
 }
 
+// The join buffer is shorter than whole sheets need; the set is an empty one.
+fn short_join(set: Attrs, at: usize) -> Next
+    ensures { λ r. ⌜ r ≡ record { skipped = 0; at = at; block = blockBy (record { outcome = Refused JoinFull; set = set }) 0 0 0 at } ⌝ }
+{
+    Next {
+        skipped: 0,
+        at,
+        block: Block {
+            outcome: Outcome::Refused(Refusal::JoinFull),
+            set,
+            lines: 0,
+            lookahead: 0,
+            joined: 0,
+            next: at,
+        },
+    }
+}
+
 // The first block from the line on that begins at `at`, its first line not indented. The caller has checked the text.
-// Where there is none, the answer of `read_at` at the text's end stands for it: an empty set made here would have every block copied field by field.
+// Where there is none, the answer of `read_at` at the text's end stands for it, and its set is handed on with 9: an empty set made here would have every block copied
+// field by field.
 pub fn next_block(text: &[u8], at: usize, join: &mut [u8]) -> Next
     ensures { λ r. ⌜ r ≡ nextOf (now (text .entry)) (length (now (join .entry))) at ⌝ }
     ensures { λ r. ⌜ now (join .exit) ≡ joinBehind (now (join .entry)) (nextTries (now (text .entry)) (length (now (join .entry))) at) ⌝ }
@@ -51,6 +76,10 @@ pub fn next_block(text: &[u8], at: usize, join: &mut [u8]) -> Next
             at,
             block,
         };
+    }
+    if join.len() < refusals::MAX_TEXT {
+        let block = blocks::read_at(text, text.len(), join);
+        return short_join(block.set, at);
     }
     let mut skipped = 0;
     let mut from = at;

@@ -1,6 +1,5 @@
 use mathlib.Core.Path.{sym, _∙_}
 use borrow.Author.Tests.{eq-eqb, ne-eqb}
-use Rattle.refused.proofs.Leaves.{full-no}
 use borrow.Author.Needs.{needs}
 use Rattle.refused.proofs.answer_of.Statement.{statement}
 use Rattle.refused.proofs.answer_of.Tie as tie
@@ -23,14 +22,17 @@ enum-known-stop c = search needs
 number-requires : tie.Need-number-requires
 number-requires c κs = search needs
 
+number-requires-2 : tie.Need-number-requires-2
+number-requires-2 c κs = search needs
+
 returns-3 : tie.Need-returns-3
-returns-3 c = rw ((c .before .before .before .stop .given) .1, full-no, eq-eqb _ 9 (sym ((c .before .number .ensures)) ∙ ((c .if3 .taken))))
+returns-3 c = rw ((c .before .before .before .before .stop .given) .1, eq-eqb _ _ (sym (c .before .before .number .ensures) ∙ (c .if3 .taken) ∙ (c .before .number2 .ensures)))
 
 returns-4 : tie.Need-returns-4
 returns-4 c = rw ((c .before .before .before .before .enum-told .given) .1, eq-eqb _ _ ((c .before .before .if1 .left)), sym ((c .before .good-line .ensures)) ∙ ((c .if2 .left)))
 
 returns-5 : tie.Need-returns-5
-returns-5 c = rw ((c .before .before .before .stop .given) .1, full-no, ne-eqb _ 9 (λ z. ((c .if3 .left)) (((c .before .number .ensures)) ∙ z)))
+returns-5 c = rw ((c .before .before .before .before .stop .given) .1, ne-eqb _ _ (λ z. (c .if3 .left) ((c .before .before .number .ensures) ∙ z ∙ sym (c .before .number2 .ensures))))
 
 pub answer-of-spec : {M : Type 1} → statement M
 answer-of-spec =
@@ -42,6 +44,7 @@ answer-of-spec =
     returns-2
     enum-known-stop
     number-requires
+    number-requires-2
     returns-3
     returns-4
     returns-5)
