@@ -10,16 +10,11 @@ use lib.Dec.{eqb, ltb}
 use lib.ListN.{length, drop, length-drop}
 use lib.Seq.{drop-nil}
 use Rattle.lists.specs.Lists.{isIn}
-use Rattle.utf8.specs.Utf8.{isUtf8}
 use Rattle.refusals.specs.Numbers.{maxText, numberOf}
 use Rattle.refusals.specs.declared.Refusal.{Refusal}
-use Rattle.refusals.specs.declared.Refusal.the-variants.{TextTooLong, NotUtf8, NothingThere, NoReading}
-use Rattle.checks.specs.Check.{checkOf}
-use Rattle.checks.specs.declared.Check.the-variants as check
-use Rattle.lines.specs.Lines.{lines, lineFrom, lineOf}
+use Rattle.refusals.specs.declared.Refusal.the-variants.{NothingThere, NoReading}
+use Rattle.lines.specs.Lines.{lines, lineFrom}
 use Rattle.lines.specs.Trim.{trim}
-use Rattle.lines.specs.declared.Line as places
-use Rattle.lines.specs.declared.Line.the-variants as place
 use Rattle.lines.proofs.Lines.{to-from, to-next, line-at, lines-end, next-beyond}
 use Rattle.payloads.specs.Payloads.{endsInClose}
 use Rattle.chain.specs.Chain.{goodLine}
@@ -29,7 +24,8 @@ use Rattle.runs.specs.declared.Stop as stops
 use Rattle.runs.specs.declared.Stop.the-variants as stop
 use Rattle.runs.proofs.Bounds.{run-by, lookahead-le, text-short, never-full}
 use Rattle.blocks.specs.declared.Length.the-variants as lengthIs
-use Rattle.blocks.specs.Blocks.{lineAt, frontOf, opensAt, Found, nothing, closedRun, ended, runFound, found, wrapped, joinedIn, lookaheadOf, linesOf, lengthOf, lengthNo, linesIn, measured, blockOf, begun, startAt, onStart, blockFound, wrappedFound, beginsIndented, flushLeft, standaloneFound, indentedFound}
+use Rattle.fronts.specs.Fronts.{lineAt, frontOf, opensAt}
+use Rattle.blocks.specs.Blocks.{Found, nothing, closedRun, ended, runFound, found, wrapped, joinedIn, lookaheadOf, linesOf, lengthOf, lengthNo, linesIn, measured, blockOf}
 use Rattle.blocks.specs.Steps.{isUnread}
 use Rattle.blocks.proofs.Finds.{unread-is}
 
@@ -77,7 +73,7 @@ unfolding isIn numberOf
 stop-given cap = run-by cap (λ so ls R. isIn given (runs.stopNo (R .stop)) ≡ true) (λ so ls. refl) (λ so l ls h. refl) (λ so ls. refl) (λ so l ls R p h ih. ih)
 
 module _ (t : List ℕ) (cap : ℕ) where
-  fair-none : (r : Refusal) → isIn given (numberOf r) ≡ true → eqb (numberOf r) 9 ≡ false → Fair t cap (nothing r)
+  pub fair-none : (r : Refusal) → isIn given (numberOf r) ≡ true → eqb (numberOf r) 9 ≡ false → Fair t cap (nothing r)
   fair-none r e n = record { number = e; lookahead = zero-le; joined = zero-le; room = λ h. n }
 
   fair-run : (at base : ℕ) → Fair t cap (runFound t at base cap)
@@ -115,40 +111,6 @@ module _ (t : List ℕ) (cap : ℕ) where
       go : (o : Bool) → Fair t cap (cond o (runFound t at base cap) (nothing NothingThere))
       go true = fair-run at base
       go false = fair-none NothingThere refl refl
-
-  fair-start : (n : ℕ) (g : ℕ → Found) → ((at : ℕ) → Fair t cap (g at)) → Fair t cap (onStart nothing g (startAt t n))
-  unfolding startAt checkOf isIn numberOf
-  fair-start n g h = go (ltb maxText (length t)) (isUtf8 t) (lineOf n t)
-    where
-      go : (x y : Bool) (l : places.Line) → Fair t cap (onStart nothing g (begun (cond x (check.Refused TextTooLong) (cond y check.Passed (check.Refused NotUtf8))) l))
-      go true y l = fair-none TextTooLong refl refl
-      go false false l = fair-none NotUtf8 refl refl
-      go false true place.Missing = fair-none NothingThere refl refl
-      go false true (place.At r) = h (r .from)
-
-  pub fair-block : (n base : ℕ) → Fair t cap (blockFound t n base cap)
-  unfolding blockFound
-  fair-block n base = fair-start n (λ at. found t at base cap) (λ at. fair-found at base)
-
-  pub fair-wraps : (n base : ℕ) → Fair t cap (wrappedFound t n base cap)
-  unfolding wrappedFound
-  fair-wraps n base = fair-start n (λ at. wrapped t at base cap) (λ at. fair-wrapped at base)
-
-  pub fair-standalone : (n : ℕ) → Fair t cap (standaloneFound t n cap)
-  unfolding standaloneFound flushLeft isIn numberOf
-  fair-standalone n = fair-start n (flushLeft t cap) (λ at. go at (beginsIndented (lineAt t at)))
-    where
-      go : (at : ℕ) (b : Bool) → Fair t cap (cond b (nothing NothingThere) (found t at 0 cap))
-      go at true = fair-none NothingThere refl refl
-      go at false = fair-found at 0
-
-  pub fair-indented : (n : ℕ) → Fair t cap (indentedFound t n cap)
-  unfolding indentedFound isIn numberOf
-  fair-indented n = go (eqb (linesOf (blockFound t n 0 cap)) 1)
-    where
-      go : (b : Bool) → Fair t cap (cond b (nothing NoReading) (blockFound t n 0 cap))
-      go true = fair-none NoReading refl refl
-      go false = fair-block n 0
 
 -- ---- "Where no run is made it is 0"
 

@@ -25,14 +25,15 @@ use Rattle.payloads.specs.Payloads.{endsInClose}
 use Rattle.runs.specs.Runs.{Run, runAt, joinedOf, over, pastLines}
 use Rattle.runs.specs.declared.Joined.{Joined}
 use Rattle.fill.specs.declared.Filled.{Filled}
-use Rattle.blocks.specs.declared.Front.{Front}
+use Rattle.fronts.specs.declared.Front.{Front}
 use Rattle.blocks.specs.declared.Length.the-variants as lengthIs
 use Rattle.blocks.specs.declared.Measure.{Measure}
 use Rattle.blocks.specs.declared.Block.{Block}
 use Rattle.runs.proofs.Bounds.{text-short}
 use Rattle.runs.specs.declared.Stop.the-variants as stop
-use Rattle.blocks.specs.Blocks.{lineAt, frontOf, opensAt, Found, nothing, closedRun, runFound, found, wrapped, joinHolds, measured, blockBy, blockOf, sized}
-use Rattle.blocks.specs.Steps.{isUnread, unread}
+use Rattle.fronts.specs.Fronts.{lineAt, frontOf, opensAt}
+use Rattle.blocks.specs.Blocks.{Found, nothing, closedRun, runFound, found, wrapped, joinHolds, measured, blockBy, unread, blockOf, sized}
+use Rattle.blocks.specs.Steps.{isUnread}
 
 -- ---- a good line is one that is read
 

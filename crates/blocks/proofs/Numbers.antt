@@ -1,4 +1,4 @@
--- The numbers of the entries by line: "elsewhere 1, 2, 3, 9 or 5 as the run meets them, 6, 7, 8"; "Measuring never gives 6 to 8".
+-- The numbers of a block at a place: "9 or 5 as the run meets them, 6, 7, 8"; "Measuring never gives 6 to 8".
 -- Assumes nothing.
 use mathlib.Core.Path.{_≡_, refl, _∙_}
 use mathlib.Core.Bool.{Bool, true, false, cond}
@@ -10,16 +10,10 @@ use lib.Dec.{eqb, ltb}
 use lib.ListN.{length}
 use lib.Seq.{slice}
 use Rattle.ascii.specs.declared.Mode.the-variants.{Loose}
-use Rattle.utf8.specs.Utf8.{isUtf8}
 use Rattle.refusals.specs.Numbers.{maxText, numberOf}
 use Rattle.refusals.specs.declared.Refusal.{Refusal}
-use Rattle.refusals.specs.declared.Refusal.the-variants.{TextTooLong, NotUtf8, NothingThere, NoReading}
-use Rattle.checks.specs.Check.{checkOf}
-use Rattle.checks.specs.declared.Check.the-variants as check
-use Rattle.lines.specs.Lines.{lineOf}
+use Rattle.refusals.specs.declared.Refusal.the-variants.{TextTooLong, NothingThere, NoReading}
 use Rattle.lines.specs.Trim.{trim}
-use Rattle.lines.specs.declared.Line as places
-use Rattle.lines.specs.declared.Line.the-variants as place
 use Rattle.payloads.specs.Payloads.{endsInClose}
 use Rattle.chain.specs.Chain.{readBlocks, goodLine}
 use Rattle.sets.specs.Types.{one}
@@ -29,9 +23,8 @@ use Rattle.runs.specs.Runs as runs
 use Rattle.runs.specs.declared.Stop as stops
 use Rattle.runs.specs.declared.Stop.the-variants as stop
 use Rattle.runs.proofs.Bounds.{text-short}
-use Rattle.blocks.specs.declared.Start as starts
-use Rattle.blocks.specs.declared.Start.the-variants as start
-use Rattle.blocks.specs.Blocks.{lineAt, frontOf, opensAt, Found, nothing, closedRun, ended, runFound, found, wrapped, linesOf, lengthOf, lengthNo, measured, blockOf, sized, begun, startAt, onStart, placeOf, lineRead, parseStandalone, blockFound, wrappedFound, beginsIndented, flushLeft, standaloneFound, unlessLine, indentedFound}
+use Rattle.fronts.specs.Fronts.{lineAt, frontOf, opensAt}
+use Rattle.blocks.specs.Blocks.{Found, nothing, closedRun, ended, runFound, found, wrapped, linesOf, lengthOf, lengthNo, measured, blockOf, sized, lineRead, unlessLine}
 
 -- ---- the line at a place, where g is the number of a good line from a place up to one
 
@@ -118,85 +111,37 @@ module _ (t : List ℕ) (at base cap : ℕ) where
     wrapped-read-no =
         by-wrapped reading t at base cap (λ f. outcomeNo (blockOf t at f .outcome)) (λ q x n. refl) (λ r h. part-no (r .text) 0 (length (r .text)) h)
 
-  -- `read_at`
-  pub sized-no : outcomeNo (blockOf t at (sized t (found t at base cap)) .outcome) ≡ cond (ltb maxText (length t)) 1 (foundNo reading t at base cap)
+  -- `read_at` and `wrapped_at`
+  by-size : (f : Found) {n : ℕ} → (length t ≤ maxText → outcomeNo (blockOf t at f .outcome) ≡ n)
+      → outcomeNo (blockOf t at (sized t f) .outcome) ≡ cond (ltb maxText (length t)) 1 n
   unfolding sized blockOf numberOf
-  sized-no = go (ltb maxText (length t)) refl
+  by-size f {n} h = go (ltb maxText (length t)) refl
     where
-      go : (x : Bool) → ltb maxText (length t) ≡ x → outcomeNo (blockOf t at (cond x (nothing TextTooLong) (found t at base cap)) .outcome) ≡ cond x 1 (foundNo reading t at base cap)
+      go : (x : Bool) → ltb maxText (length t) ≡ x → outcomeNo (blockOf t at (cond x (nothing TextTooLong) f) .outcome) ≡ cond x 1 n
       go true e = refl
-      go false e = read-no (ltb-false maxText (length t) e)
+      go false e = h (ltb-false maxText (length t) e)
 
--- ---- the entries: "1, 2, 3, ..", where h is the number of the line that begins at a place
+  pub sized-no : outcomeNo (blockOf t at (sized t (found t at base cap)) .outcome) ≡ cond (ltb maxText (length t)) 1 (foundNo reading t at base cap)
+  sized-no = by-size (found t at base cap) read-no
 
-abbrev pub lineNumber : (ℕ → ℕ) → places.Line → ℕ
-lineNumber h place.Missing = 3
-lineNumber h (place.At r) = h (r .from)
+  pub sized-wrapped-no : outcomeNo (blockOf t at (sized t (wrapped t at base cap)) .outcome) ≡ cond (ltb maxText (length t)) 1 (wrappedNo reading t at base cap)
+  sized-wrapped-no = by-size (wrapped t at base cap) wrapped-read-no
 
-abbrev pub entryNo : List ℕ → ℕ → (ℕ → ℕ) → ℕ
-entryNo t n h = cond (ltb maxText (length t)) 1 (cond (isUtf8 t) (lineNumber h (lineOf n t)) 2)
-
-module _ (t : List ℕ) (n : ℕ) where
-  by-start : (f : starts.Start → ℕ) (h : ℕ → ℕ) → ((r : Refusal) → f (start.Refused r) ≡ numberOf r) → (length t ≤ maxText → (at : ℕ) → f (start.At at) ≡ h at)
-      → f (startAt t n) ≡ entryNo t n h
-  unfolding startAt checkOf numberOf
-  by-start f h p q = go (ltb maxText (length t)) refl (isUtf8 t) (lineOf n t)
+  -- `measure_wrapped_at`: a block of one line is 5
+  pub unless-no : lengthNo (measured t at (unlessLine (found t at base cap)) .length) ≡ cond (eqb (linesOf (found t at base cap)) 1) 5 (foundNo measuring t at base cap)
+  unfolding measured numberOf
+  unless-no = go (eqb (linesOf (found t at base cap)) 1)
     where
-      go : (x : Bool) → ltb maxText (length t) ≡ x → (y : Bool) (l : places.Line)
-          → f (begun (cond x (check.Refused TextTooLong) (cond y check.Passed (check.Refused NotUtf8))) l) ≡ cond x 1 (cond y (lineNumber h l) 2)
-      go true e y l = p TextTooLong
-      go false e false l = p NotUtf8
-      go false e true place.Missing = p NothingThere
-      go false e true (place.At r) = q (ltb-false maxText (length t) e) (r .from)
+      go : (b : Bool) → lengthNo (lengthOf (cond b (nothing NoReading) (found t at base cap))) ≡ cond b 5 (foundNo measuring t at base cap)
+      go true = refl
+      go false = measured-no
 
-  -- `parse_standalone_attrs`
-  pub line-no : outcomeNo (parseStandalone t n .outcome) ≡ entryNo t n (λ at. cond (opensAt t at) (reading t (frontOf t at .from) (frontOf t at .to)) 3)
-  unfolding parseStandalone lineRead numberOf
-  line-no = by-start (λ s. outcomeNo (onStart refusing (lineRead t) s .outcome)) _ (λ r. refl) (λ k at. go k at (opensAt t at))
-    where
-      go : length t ≤ maxText → (at : ℕ) (o : Bool)
-          → outcomeNo (cond o (chainAt Loose t (frontOf t at .from) (frontOf t at .to)) (refusing NothingThere) .outcome) ≡ cond o (reading t (frontOf t at .from) (frontOf t at .to)) 3
-      go k at true = part-no t at 0 0 k t (frontOf t at .from) (frontOf t at .to) (omega arith)
-      go k at false = refl
-
-  -- `parse_standalone_attrs_block`
-  pub block-no : (cap : ℕ) → outcomeNo (blockOf t (placeOf t n) (blockFound t n 0 cap) .outcome) ≡ entryNo t n (λ at. foundNo reading t at 0 cap)
-  unfolding blockFound blockOf
-  block-no cap =
-      by-start (λ s. outcomeNo (blockOf t (onStart (λ r. 0) (λ at. at) s) (onStart nothing (λ at. found t at 0 cap) s) .outcome)) _ (λ r. refl) (λ k at. read-no t at 0 cap k)
-
-  -- `wrapped_attrs_run_at`
-  pub wrapped-no : (base cap : ℕ) → outcomeNo (blockOf t (placeOf t n) (wrappedFound t n base cap) .outcome) ≡ entryNo t n (λ at. wrappedNo reading t at base cap)
-  unfolding wrappedFound blockOf
-  wrapped-no base cap =
-      by-start (λ s. outcomeNo (blockOf t (onStart (λ r. 0) (λ at. at) s) (onStart nothing (λ at. wrapped t at base cap) s) .outcome)) _ (λ r. refl)
-      (λ k at. wrapped-read-no t at base cap k)
-
-  -- `attrs_block_len_at`
-  pub length-no : (column cap : ℕ) → lengthNo (measured t (placeOf t n) (blockFound t n column cap) .length) ≡ entryNo t n (λ at. foundNo measuring t at column cap)
-  unfolding blockFound measured
-  length-no column cap =
-      by-start (λ s. lengthNo (lengthOf (onStart nothing (λ at. found t at column cap) s))) _ (λ r. refl) (λ k at. measured-no t at column cap)
-
-  -- `standalone_attrs_block_len`: an indented first line is 3
-  pub standalone-no : (cap : ℕ)
-      → lengthNo (measured t (placeOf t n) (standaloneFound t n cap) .length)
-      ≡ entryNo t n (λ at. cond (beginsIndented (lineAt t at)) 3 (foundNo measuring t at 0 cap))
-  unfolding standaloneFound flushLeft measured numberOf
-  standalone-no cap = by-start (λ s. lengthNo (lengthOf (onStart nothing (flushLeft t cap) s))) _ (λ r. refl) (λ k at. go at (beginsIndented (lineAt t at)))
-    where
-      go : (at : ℕ) (b : Bool) → lengthNo (lengthOf (cond b (nothing NothingThere) (found t at 0 cap))) ≡ cond b 3 (foundNo measuring t at 0 cap)
-      go at true = refl
-      go at false = measured-no t at 0 cap
-
-  -- `indented_wrapped_attrs_block_len`: a block of one line is 5
-  pub indented-no : (cap : ℕ)
-      → lengthNo (measured t (placeOf t n) (indentedFound t n cap) .length)
-      ≡ entryNo t n (λ at. cond (eqb (linesOf (found t at 0 cap)) 1) 5 (foundNo measuring t at 0 cap))
-  unfolding indentedFound blockFound measured numberOf
-  indented-no cap =
-      by-start (λ s. lengthNo (lengthOf (unlessLine (onStart nothing (λ at. found t at 0 cap) s)))) _ (λ r. refl) (λ k at. go at (eqb (linesOf (found t at 0 cap)) 1))
-    where
-      go : (at : ℕ) (b : Bool) → lengthNo (lengthOf (cond b (nothing NoReading) (found t at 0 cap))) ≡ cond b 5 (foundNo measuring t at 0 cap)
-      go at true = refl
-      go at false = measured-no t at 0 cap
+-- `read_line`
+pub line-read-no : (t : List ℕ) (at : ℕ) → length t ≤ maxText → outcomeNo (lineRead t at .outcome) ≡ cond (opensAt t at) (reading t (frontOf t at .from) (frontOf t at .to)) 3
+unfolding lineRead numberOf
+line-read-no t at k = go (opensAt t at)
+  where
+    go : (o : Bool)
+        → outcomeNo (cond o (chainAt Loose t (frontOf t at .from) (frontOf t at .to)) (refusing NothingThere) .outcome) ≡ cond o (reading t (frontOf t at .from) (frontOf t at .to)) 3
+    go true = part-no t at 0 0 k t (frontOf t at .from) (frontOf t at .to) (omega arith)
+    go false = refl

@@ -27,7 +27,11 @@ use Rattle.runs.specs.Runs as runs
 use Rattle.runs.specs.declared.Stop as stops
 use Rattle.runs.specs.declared.Stop.the-variants as stop
 use Rattle.runs.proofs.Bounds.{run-by}
-use Rattle.blocks.specs.Blocks.{lineAt, frontOf, opensAt, Found, nothing, closedRun, ended, runFound, found, linesOf, unlessLine}
+use Rattle.fronts.specs.Fronts.{lineAt, frontOf, opensAt}
+use Rattle.fronts.specs.declared.Front.{Front}
+use Rattle.fronts.proofs.Trimmed.{front-slice}
+use Rattle.blocks.specs.Blocks.{Found, nothing, closedRun, ended, runFound, found, linesOf, unlessLine}
+use Rattle.blocks.proofs.Finds.{found-run}
 
 -- ---- a good line ends in `}`
 
@@ -52,6 +56,14 @@ good-ends t from to g = go (readBlocks Loose from (slice from to t)) refl g
     go : (r : Reading) → readBlocks Loose from (slice from to t) ≡ r → accepted r ≡ true → endsInClose (slice from to t) ≡ true
     go Reading.refused e g = let z : _≡_ {A = ℕ} 0 1 = cc in absurd (omega arith)
     go (Reading.items is) e g = let z = blocks-end (sound Loose from (slice from to t) is e) in rw (z .1) (ends-close (z .0))
+
+-- so a line that opens and doesn't end in `}` goes to the run at once
+pub open-run : (t : List ℕ) (at base cap : ℕ) {f : Front} → f ≡ frontOf t at → opensAt t at ≡ true → endsInClose (trim (lineAt t at)) ≡ false → found t at base cap ≡ runFound t at base cap
+open-run t at base cap {f} p o e = go (goodLine t (f .from) (f .to)) refl
+  where
+    go : (g : Bool) → goodLine t (f .from) (f .to) ≡ g → found t at base cap ≡ runFound t at base cap
+    go true g = contra (endsInClose (trim (lineAt t at))) (rw (front-slice t at o) at (rw p at (good-ends t (f .from) (f .to) g))) e
+    go false g = found-run t at base cap p o g e
 
 -- ---- the text of a run that closes at its first line
 

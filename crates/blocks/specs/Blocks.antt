@@ -1,47 +1,26 @@
--- Blocks by lines: which lines a block takes, what it reads, and the entries by line number.
-use Prim.Native.Nat.{ℕ, _+_}
-use mathlib.Core.Bool.{Bool, false, cond}
-use mathlib.Core.List.{List, [], _∷_}
+-- Blocks at a place: which lines a block takes, and what it reads.
+use Prim.Native.Nat.{ℕ}
+use mathlib.Core.Bool.{Bool, cond}
+use mathlib.Core.List.{List, []}
 use lib.Dec.{eqb, ltb}
-use lib.ListN.{length, drop}
-use Rattle.ascii.specs.Bytes.{isIndent}
+use lib.ListN.{length}
 use Rattle.ascii.specs.declared.Mode.the-variants.{Loose}
 use Rattle.refusals.specs.Numbers.{maxText, numberOf}
 use Rattle.refusals.specs.declared.Refusal.{Refusal}
 use Rattle.refusals.specs.declared.Refusal.the-variants.{TextTooLong, NothingThere, NoReading}
-use Rattle.checks.specs.Check.{checkOf}
-use Rattle.checks.specs.declared.Check as checks
-use Rattle.checks.specs.declared.Check.the-variants as check
-use Rattle.lines.specs.Lines.{lines, firstOf, lineFrom, lineOf}
-use Rattle.lines.specs.Trim.{trim, trimRange}
-use Rattle.lines.specs.declared.Line as places
-use Rattle.lines.specs.declared.Line.the-variants as place
-use Rattle.payloads.specs.Payloads.{beginsOpen, endsInClose}
+use Rattle.lines.specs.Trim.{trim}
+use Rattle.payloads.specs.Payloads.{endsInClose}
 use Rattle.chain.specs.Chain.{goodLine}
 use Rattle.fill.specs.Fill.{refusing, chainAt}
 use Rattle.fill.specs.declared.Filled.{Filled}
 use Rattle.runs.specs.Runs.{Run, runAt, pastLines, over}
 use Rattle.runs.specs.declared.Stop as stops
 use Rattle.runs.specs.declared.Stop.the-variants as stop
-use Rattle.blocks.specs.declared.Front.{Front}
+use Rattle.fronts.specs.Fronts.{lineAt, frontOf, opensAt}
 use Rattle.blocks.specs.declared.Length as lengths
 use Rattle.blocks.specs.declared.Length.the-variants as lengthIs
-use Rattle.blocks.specs.declared.Start as starts
-use Rattle.blocks.specs.declared.Start.the-variants as start
 use Rattle.blocks.specs.declared.Measure.{Measure}
 use Rattle.blocks.specs.declared.Block.{Block}
-
--- ---- the line that begins at a place, trimmed
-
-unfoldable pub lineAt : List ℕ → ℕ → List ℕ
-lineAt t at = firstOf (lines (drop at t))
-
-unfoldable pub frontOf : List ℕ → ℕ → Front
-frontOf t at = record { from = at + trimRange (lineAt t at) .from; to = at + trimRange (lineAt t at) .to; next = lineFrom t at .next }
-
--- "trimmed line doesn't start with `{`"
-unfoldable pub opensAt : List ℕ → ℕ → Bool
-opensAt t at = beginsOpen (trim (lineAt t at))
 
 -- ---- which lines a block takes
 
@@ -119,6 +98,10 @@ linesIn (lengthIs.Lines n) = n
 unfoldable pub measured : List ℕ → ℕ → Found → Measure
 measured t at f = record { length = lengthOf f; lookahead = lookaheadOf f; joined = length (joinedIn f); next = pastLines (linesOf f) t at }
 
+-- "`indented_wrapped_attrs_block_len` answers 5 for a block of one line."
+abbrev pub unlessLine : Found → Found
+unlessLine f = cond (eqb (linesOf f) 1) (nothing NoReading) f
+
 -- ---- reading: "A set has ranges of one text: the lent one or, for a wrapped run, the joined text"
 
 abbrev pub textIn : List ℕ → Found → List ℕ
@@ -134,60 +117,17 @@ filledBy t at (Found.none q x n) = refusing q
 abbrev pub blockBy : Filled → ℕ → ℕ → ℕ → ℕ → Block
 blockBy f n look joined next = record { outcome = f .outcome; set = f .set; lines = n; lookahead = look; joined = joined; next = next }
 
+-- a refusal, with what was joined by then
+abbrev pub unread : Refusal → ℕ → ℕ → ℕ → Block
+unread r look joined at = blockBy (refusing r) 0 look joined at
+
 unfoldable pub blockOf : List ℕ → ℕ → Found → Block
 blockOf t at f = blockBy (filledBy t at f) (linesOf f) (lookaheadOf f) (length (joinedIn f)) (pastLines (linesOf f) t at)
 
--- a text above the size is refused before anything is read (by `read_at`, since a set's places are 16-bit numbers)
+-- a text above the size is refused before anything is read (by `read_at` and `wrapped_at`, since a set's places are 16-bit numbers)
 unfoldable pub sized : List ℕ → Found → Found
 sized t f = cond (ltb maxText (length t)) (nothing TextTooLong) f
-
--- ---- the entries by line number: "elsewhere 1, 2, 3, .."
-
--- where the line of a number begins, or 1, 2, or 3: "no such line"
-abbrev pub begun : checks.Check → places.Line → starts.Start
-begun (check.Refused r) l = start.Refused r
-begun check.Passed place.Missing = start.Refused NothingThere
-begun check.Passed (place.At r) = start.At (r .from)
-
-unfoldable pub startAt : List ℕ → ℕ → starts.Start
-startAt t n = begun (checkOf t) (lineOf n t)
-
-abbrev pub onStart : {A : Type 0} → (Refusal → A) → (ℕ → A) → starts.Start → A
-onStart f g (start.Refused r) = f r
-onStart f g (start.At at) = g at
-
--- the line's place, 0 where there is none
-abbrev pub placeOf : List ℕ → ℕ → ℕ
-placeOf t n = onStart (λ r. 0) (λ at. at) (startAt t n)
 
 -- `parse_standalone_attrs`: the line alone, no run
 unfoldable pub lineRead : List ℕ → ℕ → Filled
 lineRead t at = cond (opensAt t at) (chainAt Loose t (frontOf t at .from) (frontOf t at .to)) (refusing NothingThere)
-
-unfoldable pub parseStandalone : List ℕ → ℕ → Filled
-parseStandalone t n = onStart refusing (lineRead t) (startAt t n)
-
--- `parse_standalone_attrs_block`, and `attrs_block_len_at` of a column: "adds its column to the first line's brace column"
-unfoldable pub blockFound : List ℕ → ℕ → ℕ → ℕ → Found
-blockFound t n base cap = onStart nothing (λ at. found t at base cap) (startAt t n)
-
-unfoldable pub wrappedFound : List ℕ → ℕ → ℕ → ℕ → Found
-wrappedFound t n base cap = onStart nothing (λ at. wrapped t at base cap) (startAt t n)
-
--- "for `standalone_attrs_block_len`, first line starts with space or tab"
-abbrev pub beginsIndented : List ℕ → Bool
-beginsIndented [] = false
-beginsIndented (b ∷ s) = isIndent b
-
-unfoldable pub flushLeft : List ℕ → ℕ → ℕ → Found
-flushLeft t cap at = cond (beginsIndented (lineAt t at)) (nothing NothingThere) (found t at 0 cap)
-
-unfoldable pub standaloneFound : List ℕ → ℕ → ℕ → Found
-standaloneFound t n cap = onStart nothing (flushLeft t cap) (startAt t n)
-
--- "`indented_wrapped_attrs_block_len` answers 5 for a block of one line."
-abbrev pub unlessLine : Found → Found
-unlessLine f = cond (eqb (linesOf f) 1) (nothing NoReading) f
-
-unfoldable pub indentedFound : List ℕ → ℕ → ℕ → Found
-indentedFound t n cap = unlessLine (blockFound t n 0 cap)

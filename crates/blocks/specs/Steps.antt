@@ -1,21 +1,12 @@
 -- What the code's own functions promise of a block that isn't read. No definition of a public promise rests on these.
-use Prim.Native.Nat.{ℕ}
 use mathlib.Core.Bool.{Bool, false}
 use lib.Dec.{eqb}
 use Rattle.refusals.specs.Numbers.{numberOf}
-use Rattle.refusals.specs.declared.Refusal.{Refusal}
 use Rattle.refusals.specs.declared.Refusal.the-variants.{NoReading}
-use Rattle.fill.specs.Fill.{refusing}
 use Rattle.fill.specs.declared.Outcome.{Outcome}
 use Rattle.fill.specs.declared.Outcome.the-variants.{Refused, Done}
-use Rattle.blocks.specs.declared.Block.{Block}
-use Rattle.blocks.specs.Blocks.{blockBy}
 
 -- whether the grammar refuses: 5
 abbrev pub isUnread : Outcome → Bool
 isUnread Done = false
 isUnread (Refused r) = eqb (numberOf r) (numberOf NoReading)
-
--- a refusal, with what was joined by then
-abbrev pub unread : Refusal → ℕ → ℕ → ℕ → Block
-unread r look joined at = blockBy (refusing r) 0 look joined at

@@ -1,2 +1,3 @@
 -- The laws that the proofs cite.
+pub mod Search
 pub mod Walks

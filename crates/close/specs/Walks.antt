@@ -1,4 +1,4 @@
--- The quick test's states and answers, as the code has them.
+-- What the quick test's private functions promise: its states and answers, as the code has them.
 use mathlib.Core.Path.{_≡_}
 use mathlib.Core.Bool.{Bool, true, false}
 use Rattle.grammar.specs.Quick as quick

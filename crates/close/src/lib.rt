@@ -1,71 +1,46 @@
 // Where a block closes, and the quick test of what stands in it.
 ghost use mathlib.Core.Path.{_≡_};
-ghost use Rattle.grammar.specs.Close.{bareStep, stepOf, findClose};
+ghost use mathlib.Core.Bool.{true};
+ghost use lib.ListN.{drop};
+ghost use Rattle.ascii.specs.Bytes.{isQuote};
+ghost use Rattle.grammar.specs.Close.{findClose};
 ghost use Rattle.grammar.specs.Quick.{edge, quickStep, quickRefuses};
+ghost use Rattle.close.specs.Steps.{goesOn, Shuts};
 ghost use Rattle.close.specs.Walks.{walkOf, Leads};
 use grammar::Place;
-use grammar::Quote;
-use grammar::Scan;
-use grammar::Step;
 
-// A byte outside quotes that no backslash covers.
-fn outside(b: u8) -> Step
-    ensures { λ r. ⌜ r ≡ bareStep Quote.Out b ⌝ }
+// Whether the line goes on at k: a byte that is no LF stands there.
+fn goes_on(s: &[u8], k: usize) -> bool
+    ensures { λ r. ⌜ r ≡ goesOn (drop k (now (s .entry))) ⌝ }
 {
-    if b == b'}' {
-        return Step::Closed;
+    if s.len() <= k {
+        return false;
     }
-    if ascii::is_quote(b) {
-        return Step::Go(Scan {
-            quote: Quote::In(b),
-            escaped: false,
-        });
-    }
-    Step::Go(Scan {
-        quote: Quote::Out,
-        escaped: false,
-    })
+    s[k] != b'\n'
 }
 
-// A byte in the quote k that no backslash covers.
-fn inside(k: u8, b: u8) -> Step
-    ensures { λ r. ⌜ r ≡ bareStep (Quote.In k) b ⌝ }
+// Where the quote q closes, from i on; an LF before that means no close.
+fn quote_close(s: &[u8], i: usize, q: u8) -> Place
+    requires { ⌜ isQuote q ≡ true ⌝ }
+    ensures { λ r. ⌜ Shuts (now (s .entry)) q i r ⌝ }
 {
-    if b == k {
-        return Step::Go(Scan {
-            quote: Quote::Out,
-            escaped: false,
-        });
-    }
-    Step::Go(Scan {
-        quote: Quote::In(k),
-        escaped: false,
-    })
-}
-
-// A byte of the search.
-fn step_by(st: Scan, b: u8) -> Step
-    ensures { λ r. ⌜ r ≡ stepOf st b ⌝ }
-{
-    let q = st.quote;
-    if b == b'\n' {
-        return Step::Broken;
-    }
-    if st.escaped {
-        return Step::Go(Scan {
-            quote: q,
-            escaped: false,
-        });
-    }
-    if b == b'\\' {
-        return Step::Go(Scan {
-            quote: q,
-            escaped: true,
-        });
-    }
-    match q {
-        Quote::Out => outside(b),
-        Quote::In(k) => inside(k, b),
+    let mut k = i;
+    'bytes: loop {
+        if !goes_on(s, k) {
+            break 'bytes Place::Nothing;
+        }
+        if s[k] == q {
+            break 'bytes Place::At(k);
+        }
+        if s[k] == b'\\' {
+            if !goes_on(s, k + 1) {
+                break 'bytes Place::Nothing;
+            }
+            k += 2;
+            continue 'bytes;
+        }
+        k += 1;
+        continue 'bytes;
     }
 }
 
@@ -73,20 +48,33 @@ fn step_by(st: Scan, b: u8) -> Step
 pub fn find_close(s: &[u8], at: usize) -> Place
     ensures { λ r. ⌜ r ≡ findClose (now (s .entry)) at ⌝ }
 {
-    let mut st = Scan {
-        quote: Quote::Out,
-        escaped: false,
-    };
     let mut i = at;
-    while i < s.len() {
-        match step_by(st, s[i]) {
-            Step::Closed => return Place::At(i),
-            Step::Broken => return Place::Nothing,
-            Step::Go(v) => st = v,
+    'bytes: loop {
+        if !goes_on(s, i) {
+            break 'bytes Place::Nothing;
         }
-        i += 1;
+        match s[i] {
+            b'}' => break 'bytes Place::At(i),
+            b'\\' => {
+                if !goes_on(s, i + 1) {
+                    break 'bytes Place::Nothing;
+                }
+                i += 2;
+                continue 'bytes;
+            }
+            b'"' | b'\'' => match quote_close(s, i + 1, s[i]) {
+                Place::Nothing => break 'bytes Place::Nothing,
+                Place::At(e) => {
+                    i = e + 1;
+                    continue 'bytes;
+                }
+            },
+            _ => {
+                i += 1;
+                continue 'bytes;
+            }
+        }
     }
-    Place::Nothing
 }
 
 // Where the quick test stands: between tokens, behind `#` or `.`, in the name behind that, in a key or bare name, behind `=`.

@@ -28,7 +28,9 @@ use Rattle.chain.specs.Chain.{blocksFrom, readBlocks, goodLine}
 use Rattle.fill.specs.Fill.{limited, chainAt}
 use Rattle.joins.specs.Joins.{passes}
 use Rattle.runs.specs.Runs.{runFrom, runAt}
-use Rattle.blocks.specs.Blocks.{lineAt, frontOf, opensAt, runFound, found, flushLeft}
+use Rattle.fronts.specs.Fronts.{lineAt, frontOf, opensAt}
+use Rattle.blocks.specs.Blocks.{runFound, found}
+use Rattle.entries.specs.Entries.{flushLeft}
 use Rattle.sheets.specs.Sheets.{triesFrom, onlyBlocks, blocksOf}
 use Rattle.report.specs.Decimal.{placesIn, places, decimal}
 use Rattle.report.specs.Report.{reportLine, refusedLine, canonLine, blockLine, reportOf, report}

@@ -10,6 +10,7 @@ use lib.ListN.{length, getD, set, take, length-append, length-map, length-set}
 use lib.Seq.{take-append-seam, length-take-le}
 use borrow.Author.Tests.{le-ltb}
 use Rattle.lists.specs.Lists.{isSome}
+use Rattle.lists.proofs.More.{contra}
 use Rattle.ascii.specs.declared.Mode.{Mode}
 use Rattle.refusals.specs.declared.Refusal.{Refusal}
 use Rattle.refusals.specs.declared.Refusal.the-variants.{NoReading}
@@ -30,9 +31,10 @@ use Rattle.fill.specs.declared.Next.the-variants.{Last, Unread, Closing}
 use Rattle.fill.specs.declared.Push as pushes
 use Rattle.fill.specs.declared.Push.the-variants.{End, Bad}
 use Rattle.fill.specs.declared.Filled.{Filled}
-use Rattle.fill.specs.declared.Outcome.the-variants.{Done}
+use Rattle.fill.specs.declared.Outcome.{Outcome}
+use Rattle.fill.specs.declared.Outcome.the-variants.{Refused, Done}
 use Rattle.fill.specs.Fill.{refusing, limited}
-use Rattle.fill.specs.Walk.{Rest, before, restOf, chainRest, tokensAt, Opened, Gives, Yields, filledFrom, overOf}
+use Rattle.fill.specs.Walk.{Rest, before, restOf, chainRest, tokensAt, Opened, Gives, Yields, filledFrom, overOf, isRefused, unlessRefused}
 use Rattle.fill.proofs.Chains as chains
 use Rattle.fill.proofs.Slots.{Shaped, shaped-none, shaped-put, slots, id-room, class-room, key-room}
 use Rattle.fill.proofs.Limits as limits
@@ -192,6 +194,19 @@ pub record Fills (t : Texts) (m : Mode) (w : List ℕ) (whole : Filled) (a : Att
   pub holds : Holds a rows
   pub stands : chains.Stands w e c
   pub rest : filledFrom t rows (chainRest m w e c) ≡ whole
+
+-- a refusal with the empty set hands out no set
+pub none : {x : Refusal} {a : Attrs} {f : Filled} → a ≡ emptySet → f ≡ record { outcome = Refused x; set = a } → f ≡ refusing x
+none e p = p ∙ (rw e)
+
+-- nothing is filled where it is refused already
+pub refused-first : (o : Outcome) (f : Filled) {a : Attrs} → isRefused o ≡ true → a ≡ emptySet → record { outcome = o; set = a } ≡ unlessRefused o f
+refused-first (Refused r) f p e = rw e
+refused-first Done f p e = contra false p refl
+
+pub goes-on : (o : Outcome) {f : Filled} → isRefused o ≡ false → f ≡ unlessRefused o f
+goes-on (Refused r) p = contra true refl p
+goes-on Done p = refl
 
 pub start : (t : Texts) (m : Mode) (w : List ℕ) (at e : ℕ) {a : Attrs} {c : Cursor} → at ≤ e → e ≤ length w → a ≡ emptySet → c ≡ tokensAt at → Fills t m w (filledFrom t noRows (chainRest m w e (tokensAt at))) a e c
 start t m w at e h l p q =

@@ -8,3 +8,4 @@ pub mod Fills
 pub mod Whole
 pub mod Meant
 pub mod Numbers
+pub mod Settled

@@ -1,7 +1,7 @@
 -- What private functions promise as they walk over a payload: nothing that a reader of the public promises has to believe.
 use Prim.Native.Nat.{ℕ, _+_, _-_, _≤_, _<_}
 use mathlib.Core.Path.{_≡_}
-use mathlib.Core.Bool.{not, cond}
+use mathlib.Core.Bool.{Bool, true, false, not, cond}
 use mathlib.Core.List.{List, [], _∷_, _++_, map}
 use lib.Dec.{ltb}
 use lib.ListN.{length, take, drop}
@@ -27,6 +27,8 @@ use Rattle.fill.specs.declared.Push.the-variants.{End, Bad, Id, Class, K
 use Rattle.fill.specs.declared.Next as nexts
 use Rattle.fill.specs.declared.Next.the-variants.{Last, Unread, Closing}
 use Rattle.fill.specs.declared.Filled.{Filled}
+use Rattle.fill.specs.declared.Outcome.{Outcome}
+use Rattle.fill.specs.declared.Outcome.the-variants.{Refused, Done}
 use Rattle.fill.specs.Fill.{refusing, limited}
 
 -- what is still to be put
@@ -167,3 +169,13 @@ countFrom n (p ∷ ps) = countFrom (counted p n) ps
 unfoldable pub overOf : ℕ → Rest → Refusal
 overOf n Rest.refused = NoReading
 overOf n (Rest.puts ps) = overBy (countFrom n ps)
+
+-- it is refused already
+abbrev pub isRefused : Outcome → Bool
+isRefused (Refused r) = true
+isRefused Done = false
+
+-- then nothing is filled
+abbrev pub unlessRefused : Outcome → Filled → Filled
+unlessRefused (Refused r) f = refusing r
+unlessRefused Done f = f

@@ -22,11 +22,12 @@ ghost use Rattle.ascii.specs.Bytes.{isSpace};
 ghost use Rattle.ascii.specs.declared.Mode.{Mode};
 ghost use Rattle.ascii.specs.declared.Mode.the-variants.{Loose};
 ghost use Rattle.refusals.specs.Numbers.{maxText};
-ghost use Rattle.sets.specs.Types.{one};
+ghost use Rattle.sets.specs.Types.{one, emptySet};
 ghost use Rattle.sets.specs.Rows.{noRows, isThere};
 ghost use Rattle.sets.specs.Puts.{valueOf};
 ghost use Rattle.fill.specs.Fill.{refusing, fillAt, chainAt};
-ghost use Rattle.fill.specs.Walk.{kindOf, tokensFrom, restOf, chainRest, cursorOf, tokensAt, InText, Opened, Yields, pieceFrom, classRest, namedRest, filledFrom, overBy, overOf};
+ghost use Rattle.fill.specs.declared.Outcome.the-variants.{Refused};
+ghost use Rattle.fill.specs.Walk.{kindOf, tokensFrom, restOf, chainRest, cursorOf, tokensAt, InText, Opened, Yields, pieceFrom, classRest, namedRest, filledFrom, overBy, overOf, isRefused, unlessRefused};
 
 // What a value is: its bytes as they stand, bytes that were quoted, or nothing behind a bare name.
 enum Kind {
@@ -59,6 +60,7 @@ enum Next {
     Closing(usize),
 }
 
+// Why no set is handed out, or that one is.
 pub enum Outcome {
     Refused(Refusal),
     Done,
@@ -282,13 +284,13 @@ fn passed_limit(w: &[u8], close: usize, c: Cursor, mode: Mode, n: usize) -> Refu
     }
 }
 
-// A refusal hands out no set.
-fn refusing(r: Refusal) -> Filled
-    ensures { λ f. ⌜ f ≡ refusing r ⌝ }
+// A refusal, with the set that goes with it.
+fn refused_by(r: Refusal, set: Attrs) -> Filled
+    ensures { λ f. ⌜ f ≡ record { outcome = Refused r; set = set } ⌝ }
 {
     Filled {
         outcome: Outcome::Refused(r),
-        set: Attrs::empty(),
+        set,
     }
 }
 
@@ -304,12 +306,12 @@ fn is_given(i: Ident) -> bool
 }
 
 // The tokens from `at` on of the block of w that closes at `close`, and then the blocks behind it; w is the text's front.
-// The set is changed where it stands; 34 slots are enough for 32 keys.
-fn fill_part(text: &[u8], w: &[u8], at: usize, close: usize, mode: Mode) -> Filled
-    requires { ⌜ (at ≤ close) × (close ≤ length (now w)) × (length (now w) ≤ maxText) ⌝ }
+// The set is changed where it stands, and a refusal hands out the empty one that it began with; 34 slots are enough for 32 keys.
+fn fill_part(text: &[u8], w: &[u8], at: usize, close: usize, mode: Mode, start: Attrs) -> Filled
+    requires { ⌜ (at ≤ close) × (close ≤ length (now w)) × (length (now w) ≤ maxText) × (start ≡ emptySet) ⌝ }
     ensures { λ r. ⌜ r ≡ filledFrom (one (now (text .entry))) noRows (chainRest mode (now (w .entry)) close (tokensAt at)) ⌝ }
 {
-    let mut set = Attrs::empty();
+    let mut set = start;
     let mut end = close;
     let mut cur = before_tokens(at);
     'pushes: loop {
@@ -319,14 +321,14 @@ fn fill_part(text: &[u8], w: &[u8], at: usize, close: usize, mode: Mode) -> Fill
                     outcome: Outcome::Done,
                     set,
                 },
-                Next::Unread => return refusing(Refusal::NoReading),
+                Next::Unread => return refused_by(Refusal::NoReading, start),
                 Next::Closing(e) => {
                     cur = before_tokens(end + 2);
                     end = e;
                     continue 'pushes;
                 }
             },
-            Push::Bad => return refusing(Refusal::NoReading),
+            Push::Bad => return refused_by(Refusal::NoReading, start),
             Push::Id(v, next) => {
                 cur = next;
                 let there = is_given(set.id);
@@ -344,7 +346,7 @@ fn fill_part(text: &[u8], w: &[u8], at: usize, close: usize, mode: Mode) -> Fill
                 cur = next;
                 let n = set.nclass as usize;
                 if Attrs::CLASSES <= n {
-                    return refusing(passed_limit(w, end, next, mode, n + 1));
+                    return refused_by(passed_limit(w, end, next, mode, n + 1), start);
                 }
                 set.classes[n] = v;
                 set.nclass = set.nclass + 1;
@@ -368,7 +370,7 @@ fn fill_part(text: &[u8], w: &[u8], at: usize, close: usize, mode: Mode) -> Fill
                     continue 'pushes;
                 }
                 if Attrs::KEYS <= n {
-                    return refusing(passed_limit(w, end, next, mode, set.nclass as usize));
+                    return refused_by(passed_limit(w, end, next, mode, set.nclass as usize), start);
                 }
                 let p = set.norder as usize;
                 set.keys[n] = Row { name, value: v };
@@ -381,6 +383,53 @@ fn fill_part(text: &[u8], w: &[u8], at: usize, close: usize, mode: Mode) -> Fill
             }
         }
     }
+}
+
+// Whether nothing is to be filled.
+fn is_refused(outcome: Outcome) -> bool
+    ensures { λ r. ⌜ r ≡ isRefused outcome ⌝ }
+{
+    match outcome {
+        Outcome::Refused(_) => true,
+        Outcome::Done => false,
+    }
+}
+
+// What `fill_part` gives, unless it is refused already. Every set begins here, so that the compiler moves sets as a whole.
+fn fill_unless(
+    no: Outcome,
+    text: &[u8],
+    w: &[u8],
+    at: usize,
+    close: usize,
+    mode: Mode,
+    start: Attrs,
+) -> Filled
+    requires { ⌜ (at ≤ close) × (close ≤ length (now w)) × (length (now w) ≤ maxText) × (start ≡ emptySet) ⌝ }
+    ensures { λ r. ⌜ r ≡ unlessRefused no (filledFrom (one (now (text .entry))) noRows (chainRest mode (now (w .entry)) close (tokensAt at))) ⌝ }
+{
+    if is_refused(no) {
+        return Filled {
+            outcome: no,
+            set: start,
+        };
+    }
+    fill_part(text, w, at, close, mode, start)
+}
+
+// A refusal hands out no set.
+pub fn refusing(r: Refusal) -> Filled
+    ensures { λ f. ⌜ f ≡ refusing r ⌝ }
+{
+    fill_unless(
+        Outcome::Refused(r),
+        b"",
+        b"",
+        0,
+        0,
+        Mode::Strict,
+        Attrs::empty(),
+    )
 }
 
 // Whether places of the text don't fit a range.
@@ -401,7 +450,7 @@ pub fn fill(text: &[u8], at: usize, end: usize, mode: Mode) -> Filled
     if s.len() <= tokens::blank_end(s, at, mode) {
         return refusing(Refusal::NoReading);
     }
-    fill_part(text, s, at, s.len(), mode)
+    fill_unless(Outcome::Done, text, s, at, s.len(), mode, Attrs::empty())
 }
 
 // The line of blocks that stands from `from` up to `to` of the text.
@@ -415,6 +464,14 @@ pub fn fill_chain(text: &[u8], from: usize, to: usize) -> Filled
     match next_block(w, from, Mode::Loose) {
         Next::Last => refusing(Refusal::NoReading),
         Next::Unread => refusing(Refusal::NoReading),
-        Next::Closing(e) => fill_part(text, w, from + 1, e, Mode::Loose),
+        Next::Closing(e) => fill_unless(
+            Outcome::Done,
+            text,
+            w,
+            from + 1,
+            e,
+            Mode::Loose,
+            Attrs::empty(),
+        ),
     }
 }

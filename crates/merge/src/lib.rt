@@ -28,16 +28,6 @@ struct Step {
     pub set: Attrs,
 }
 
-// A refusal hands out no set.
-fn refusing(r: Refusal) -> Filled
-    ensures { λ f. ⌜ f ≡ refusing r ⌝ }
-{
-    Filled {
-        outcome: Outcome::Refused(r),
-        set: Attrs::empty(),
-    }
-}
-
 // The first n classes, and zero behind them.
 fn first_classes(from: [Value; Attrs::CLASSES], n: usize) -> [Value; Attrs::CLASSES]
     requires { ⌜ n ≤ maxClasses ⌝ }
@@ -222,7 +212,7 @@ fn merge_rows(text: &[u8], a: Attrs, b: Attrs) -> Filled
     ensures { λ r. ⌜ r ≡ limited (withPuts (one (now (text .entry))) (rowsIn a) (putsBy (rowsIn b))) ⌝ }
 {
     if Attrs::CLASSES < a.nclass as usize + b.nclass as usize {
-        return refusing(Refusal::TooManyClasses);
+        return fill::refusing(Refusal::TooManyClasses);
     }
     let n = b.norder as usize;
     let mut set = a;
@@ -232,7 +222,7 @@ fn merge_rows(text: &[u8], a: Attrs, b: Attrs) -> Filled
         let slot = place.slot;
         let step = put_slot(text, set, b, slot);
         if !step.fits {
-            return refusing(Refusal::TooManyKeys);
+            return fill::refusing(Refusal::TooManyKeys);
         }
         set = step.set;
         i += 1;
@@ -248,13 +238,13 @@ pub fn merge_attrs(text: &[u8], target: Attrs, incoming: Attrs) -> Filled
     ensures { λ r. ⌜ r ≡ mergeOf (now (text .entry)) target incoming ⌝ }
 {
     match checks::check_text(text) {
-        Check::Refused(r) => refusing(r),
+        Check::Refused(r) => fill::refusing(r),
         Check::Passed => {
             if !wellformed::table_ok(text, target) {
-                return refusing(Refusal::NotWellFormed);
+                return fill::refusing(Refusal::NotWellFormed);
             }
             if !wellformed::table_ok(text, incoming) {
-                return refusing(Refusal::NotWellFormed);
+                return fill::refusing(Refusal::NotWellFormed);
             }
             merge_rows(text, cleaned(target), incoming)
         }

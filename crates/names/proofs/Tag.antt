@@ -7,7 +7,7 @@ use Prim.Native.Nat.{ℕ, suc, _+_, _-_, _<_, _≤_}
 use native.Mathlib.Nat.{zero-add, add-zero, add-suc, suc-add}
 use native.Mathlib.Omega.{arith}
 use native.Mathlib.Numerals.{add-one}
-use lib.Dec.{eqb}
+use lib.Dec.{eqb, leb}
 use lib.ListN.{length, getD, take, drop, drop-of-length-le, length-drop, length-take}
 use lib.Seq.{drop-cons, take-all}
 use borrow.Author.Tests.{lt-leb, le-leb, ne-eqb, eq-eqb}
@@ -79,6 +79,48 @@ module _ {n : ℕ} (s : List ℕ) (is : n ≡ run isAlnum s) where
   -- the rest is shorter
   pub less : {t : ℕ} → length s ≡ t → n < length s → length (take (length s - (n + 1)) (drop (n + 1) s)) < t
   less e h = simp (length-take, length-drop) (omega arith)
+
+-- ---- a byte at a time: where k bytes of the present subtag are read before i
+pub record Reads (s : List ℕ) (i k : ℕ) : Type 0 where
+  pub rest : tagFrom (drop i s) k ≡ isTag s
+  pub few : k ≤ i
+  pub within : i ≤ length s
+
+pub reads-start : (s : List ℕ) → Reads s 0 0
+unfolding isTag
+reads-start s = record { rest = refl; few = omega arith; within = omega arith }
+
+module _ {s : List ℕ} {i k : ℕ} (inv : Reads s i k) where
+  pub reads-end : length s ≤ i → isSize k ≡ isTag s
+  unfolding tagFrom
+  reads-end h = rw (drop-of-length-le s {i = i} h) at (inv .rest)
+
+  module _ (h : i < length s) where
+    ahead : tagFrom (getD s i 0 ∷ drop (suc i) s) k ≡ isTag s
+    ahead = rw (drop-cons s i 0 h) at (inv .rest)
+
+    pub reads-more : isAlnum (getD s i 0) ≡ true → Reads s (i + 1) (k + 1)
+    unfolding tagFrom
+    reads-more e = record { rest = rw (add-one i, add-one k) (rw e at ahead); few = omega (arith, inv .few); within = omega arith }
+
+    pub reads-hyphen : isAlnum (getD s i 0) ≡ false → isSize k ≡ true → getD s i 0 ≡ 45 → Reads s (i + 1) 0
+    unfolding tagFrom
+    reads-hyphen e z q = record { rest = rw (add-one i) (rw (e, z, eq-eqb (getD s i 0) 45 q) at ahead); few = omega arith; within = omega arith }
+
+    pub reads-size : isAlnum (getD s i 0) ≡ false → isSize k ≡ false → false ≡ isTag s
+    unfolding tagFrom
+    reads-size e z = rw (e, z) at ahead
+
+    pub reads-other : isAlnum (getD s i 0) ≡ false → isSize k ≡ true → (getD s i 0 ≡ 45 → ⊥) → false ≡ isTag s
+    unfolding tagFrom
+    reads-other e z q = rw (e, z, ne-eqb (getD s i 0) 45 q) at ahead
+
+pub size-none : (k : ℕ) → k < 1 → false ≡ isSize k
+size-none k h = sym (size-false k h)
+
+pub size-some : (k : ℕ) → 1 ≤ k → leb k 8 ≡ isSize k
+unfolding isSize within
+size-some k h = rw (le-leb 1 k h)
 
 -- what stands behind `:`: nothing, or a tag
 pub language-none : (s : List ℕ) → length s ≡ 0 → true ≡ isLanguage s

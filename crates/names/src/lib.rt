@@ -3,7 +3,7 @@ ghost use mathlib.Core.Path.{_≡_};
 ghost use Rattle.lists.specs.Lists.{all, run};
 ghost use Rattle.ascii.specs.Bytes.{isAlnum, isNamePart};
 ghost use Rattle.names.specs.Names.{isName, isKey, isBareName};
-ghost use Rattle.names.specs.Tags.{isTag, isLanguage};
+ghost use Rattle.names.specs.Tags.{isSize, isTag, isLanguage};
 
 // Whether each byte is a later byte of a name.
 fn all_parts(s: &[u8]) -> bool
@@ -92,6 +92,40 @@ pub fn is_tag(s: &[u8]) -> bool
     is_tag(&s[n + 1..])
 }
 
+// Whether a subtag has 1 to 8 bytes.
+fn is_size(k: usize) -> bool
+    ensures { λ r. ⌜ r ≡ isSize k ⌝ }
+{
+    if k < 1 {
+        return false;
+    }
+    k <= 8
+}
+
+// The same as `is_tag` in a loop, a byte at a time: what readers of long texts ask, since it takes no more stack for a longer tag.
+fn is_long_tag(s: &[u8]) -> bool
+    ensures { λ r. ⌜ r ≡ isTag (now (s .entry)) ⌝ }
+{
+    let mut k = 0;
+    let mut i = 0;
+    while i < s.len() {
+        if ascii::is_alnum(s[i]) {
+            k += 1;
+            i += 1;
+            continue;
+        }
+        if !is_size(k) {
+            return false;
+        }
+        if s[i] != b'-' {
+            return false;
+        }
+        k = 0;
+        i += 1;
+    }
+    is_size(k)
+}
+
 // What may stand behind `:`: nothing, or a tag.
 pub fn is_language_tag(s: &[u8]) -> bool
     ensures { λ r. ⌜ r ≡ isLanguage (now (s .entry)) ⌝ }
@@ -99,5 +133,5 @@ pub fn is_language_tag(s: &[u8]) -> bool
     if s.len() == 0 {
         return true;
     }
-    is_tag(s)
+    is_long_tag(s)
 }

@@ -1,3 +1,4 @@
 -- The definitions that the contracts of reader cite.
 pub mod Brace
 pub mod Table
+pub mod Steps

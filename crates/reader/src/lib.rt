@@ -14,7 +14,8 @@ ghost use Rattle.ascii.specs.declared.Mode.the-variants.{Strict};
 ghost use Rattle.refusals.specs.Numbers.{maxText};
 ghost use Rattle.grammar.specs.Close.{findClose};
 ghost use Rattle.grammar.specs.declared.Place.the-variants.{At};
-ghost use Rattle.reader.specs.Brace.{refusing, opensAt, readTo, finished, readAttrsAt, partTo, payloadAt};
+ghost use Rattle.reader.specs.Brace.{refusing, opensAt, readTo, readAttrsAt, partTo, payloadAt};
+ghost use Rattle.reader.specs.Steps.{answerBy};
 
 // A refusal, or the place behind the block.
 pub enum Answer {
@@ -28,12 +29,15 @@ pub struct Read {
     pub set: Attrs,
 }
 
+// A refusal hands out no set.
 fn refused(r: Refusal) -> Read
     ensures { λ f. ⌜ f ≡ refusing r ⌝ }
 {
+    let filled = fill::refusing(r);
+    let set = filled.set;
     Read {
         answer: Answer::Refused(r),
-        set: Attrs::empty(),
+        set,
     }
 }
 
@@ -47,20 +51,25 @@ fn opens_at(text: &[u8], place: usize) -> bool
     text[place] == b'{'
 }
 
-// What a filled set comes to, with the place behind the block.
+// What filling comes to, with the place behind the block.
+fn answer_of(outcome: Outcome, next: usize) -> Answer
+    ensures { λ r. ⌜ r ≡ answerBy outcome next ⌝ }
+{
+    match outcome {
+        Outcome::Refused(r) => Answer::Refused(r),
+        Outcome::Done => Answer::Next(next),
+    }
+}
+
+// The set is handed on as it was filled: a refusal's is the empty one already.
 fn handed_out(filled: Filled, next: usize) -> Read
-    ensures { λ r. ⌜ r ≡ finished filled next ⌝ }
+    ensures { λ r. ⌜ r ≡ record { answer = answerBy (filled .outcome) next; set = filled .set } ⌝ }
 {
     let outcome = filled.outcome;
-    match outcome {
-        Outcome::Refused(r) => refused(r),
-        Outcome::Done => {
-            let set = filled.set;
-            Read {
-                answer: Answer::Next(next),
-                set,
-            }
-        }
+    let set = filled.set;
+    Read {
+        answer: answer_of(outcome, next),
+        set,
     }
 }
 
@@ -71,9 +80,6 @@ fn read_payload(text: &[u8], place: usize, end: usize, mode: Mode) -> Read
 {
     if !utf8::is_utf8(&text[place + 1..end]) {
         return refused(Refusal::NotUtf8);
-    }
-    if close::attr_payload_provably_invalid(text, place) {
-        return refused(Refusal::NoReading);
     }
     handed_out(fill::fill(text, place + 1, end, mode), end + 1)
 }

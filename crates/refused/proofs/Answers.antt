@@ -5,7 +5,7 @@ use mathlib.Core.Bool.{Bool, true, false, cond, _&&_}
 use mathlib.Core.List.{List}
 use Prim.Native.Nat.{ℕ, _<_, _≤_}
 use native.Mathlib.Omega.{arith}
-use borrow.Author.Tests.{ltb-false}
+use borrow.Author.Tests.{lt-ltb, le-ltb, ltb-false}
 use lib.Dec.{eqb, ltb}
 use lib.ListN.{length, drop}
 use lib.Seq.{take-at, take-length}
@@ -23,7 +23,7 @@ use Rattle.lines.specs.declared.LineEnd.{LineEnd}
 use Rattle.lines.specs.declared.Range.{Range}
 use Rattle.lines.specs.declared.Line as places
 use Rattle.lines.specs.declared.Line.the-variants as place
-use Rattle.lines.proofs.Lines.{line-found}
+use Rattle.lines.proofs.Lines.{lines-end, line-found}
 use Rattle.columns.specs.Columns.{indentColumns, capped}
 use Rattle.columns.proofs.Laws.{indent-le, indent-whole}
 use Rattle.chain.specs.Chain.{goodLine}
@@ -34,7 +34,7 @@ use Rattle.refused.specs.declared.RefusedRun.{RefusedRun}
 use Rattle.refused.specs.declared.Ran.{Ran}
 use Rattle.refused.specs.declared.Walk.{Walk}
 use Rattle.refused.specs.declared.Walk.the-variants as walks
-use Rattle.refused.specs.Refused.{Found, commentFrom, Told, unjoined, answerBy, judged, foundIn, refusedOf, refusedRun, handedOut}
+use Rattle.refused.specs.Refused.{Found, commentFrom, Told, unjoined, answerBy, judged, foundIn, refusedOf, refusedAt, refusedRun, handedOut}
 use Rattle.spots.specs.Spots.{opens, beginsPair}
 use Rattle.refused.specs.Shown.{walkAt, shownWalk, isBlock, linesIn, paddedRun, ranOf}
 use Rattle.refused.proofs.Walking.{line, line-in, line-first, line-long}
@@ -125,7 +125,22 @@ module _ (cap : ℕ) (t : List ℕ) (at : ℕ) (h : at < length t) {l : LineEnd}
       unfolding paddedRun
       told-block x z = let b = shown-block cap (walkAt c t at) (rw x at z) in (b .0, told-walk ∙ b .1)
 
--- ---- the entry
+-- ---- the entry by a place
+
+module _ (cap : ℕ) (t : List ℕ) (at : ℕ) where
+  pub at-long : maxText < length t → refusedAt cap t at ≡ unjoined (Refused TextTooLong)
+  unfolding refusedAt
+  at-long h = rw (lt-ltb maxText (length t) h)
+
+  pub at-short : length t ≤ maxText → refusedAt cap t at ≡ refusedOf cap (lines (drop at t))
+  unfolding refusedAt
+  at-short h = rw (le-ltb maxText (length t) h)
+
+  pub at-end : length t ≤ maxText → length t ≤ at → refusedAt cap t at ≡ unjoined (No 0)
+  unfolding refusedOf
+  at-end h k = at-short h ∙ rw (lines-end t at k)
+
+-- ---- the entry by line number
 
 pub passes-short : (t : List ℕ) {c : checks.Check} → c ≡ checkOf t → c ≡ check.Passed → length t ≤ maxText
 unfolding checkOf

@@ -1,9 +1,9 @@
 -- How far a refused run looks ahead, and how long its joined text grows.
 -- Assumes nothing.
-use mathlib.Core.Path.{_≡_, refl, ap}
+use mathlib.Core.Path.{_≡_, refl}
 use mathlib.Core.Bool.{Bool, true, false, cond}
 use mathlib.Core.List.{List, [], _∷_, _++_, map, append-nil}
-use Prim.Native.Nat.{ℕ, suc, _+_, _-_, _≤_, zero-le}
+use Prim.Native.Nat.{ℕ, suc, _-_, _≤_, zero-le}
 use native.Mathlib.Omega.{arith}
 use lib.Dec.{ltb}
 use lib.ListN.{length, drop, length-drop}
@@ -15,18 +15,15 @@ use Rattle.lines.specs.Lines.{lines, lineOf}
 use Rattle.lines.specs.declared.Line as places
 use Rattle.lines.specs.declared.Line.the-variants as place
 use Rattle.lines.proofs.Trim.{trim-start}
-use Rattle.lists.specs.Lists.{run, isIn}
+use Rattle.lists.specs.Lists.{run}
 use Rattle.ascii.specs.Bytes.{isSpace}
 use Rattle.columns.specs.Columns.{indentColumns}
-use Rattle.runs.specs.Runs.{Lined, asIs, runOf, over, sizes, start}
+use Rattle.runs.specs.Runs.{Lined, asIs, runOf, sizes, start}
 use Rattle.runs.proofs.Bounds.{lookahead-sum, sizes-take, sizes-lines, costs, grows, costs-lines}
 use Rattle.spots.specs.declared.Spot.{Spot}
 use Rattle.refused.specs.declared.Answer.the-variants.{No}
-use Rattle.refused.specs.declared.Verdict as verdicts
-use Rattle.refused.specs.declared.Verdict.the-variants as verdict
-use Rattle.spots.specs.Spots.{isStray, spotAfter, opens, beginsPair, closesComment}
-use Rattle.refused.specs.Refused.{Found, onto, walkLine, On, halts, padded, enteredAt, onAfter, behind, walkFrom, onFirst, Told, unjoined, foundIn, commentFrom, refusedOf, refusedBy, refusedRun, Back, verdictOf, triedBy, tryLine, backOver, backFrom, lastOf, endedBy, unsearched, endsOf, endsBy, endsIn}
-use Rattle.refused.specs.declared.Ends.the-variants as end
+use Rattle.spots.specs.Spots.{isStray, spotAfter, opens, beginsPair}
+use Rattle.refused.specs.Refused.{Found, onto, walkLine, On, halts, padded, enteredAt, onAfter, behind, walkFrom, onFirst, Told, unjoined, foundIn, commentFrom, refusedOf, refusedBy, refusedRun}
 use Rattle.refused.specs.Shown.{linesIn}
 use Rattle.lists.proofs.More.{or-right}
 
@@ -155,6 +152,10 @@ unfolding refusedOf
 told-text cap [] = zero-le
 told-text cap (l ∷ ls) = rw (append-nil ls) at (text-upto cap l ls [] (ends-last costs no-costs cost-more (indentColumns l)))
 
+-- a run looks no further than up to the next line that opens with a brace
+pub ahead-before : (cap : ℕ) (l : List ℕ) (pre : List (List ℕ)) (m : List ℕ) (tail : List (List ℕ)) → opens m ≡ true → refusedOf cap (l ∷ (pre ++ (m ∷ tail))) .lookahead ≤ sizes (map asIs (l ∷ pre))
+ahead-before cap l pre m tail o = ahead-upto cap l pre (m ∷ tail) (ends-at sizes no-sizes size-more (indentColumns l) m tail o)
+
 -- "at most the text's length"
 pub lookahead-le : (cap : ℕ) (t : List ℕ) (n : ℕ) → refusedRun cap t n .lookahead ≤ length t
 unfolding refusedRun
@@ -174,86 +175,3 @@ text-le cap t n = go (checkOf t) (lineOf n t)
     go (check.Refused r) p = zero-le
     go check.Passed place.Missing = zero-le
     go check.Passed (place.At r) = omega (arith, told-text cap (lines (drop (r .from) t)), costs-lines (drop (r .from) t), length-drop (r .from) t)
-
--- ---- "`ends_in_refused_brace_run` reports its runs' sum, which keeps that bound."
-
--- one line of ls was tried, with so much lookahead
-record Once (ls : List (List ℕ)) (look : ℕ) : Type 0 where
-  pre : List (List ℕ)
-  m : List ℕ
-  tail : List (List ℕ)
-  whole : ls ≡ pre ++ (m ∷ tail)
-  opens-m : opens m ≡ true
-  le : look ≤ sizes (map asIs (m ∷ tail))
-
-abbrev Spent : List (List ℕ) → Bool → ℕ → Type 0
-Spent ls false look = look ≡ 0
-Spent ls true look = Once ls look
-
-abbrev Fair : List (List ℕ) → Back → Type 0
-Fair ls (Back.looking tried look buf) = Spent ls tried look
-Fair ls (Back.told a look buf) = look ≤ sizes (map asIs ls)
-
-sizes-parts : (ls ms : List (List ℕ)) → sizes (map asIs (ls ++ ms)) ≡ sizes (map asIs ls) + sizes (map asIs ms)
-unfolding sizes
-sizes-parts [] ms = omega arith
-sizes-parts (l ∷ ls) ms = omega (arith, sizes-parts ls ms)
-
-sizes-cons : (l : List ℕ) (ls : List (List ℕ)) → sizes (map asIs (l ∷ ls)) ≡ length l + sizes (map asIs ls)
-unfolding sizes
-sizes-cons l ls = refl
-
-spent-le : (ls : List (List ℕ)) (tried : Bool) (look : ℕ) → Spent ls tried look → look ≤ sizes (map asIs ls)
-spent-le ls false look h = omega arith
-spent-le ls true look h = rw (h .whole) (omega (arith, h .le, sizes-parts (h .pre) (h .m ∷ h .tail)))
-
--- the sum with the run from l on
-sum-le : (cap : ℕ) (l : List ℕ) (ls : List (List ℕ)) (tried : Bool) (look : ℕ) → Spent ls tried look → look + refusedOf cap (l ∷ ls) .lookahead ≤ sizes (map asIs (l ∷ ls))
-sum-le cap l ls false look h = omega (arith, told-ahead cap (l ∷ ls))
-sum-le cap l ls true look h =
-    let z = ahead-upto cap l (h .pre) (h .m ∷ h .tail) (ends-at sizes no-sizes size-more (indentColumns l) (h .m) (h .tail) (h .opens-m)) in
-    rw (h .whole) (omega (arith, z, h .le, sizes-parts (h .pre) (h .m ∷ h .tail), sizes-cons l (h .pre), sizes-cons l (h .pre ++ (h .m ∷ h .tail))))
-
-module _ (again : Bool) (l : List ℕ) (ls : List (List ℕ)) where
-  tried-fair : (v : verdicts.Verdict) (k : ℕ) (x : List ℕ) → opens l ≡ true → k ≤ sizes (map asIs (l ∷ ls)) → Fair (l ∷ ls) (triedBy v k x)
-  tried-fair (verdict.Told a) k x o h = h
-  tried-fair verdict.Next k x o h = record { pre = []; m = l; tail = ls; whole = refl; opens-m = o; le = h }
-
-  spent-on : (tried : Bool) (look : ℕ) → Spent ls tried look → Spent (l ∷ ls) tried look
-  spent-on false look h = h
-  spent-on true look h = record { pre = l ∷ h .pre; m = h .m; tail = h .tail; whole = ap (λ x. l ∷ x) (h .whole); opens-m = h .opens-m; le = h .le }
-
-  fair-over : (b : Back) → Fair ls b → Fair (l ∷ ls) (backOver again l ls b)
-  fair-over (Back.told a look x) h = omega (arith, h, sizes-cons l ls)
-  fair-over (Back.looking tried look x) h = go (isBlankLine l) (opens l) refl
-    where
-      go : (y z : Bool) → opens l ≡ z → Fair (l ∷ ls) (cond y (Back.told end.No look x) (cond z (tryLine again tried (suc (length ls)) look x (refusedOf (length x) (l ∷ ls))) (Back.looking tried look x)))
-      go true z o = omega (arith, spent-le ls tried look h, sizes-cons l ls)
-      go false true o =
-          tried-fair (verdictOf (refusedOf (length x) (l ∷ ls) .answer) (suc (length ls)) again tried) (look + refusedOf (length x) (l ∷ ls) .lookahead) (over (refusedOf (length x) (l ∷ ls) .text) x) o
-          (sum-le (length x) l ls tried look h)
-      go false false o = spent-on tried look h
-
-fair : (again : Bool) (buf : List ℕ) (ls : List (List ℕ)) → Fair ls (backFrom again buf ls)
-unfolding backFrom
-fair again buf [] = refl
-fair again buf (l ∷ ls) = fair-over again l ls (backFrom again buf ls) (fair again buf ls)
-
-pub looking-le : (again : Bool) (buf : List ℕ) (ls : List (List ℕ)) {tried : Bool} {look : ℕ} {x : List ℕ} → backFrom again buf ls ≡ Back.looking tried look x → look ≤ sizes (map asIs ls)
-looking-le again buf ls {tried} {look} q = spent-le ls tried look (rw q at (fair again buf ls))
-
-ended-le : (ls : List (List ℕ)) (b : Back) → Fair ls b → endedBy b .lookahead ≤ sizes (map asIs ls)
-ended-le ls (Back.looking tried look x) h = spent-le ls tried look h
-ended-le ls (Back.told a look x) h = h
-
-pub sum-of-runs : (buf t : List ℕ) → endsIn buf t .lookahead ≤ length t
-unfolding endsIn endsOf
-sum-of-runs buf t = go (checkOf t) (isIn (lastOf (lines t)) 125)
-  where
-    searched : (x : Bool) → cond x (endedBy (backFrom (closesComment (lastOf (lines t))) buf (lines t))) (unsearched end.No buf) .lookahead ≤ length t
-    searched true = omega (arith, ended-le (lines t) (backFrom (closesComment (lastOf (lines t))) buf (lines t)) (fair (closesComment (lastOf (lines t))) buf (lines t)), sizes-lines t)
-    searched false = zero-le
-
-    go : (c : checks.Check) (x : Bool) → endsBy buf t c .lookahead ≤ length t
-    go (check.Refused r) x = zero-le
-    go check.Passed x = searched (isIn (lastOf (lines t)) 125)

@@ -6,5 +6,4 @@ pub mod Padding
 pub mod Answers
 pub mod Bounds
 pub mod Copies
-pub mod Upwards
 pub mod Numbers

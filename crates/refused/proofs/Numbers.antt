@@ -1,7 +1,7 @@
--- The numbers of the two entries: 1 and 2 of the text, then 9 exactly where the run that the answer rests on is stopped by a full join buffer, else none. And the count of
--- an answer: it is No to the end, or counts no more lines than there are.
+-- The number of a run's answer: 1 and 2 of the text, then 9 exactly where the run is stopped by a full join buffer, else none. And its count: it is No to the end, or counts no
+-- more lines than there are.
 -- Assumes nothing.
-use mathlib.Core.Path.{_≡_, refl, _∙_}
+use mathlib.Core.Path.{_≡_, refl}
 use mathlib.Core.Bool.{Bool, true, false, cond}
 use mathlib.Core.List.{List, [], _∷_, append-nil}
 use Prim.Native.Nat.{ℕ, suc, _+_, _≤_, zero-le}
@@ -9,7 +9,6 @@ use native.Mathlib.Omega.{arith}
 use borrow.Author.Tests.{eqb-true}
 use lib.Dec.{eqb, ltb}
 use lib.ListN.{length, drop, length-map}
-use Rattle.lists.specs.Lists.{isIn}
 use Rattle.lists.proofs.More.{contra}
 use Rattle.utf8.specs.Utf8.{isUtf8}
 use Rattle.refusals.specs.Numbers.{maxText, numberOf}
@@ -27,11 +26,9 @@ use Rattle.runs.specs.declared.Stop.the-variants as stop
 use Rattle.spots.specs.Spots.{opens, shallowOr, beginsPair, closesComment}
 use Rattle.refused.specs.declared.Answer.{Answer}
 use Rattle.refused.specs.declared.Answer.the-variants.{No, Lines, NoEnd, Refused}
-use Rattle.refused.specs.Refused.{answerNo, answerLines, endsNo, Found, walkFrom, onFirst, unjoined, answerBy, foundIn, commentBy, commentFrom, refusedOf, refusedBy, refusedRun, Back, nextOr, verdictOf, triedBy, tryLine, backOver, backFrom, lastOf, endedBy, unsearched, endsOf, endsBy, endsIn}
-use Rattle.refused.specs.declared.Ends.the-variants as end
+use Rattle.refused.specs.Refused.{answerNo, answerLines, Found, walkFrom, onFirst, unjoined, answerBy, foundIn, commentBy, commentFrom, refusedOf, refusedBy, refusedRun}
 use Rattle.refused.specs.Shown.{linesIn}
 use Rattle.refused.proofs.Bounds.{walk-first, ends-last}
-use Rattle.refused.specs.declared.Verdict.the-variants as verdict
 
 -- ---- the run from the first of lines on
 
@@ -81,7 +78,7 @@ comment-no opener n shallow (l ∷ ls) = go (isBlankLine l) (closesComment l) (c
     go false true ih = comment-by s (suc n)
     go false false ih = ih
 
-run-no : (cap : ℕ) (ls : List (List ℕ)) → answerNo (refusedOf cap ls .answer) ≡ runNo cap ls
+pub run-no : (cap : ℕ) (ls : List (List ℕ)) → answerNo (refusedOf cap ls .answer) ≡ runNo cap ls
 unfolding refusedOf
 run-no cap [] = refl
 run-no cap (l ∷ ls) = go (opens l) (beginsPair 123 37 (trimStart l))
@@ -109,68 +106,6 @@ refused-no cap t n = go (ltb maxText (length t)) (isUtf8 t) (lineOf n t)
     go false false l = refl
     go false true place.Missing = refl
     go false true (place.At r) = run-no cap (lines (drop (r .from) t))
-
--- ---- `ends_in_refused_brace_run`
-
--- the run from the line l on, if none below it has told; k is what that one told
-abbrev pub overNo : List ℕ → List (List ℕ) → Back → ℕ → ℕ
-overNo l ls (Back.told a look buf) k = k
-overNo l ls (Back.looking tried look buf) k = cond (isBlankLine l) 0 (cond (opens l) (runNo (length buf) (l ∷ ls)) 0)
-
-unfoldable pub backNo : Bool → List ℕ → List (List ℕ) → ℕ
-backNo again buf [] = 0
-backNo again buf (l ∷ ls) = overNo l ls (backFrom again buf ls) (backNo again buf ls)
-
-next-no : (again tried : Bool) (look : ℕ) (buf : List ℕ) → endsNo (endedBy (triedBy (nextOr again tried) look buf) .answer) ≡ 0
-next-no true true look buf = refl
-next-no true false look buf = refl
-next-no false tried look buf = refl
-
-verdict-no : (a : Answer) (count : ℕ) (again tried : Bool) (look : ℕ) (buf : List ℕ) → endsNo (endedBy (triedBy (verdictOf a count again tried) look buf) .answer) ≡ answerNo a
-verdict-no (Refused r) count again tried look buf = refl
-verdict-no (No n) count again tried look buf = next-no again tried look buf
-verdict-no NoEnd count again tried look buf = next-no again tried look buf
-verdict-no (Lines n) count again tried look buf = go (eqb n count)
-  where
-    go : (b : Bool) → endsNo (endedBy (triedBy (cond b (verdict.Told end.Yes) (nextOr again tried)) look buf) .answer) ≡ 0
-    go true = refl
-    go false = next-no again tried look buf
-
-back-no : (again : Bool) (buf : List ℕ) (ls : List (List ℕ)) → endsNo (endedBy (backFrom again buf ls) .answer) ≡ backNo again buf ls
-unfolding backFrom backNo
-back-no again buf [] = refl
-back-no again buf (l ∷ ls) = go (backFrom again buf ls) (back-no again buf ls)
-  where
-    go : (b : Back) → endsNo (endedBy b .answer) ≡ backNo again buf ls → endsNo (endedBy (backOver again l ls b) .answer) ≡ overNo l ls b (backNo again buf ls)
-    go (Back.told a look x) ih = ih
-    go (Back.looking tried look x) ih = on (isBlankLine l) (opens l)
-      where
-        on : (y z : Bool)
-            → endsNo (endedBy (cond y (Back.told end.No look x) (cond z (tryLine again tried (suc (length ls)) look x (refusedOf (length x) (l ∷ ls))) (Back.looking tried look x))) .answer)
-            ≡ cond y 0 (cond z (runNo (length x) (l ∷ ls)) 0)
-        on true z = refl
-        on false false = refl
-        on false true = verdict-no (refusedOf (length x) (l ∷ ls) .answer) (suc (length ls)) again tried _ _ ∙ run-no (length x) (l ∷ ls)
-
-abbrev pub lastNo : List ℕ → List (List ℕ) → ℕ
-lastNo buf ls = cond (isIn (lastOf ls) 125) (backNo (closesComment (lastOf ls)) buf ls) 0
-
-last-no : (buf : List ℕ) (ls : List (List ℕ)) → endsNo (endsOf buf ls .answer) ≡ lastNo buf ls
-unfolding endsOf
-last-no buf ls = go (isIn (lastOf ls) 125)
-  where
-    go : (b : Bool) → endsNo (cond b (endedBy (backFrom (closesComment (lastOf ls)) buf ls)) (unsearched end.No buf) .answer) ≡ cond b (backNo (closesComment (lastOf ls)) buf ls) 0
-    go true = back-no (closesComment (lastOf ls)) buf ls
-    go false = refl
-
-pub ends-no : (buf t : List ℕ) → endsNo (endsIn buf t .answer) ≡ cond (ltb maxText (length t)) 1 (cond (isUtf8 t) (lastNo buf (lines t)) 2)
-unfolding endsIn checkOf numberOf
-ends-no buf t = go (ltb maxText (length t)) (isUtf8 t)
-  where
-    go : (x y : Bool) → endsNo (endsBy buf t (cond x (check.Refused TextTooLong) (cond y check.Passed (check.Refused NotUtf8))) .answer) ≡ cond x 1 (cond y (lastNo buf (lines t)) 2)
-    go true y = refl
-    go false false = refl
-    go false true = last-no buf (lines t)
 
 -- ---- the count of an answer
 

@@ -1,15 +1,14 @@
 -- "`refused_brace_run` answers Lines, No with a count, or No to the end": a run is refused if its only fault is a line too far left.
-use Prim.Native.Nat.{ℕ, suc, _+_, _-_, max}
+use Prim.Native.Nat.{ℕ, suc, _-_, max}
 use mathlib.Core.Bool.{Bool, true, false, cond, _&&_, _||_, not}
 use mathlib.Core.List.{List, [], _∷_}
 use lib.Dec.{eqb, ltb}
 use lib.ListN.{length, drop}
-use Rattle.lists.specs.Lists.{isIn}
 use Rattle.checks.specs.Check.{checkOf}
 use Rattle.checks.specs.declared.Check as checks
 use Rattle.checks.specs.declared.Check.the-variants as check
-use Rattle.refusals.specs.Numbers.{numberOf}
-use Rattle.refusals.specs.declared.Refusal.the-variants.{JoinFull}
+use Rattle.refusals.specs.Numbers.{maxText, numberOf}
+use Rattle.refusals.specs.declared.Refusal.the-variants.{TextTooLong, JoinFull}
 use Rattle.lines.specs.Trim.{trimStart, isBlankLine}
 use Rattle.lines.specs.Lines.{lines, lineOf}
 use Rattle.lines.specs.declared.Line as places
@@ -17,7 +16,7 @@ use Rattle.lines.specs.declared.Line.the-variants as place
 use Rattle.columns.specs.Columns.{indentColumns, most}
 use Rattle.grammar.specs.Close.{fresh}
 use Rattle.chain.specs.Chain.{goodLine}
-use Rattle.runs.specs.Runs.{Lined, Run, runOf, over}
+use Rattle.runs.specs.Runs.{Lined, Run, runOf}
 use Rattle.runs.specs.declared.Stop as stops
 use Rattle.runs.specs.declared.Stop.the-variants as stop
 use Rattle.spots.specs.declared.Spot.{Spot}
@@ -25,11 +24,6 @@ use Rattle.spots.specs.Spots.{isStray, spotAfter, opens, shallowOr, beginsPair,
 use Rattle.refused.specs.declared.Answer.{Answer}
 use Rattle.refused.specs.declared.Answer.the-variants.{No, Lines, NoEnd, Refused}
 use Rattle.refused.specs.declared.RefusedRun.{RefusedRun}
-use Rattle.refused.specs.declared.Ends as ends
-use Rattle.refused.specs.declared.Ends.the-variants as end
-use Rattle.refused.specs.declared.EndsRun.{EndsRun}
-use Rattle.refused.specs.declared.Verdict as verdicts
-use Rattle.refused.specs.declared.Verdict.the-variants as verdict
 
 -- ---- this paper's numbers and values
 
@@ -46,12 +40,6 @@ answerLines (No n) = n
 answerLines (Lines n) = n
 answerLines NoEnd = most
 answerLines (Refused r) = 0
-
--- "says yes or no, or 1, 2, 9"
-abbrev pub endsNo : ends.Ends → ℕ
-endsNo end.Yes = 0
-endsNo end.No = 0
-endsNo (end.Refused r) = numberOf r
 
 -- ---- the walk over lines
 
@@ -150,7 +138,7 @@ commentFrom opener n shallow (l ∷ ls) =
     (cond (closesComment l) (commentBy (shallowOr shallow (eqb n 0) (indentColumns l) opener) (suc n))
     (commentFrom opener (suc n) (shallowOr shallow (eqb n 0) (indentColumns l) opener) ls))
 
--- ---- the entry by line number
+-- ---- the run from the first of lines on
 
 unfoldable pub refusedOf : ℕ → List (List ℕ) → Told
 refusedOf cap [] = unjoined (No 0)
@@ -160,7 +148,12 @@ refusedOf cap (l ∷ ls) =
     (foundIn cap (walkFrom (indentColumns l) (onFirst (indentColumns l)) (l ∷ ls))))
     (unjoined (No 0))
 
--- "a missing line is No(0)"
+-- by the place at which the first line begins; "text above 65,535 bytes" is refused, and where the text ends no line begins
+unfoldable pub refusedAt : ℕ → List ℕ → ℕ → Told
+refusedAt cap t at = cond (ltb maxText (length t)) (unjoined (Refused TextTooLong)) (refusedOf cap (lines (drop at t)))
+
+-- ---- the entry by line number: "a missing line is No(0)"
+
 abbrev pub refusedBy : ℕ → List ℕ → checks.Check → places.Line → Told
 refusedBy cap t (check.Refused r) l = unjoined (Refused r)
 refusedBy cap t check.Passed place.Missing = unjoined (No 0)
@@ -171,73 +164,3 @@ refusedRun cap t n = refusedBy cap t (checkOf t) (lineOf n t)
 
 abbrev pub handedOut : Told → RefusedRun
 handedOut r = record { answer = r .answer; lookahead = r .lookahead; joined = length (r .text) }
-
--- ---- `ends_in_refused_brace_run`: from the last line upwards
-
--- still looking, with one line tried already or none, or told; the lookahead of the runs made, and what the join buffer holds
-pub data Back : Type 0 where
-  looking : Bool → ℕ → List ℕ → Back
-  told : ends.Ends → ℕ → List ℕ → Back
-
--- 000: a second line is tried only where the last one has `%}`
-abbrev pub nextOr : Bool → Bool → verdicts.Verdict
-nextOr again tried = cond (again && not tried) verdict.Next (verdict.Told end.No)
-
--- the run has to take all lines from its first to the last
-abbrev pub verdictOf : Answer → ℕ → Bool → Bool → verdicts.Verdict
-verdictOf (Refused r) count again tried = verdict.Told (end.Refused r)
-verdictOf (Lines n) count again tried = cond (eqb n count) (verdict.Told end.Yes) (nextOr again tried)
-verdictOf (No n) count again tried = nextOr again tried
-verdictOf NoEnd count again tried = nextOr again tried
-
-abbrev pub triedBy : verdicts.Verdict → ℕ → List ℕ → Back
-triedBy (verdict.Told a) look buf = Back.told a look buf
-triedBy verdict.Next look buf = Back.looking true look buf
-
--- "reports its runs' sum"; "a second run in one call writes over the front of what the first left"
-abbrev pub tryLine : Bool → Bool → ℕ → ℕ → List ℕ → Told → Back
-tryLine again tried count look buf r = triedBy (verdictOf (r .answer) count again tried) (look + r .lookahead) (over (r .text) buf)
-
--- the line l, with the lines ls behind it
-abbrev pub backOver : Bool → List ℕ → List (List ℕ) → Back → Back
-backOver again l ls (Back.told a look buf) = Back.told a look buf
-backOver again l ls (Back.looking tried look buf) =
-    cond (isBlankLine l) (Back.told end.No look buf)
-    (cond (opens l) (tryLine again tried (suc (length ls)) look buf (refusedOf (length buf) (l ∷ ls)))
-    (Back.looking tried look buf))
-
-unfoldable pub backFrom : Bool → List ℕ → List (List ℕ) → Back
-backFrom again buf [] = Back.looking false 0 buf
-backFrom again buf (l ∷ ls) = backOver again l ls (backFrom again buf ls)
-
-unfoldable pub lastOf : List (List ℕ) → List ℕ
-lastOf [] = []
-lastOf (l ∷ []) = l
-lastOf (l ∷ m ∷ ls) = lastOf (m ∷ ls)
-
--- with what the join buffer holds at the end
-pub record Ended : Type 0 where
-  pub answer : ends.Ends
-  pub lookahead : ℕ
-  pub join : List ℕ
-
-abbrev pub endedBy : Back → Ended
-endedBy (Back.looking tried look buf) = record { answer = end.No; lookahead = look; join = buf }
-endedBy (Back.told a look buf) = record { answer = a; lookahead = look; join = buf }
-
-abbrev pub unsearched : ends.Ends → List ℕ → Ended
-unsearched a buf = record { answer = a; lookahead = 0; join = buf }
-
-unfoldable pub endsOf : List ℕ → List (List ℕ) → Ended
-endsOf buf ls =
-    cond (isIn (lastOf ls) 125) (endedBy (backFrom (closesComment (lastOf ls)) buf ls)) (unsearched end.No buf)
-
-abbrev pub endsBy : List ℕ → List ℕ → checks.Check → Ended
-endsBy buf t (check.Refused r) = unsearched (end.Refused r) buf
-endsBy buf t check.Passed = endsOf buf (lines t)
-
-unfoldable pub endsIn : List ℕ → List ℕ → Ended
-endsIn buf t = endsBy buf t (checkOf t)
-
-abbrev pub endsShown : Ended → EndsRun
-endsShown e = record { answer = e .answer; lookahead = e .lookahead }

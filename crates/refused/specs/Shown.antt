@@ -1,11 +1,9 @@
 -- What private functions promise as they walk over a run: nothing that a reader of the public promises has to believe.
-use Prim.Native.Nat.{ℕ, _-_, _<_}
-use mathlib.Core.Path.{_≡_}
+use Prim.Native.Nat.{ℕ}
 use mathlib.Core.Bool.{Bool, true, false}
-use mathlib.Core.Logic.{_⊎_}
 use mathlib.Core.List.{List, [], _∷_}
-use lib.ListN.{length, drop, getD}
-use Rattle.lines.specs.Lines.{lines, lineFrom}
+use lib.ListN.{length, drop}
+use Rattle.lines.specs.Lines.{lines}
 use Rattle.runs.specs.Runs.{Lined, Run, runOf}
 use Rattle.spots.specs.declared.Spot.{Spot}
 use Rattle.refused.specs.declared.Walk.{Walk}
@@ -40,13 +38,3 @@ paddedRun cap opener t at = runOf cap 0 (linesIn (walkAt opener t at))
 
 abbrev pub ranOf : Run → Ran
 ranOf r = record { stop = r .stop; len = length (r .text); lines = r .lines; lookahead = r .lookahead }
-
--- ---- upwards: a line begins at the place, or the text ends there
-abbrev pub Edge : List ℕ → ℕ → Type 0
-Edge t at = (at ≡ 0) ⊎ ((at ≡ length t) ⊎ (getD t (at - 1) 0 ≡ 10))
-
--- the line before `at` begins at `from`
-pub record Before (t : List ℕ) (at from : ℕ) : Type 0 where
-  pub below : from < at
-  pub edge : Edge t from
-  pub next : lineFrom t from .next ≡ at

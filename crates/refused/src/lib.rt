@@ -1,4 +1,4 @@
-// Brace runs that are refused only for a line too far left, and whether a text ends in one.
+// Brace runs and comment runs that are refused only for a line too far left.
 use checks::Check;
 use grammar::Quote;
 use grammar::Scan;
@@ -21,9 +21,9 @@ ghost use Rattle.runs.specs.declared.Stop.the-variants.{Closed, Refused};
 ghost use Rattle.scanners.specs.Scanners.{holdStart};
 ghost use Rattle.grammar.specs.declared.Quote.the-variants.{Out};
 ghost use Rattle.spots.specs.Spots.{spotAfter};
-ghost use Rattle.refused.specs.Refused.{halts, padOf, enteredAt, commentBy, commentFrom, answerBy, unjoined, judged, refusedOf, refusedRun, handedOut, nextOr, verdictOf, backFrom, endedBy, endsOf, endsIn, endsShown};
+ghost use Rattle.refused.specs.Refused.{halts, padOf, enteredAt, commentBy, commentFrom, answerBy, unjoined, judged, refusedOf, refusedAt, refusedRun, handedOut};
 ghost use Rattle.refused.specs.declared.Walk.the-variants.{No};
-ghost use Rattle.refused.specs.Shown.{spotsFrom, walkAt, shownWalk, isBlock, paddedRun, ranOf, Edge, Before};
+ghost use Rattle.refused.specs.Shown.{spotsFrom, walkAt, shownWalk, isBlock, paddedRun, ranOf};
 
 // What is said of a run: it is refused and takes so many lines; it isn't, and a comment run was looked at over so many lines, or to the
 // end; or a refusal.
@@ -39,24 +39,6 @@ pub struct RefusedRun {
     pub answer: Answer,
     pub lookahead: usize,
     pub joined: usize,
-}
-
-pub enum Ends {
-    No,
-    Yes,
-    Refused(Refusal),
-}
-
-// Whether a text ends in a refused run, with the lookahead of the runs made.
-pub struct EndsRun {
-    pub answer: Ends,
-    pub lookahead: usize,
-}
-
-// What a run that was tried says of the text's end, or that the next is tried.
-enum Verdict {
-    Told(Ends),
-    Next,
 }
 
 // What the first walk finds: no block, or one of so many lines, and whether one of them stands too far left.
@@ -367,7 +349,7 @@ fn refused_block(text: &[u8], at: usize, opener: usize, count: usize, join: &mut
     }
 }
 
-// The run whose first line begins at the place.
+// The run whose first line begins at the place: over a comment if this opens one, else over blocks.
 fn refused_at(text: &[u8], at: usize, join: &mut [u8]) -> RefusedRun
     requires { ⌜ (length (now text) ≤ maxText) × (at < length (now text)) ⌝ }
     ensures { λ r. ⌜ r ≡ handedOut (refusedOf (length (now (join .entry))) (lines (drop at (now (text .entry))))) ⌝ }
@@ -393,7 +375,21 @@ fn refused_at(text: &[u8], at: usize, join: &mut [u8]) -> RefusedRun
     }
 }
 
-// Whether the brace run at the line of that number is refused only for a line too far left.
+// The run whose first line begins at the place, for a caller that has checked the text.
+pub fn refused_run_at(text: &[u8], at: usize, join: &mut [u8]) -> RefusedRun
+    ensures { λ r. ⌜ r ≡ handedOut (refusedAt (length (now (join .entry))) (now (text .entry)) at) ⌝ }
+    ensures { λ r. ⌜ now (join .exit) ≡ over (refusedAt (length (now (join .entry))) (now (text .entry)) at .text) (now (join .entry)) ⌝ }
+{
+    if refusals::MAX_TEXT < text.len() {
+        return unjoined_run(Answer::Refused(Refusal::TextTooLong));
+    }
+    if text.len() <= at {
+        return unjoined_run(Answer::No(0));
+    }
+    refused_at(text, at, join)
+}
+
+// Whether the run at the line of that number, over blocks or a comment, is refused only for a line too far left.
 pub fn refused_brace_run(text: &[u8], line: usize, join: &mut [u8]) -> RefusedRun
     ensures { λ r. ⌜ r ≡ handedOut (refusedRun (length (now (join .entry))) (now (text .entry)) line) ⌝ }
     ensures { λ r. ⌜ now (join .exit) ≡ over (refusedRun (length (now (join .entry))) (now (text .entry)) line .text) (now (join .entry)) ⌝ }
@@ -404,124 +400,5 @@ pub fn refused_brace_run(text: &[u8], line: usize, join: &mut [u8]) -> RefusedRu
             Line::Missing => unjoined_run(Answer::No(0)),
             Line::At(r) => refused_at(text, r.from, join),
         },
-    }
-}
-
-// Where the line begins that ends before the place.
-fn line_start(text: &[u8], at: usize) -> usize
-    requires { ⌜ (0 < at) × ((at ≤ length (now text)) × Edge (now text) at) ⌝ }
-    ensures { λ r. ⌜ Before (now (text .entry)) at r ⌝ }
-{
-    let mut i = at - 1;
-    while 0 < i {
-        if text[i - 1] == b'\n' {
-            return i;
-        }
-        i -= 1;
-    }
-    i
-}
-
-// Where the run that was tried doesn't end with the text: whether another is tried.
-fn next_or(again: bool, tried: bool) -> Verdict
-    ensures { λ r. ⌜ r ≡ nextOr again tried ⌝ }
-{
-    if !again {
-        return Verdict::Told(Ends::No);
-    }
-    if tried {
-        return Verdict::Told(Ends::No);
-    }
-    Verdict::Next
-}
-
-// What the answer of a run says, which began so many lines before the text's end.
-fn verdict_of(answer: Answer, count: usize, again: bool, tried: bool) -> Verdict
-    ensures { λ r. ⌜ r ≡ verdictOf answer count again tried ⌝ }
-{
-    match answer {
-        Answer::Refused(r) => Verdict::Told(Ends::Refused(r)),
-        Answer::Lines(n) => {
-            if n == count {
-                return Verdict::Told(Ends::Yes);
-            }
-            next_or(again, tried)
-        }
-        Answer::No(_) => next_or(again, tried),
-        Answer::NoEnd => next_or(again, tried),
-    }
-}
-
-// The answer with its lookahead.
-fn ended(answer: Ends, lookahead: usize) -> EndsRun
-    ensures { λ r. ⌜ r ≡ record { answer = answer; lookahead = lookahead } ⌝ }
-{
-    EndsRun { answer, lookahead }
-}
-
-// The lines that open with a brace, from the last upwards: at most two are tried.
-fn search_back(text: &[u8], again: bool, join: &mut [u8]) -> EndsRun
-    requires { ⌜ length (now text) ≤ maxText ⌝ }
-    ensures { λ r. ⌜ r ≡ endsShown (endedBy (backFrom again (now (join .entry)) (lines (now (text .entry))))) ⌝ }
-    ensures { λ r. ⌜ now (join .exit) ≡ endedBy (backFrom again (now (join .entry)) (lines (now (text .entry)))) .join ⌝ }
-{
-    let mut at = text.len();
-    let mut count = 0;
-    let mut tried = false;
-    let mut lookahead = 0;
-    'lines: loop {
-        if at == 0 {
-            break 'lines ended(Ends::No, lookahead);
-        }
-        at = line_start(text, at);
-        count += 1;
-        let l = lines::line_from(text, at);
-        let to = l.to;
-        if lines::is_blank_line(&text[at..to]) {
-            break 'lines ended(Ends::No, lookahead);
-        }
-        if !spots::opens_brace(&text[at..to]) {
-            continue 'lines;
-        }
-        let r = refused_at(text, at, join);
-        lookahead += r.lookahead;
-        let answer = r.answer;
-        match verdict_of(answer, count, again, tried) {
-            Verdict::Told(e) => break 'lines ended(e, lookahead),
-            Verdict::Next => {
-                tried = true;
-                continue 'lines;
-            }
-        }
-    }
-}
-
-// The last line decides whether any is tried, and whether a second one is.
-fn ends_in(text: &[u8], join: &mut [u8]) -> EndsRun
-    requires { ⌜ length (now text) ≤ maxText ⌝ }
-    ensures { λ r. ⌜ r ≡ endsShown (endsOf (now (join .entry)) (lines (now (text .entry)))) ⌝ }
-    ensures { λ r. ⌜ now (join .exit) ≡ endsOf (now (join .entry)) (lines (now (text .entry))) .join ⌝ }
-{
-    if text.len() == 0 {
-        return ended(Ends::No, 0);
-    }
-    let at = line_start(text, text.len());
-    let l = lines::line_from(text, at);
-    let to = l.to;
-    if !scanners::contains_close(&text[at..to]) {
-        return ended(Ends::No, 0);
-    }
-    let again = spots::closes_comment(&text[at..to]);
-    search_back(text, again, join)
-}
-
-// Whether the text ends in a run that is refused only for a line too far left.
-pub fn ends_in_refused_brace_run(text: &[u8], join: &mut [u8]) -> EndsRun
-    ensures { λ r. ⌜ r ≡ endsShown (endsIn (now (join .entry)) (now (text .entry))) ⌝ }
-    ensures { λ r. ⌜ now (join .exit) ≡ endsIn (now (join .entry)) (now (text .entry)) .join ⌝ }
-{
-    match checks::check_text(text) {
-        Check::Refused(r) => ended(Ends::Refused(r), 0),
-        Check::Passed => ends_in(text, join),
     }
 }

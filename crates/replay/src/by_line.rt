@@ -1,174 +1,108 @@
 // Requests by line: blocks, runs, and what the join buffer holds behind a call. Between requests the join buffer has the byte FF
 // everywhere, which no UTF-8 text holds.
-use crate::canon;
+use crate::ask::Ask;
+use crate::brace;
 use crate::fields;
-use crate::out;
+use crate::merging;
 use crate::refusing;
+use crate::reply;
+use crate::reply::Reply;
 use blocks::Block;
 use blocks::Length;
 use blocks::Measure;
 use fill::Filled;
 use fill::Outcome;
 
-// A word, a line and a text laid into a: what doesn't belong here is `error`.
-pub(crate) fn answer_line<'a>(
-    word: &'a [u8],
-    line: usize,
-    text: &'a [u8],
-    join: &mut [u8],
-    canon: &mut [u8],
-    output: &mut [u8],
-    at: usize,
-) -> usize {
-    if lists::same_bytes(word, b"parse_standalone_attrs") {
-        let filled = blocks::parse_standalone_attrs(text, line);
-        return put_filled(text, filled, canon, output, at);
+// What only measures, and refused runs, by the number of the word in the list of `ask`.
+pub(crate) fn answer(q: Ask, text: &[u8], join: &mut [u8]) -> Reply {
+    let word = q.word;
+    match word {
+        7 => refusing::run(text, q.x, join),
+        8 => refusing::ends(text, join),
+        _ => measured(measure(q, text, join), join),
     }
-    if lists::same_bytes(word, b"parse_standalone_attrs_block") {
-        let block = blocks::parse_standalone_attrs_block(text, line, join);
-        return put_block(text, block, join, canon, output, at);
-    }
-    if lists::same_bytes(word, b"standalone_attrs_block_len") {
-        let measure = blocks::standalone_attrs_block_len(text, line, join);
-        return put_measure(measure, join, output, at);
-    }
-    if lists::same_bytes(word, b"indented_wrapped_attrs_block_len") {
-        let measure = blocks::indented_wrapped_attrs_block_len(text, line, join);
-        return put_measure(measure, join, output, at);
-    }
-    if lists::same_bytes(word, b"refused_brace_run") {
-        return refusing::answer_run(text, line, join, output, at);
-    }
-    out::put(output, at, b"error")
 }
 
-// A word, a column, a line and a text.
-pub(crate) fn answer_column<'a>(
-    word: &'a [u8],
-    column: usize,
-    line: usize,
-    text: &'a [u8],
-    join: &mut [u8],
-    canon: &mut [u8],
-    output: &mut [u8],
-    at: usize,
-) -> usize {
-    if lists::same_bytes(word, b"attrs_block_len_at") {
-        let measure = blocks::attrs_block_len_at(text, line, column, join);
-        return put_measure(measure, join, output, at);
+// A line, or a column and a line.
+fn measure(q: Ask, text: &[u8], join: &mut [u8]) -> Measure {
+    let word = q.word;
+    match word {
+        4 => entries::standalone_attrs_block_len(text, q.x, join),
+        5 => entries::indented_wrapped_attrs_block_len(text, q.x, join),
+        _ => entries::attrs_block_len_at(text, q.y, q.x, join),
     }
-    if lists::same_bytes(word, b"wrapped_attrs_run_at") {
-        let block = blocks::wrapped_attrs_run_at(text, line, column, join);
-        return put_block(text, block, join, canon, output, at);
-    }
-    out::put(output, at, b"error")
 }
 
-// Adds what a line alone reads.
-fn put_filled(
-    text: &[u8],
-    filled: Filled,
-    canon: &mut [u8],
-    output: &mut [u8],
-    at: usize,
-) -> usize {
+// Blocks that may be joined.
+pub(crate) fn answer_block(q: Ask, text: &[u8], join: &mut [u8], canon: &mut [u8]) -> Reply {
+    let block = read(q, text, join);
+    read_block(text, block, join, canon)
+}
+
+// A line, or a column and a line.
+fn read(q: Ask, text: &[u8], join: &mut [u8]) -> Block {
+    if q.word == 9 {
+        return entries::parse_standalone_attrs_block(text, q.x, join);
+    }
+    entries::wrapped_attrs_run_at(text, q.y, q.x, join)
+}
+
+// A line, two lines that are merged, or a place: sets over the text itself.
+pub(crate) fn answer_set(q: Ask, text: &[u8], canon: &mut [u8]) -> Reply {
+    let word = q.word;
+    match word {
+        11 => filled(text, entries::parse_standalone_attrs(text, q.x), canon),
+        12 => merging::answer(text, false, canon),
+        13 => merging::answer(text, true, canon),
+        _ => brace::answer_read(text, q.x, q.mode, canon),
+    }
+}
+
+// What a line alone reads.
+pub(crate) fn filled(text: &[u8], filled: Filled, canon: &mut [u8]) -> Reply {
     let outcome = filled.outcome;
     match outcome {
-        Outcome::Refused(r) => out::put_refused(output, at, r),
-        Outcome::Done => {
-            let words = out::put(output, at, b"ok");
-            canon::put_set(text, filled.set, canon, output, words)
-        }
+        Outcome::Refused(r) => reply::refused(reply::REFUSED, r),
+        Outcome::Done => reply::with_set(reply::alone(reply::OK), text, filled.set, canon),
     }
 }
 
-// Adds what a block reads. What was joined is what its set is over.
-fn put_block(
-    text: &[u8],
-    block: Block,
-    join: &mut [u8],
-    canon: &mut [u8],
-    output: &mut [u8],
-    at: usize,
-) -> usize {
+// What a block reads. What was joined is what its set is over.
+fn read_block<'a>(text: &'a [u8], block: Block, join: &'a [u8], canon: &mut [u8]) -> Reply {
     let outcome = block.outcome;
     match outcome {
         Outcome::Refused(r) => {
-            let words = out::put_refused(output, at, r);
-            put_run(block.lookahead, join, output, words)
+            reply::with_run(reply::refused(reply::REFUSED, r), block.lookahead, join)
         }
         Outcome::Done => {
-            let words = out::put(output, at, b"ok lines ");
-            let number = out::put_number(output, words, block.lines);
-            if block.joined == 0 {
-                let run = put_run(block.lookahead, join, output, number);
-                return canon::put_set(text, block.set, canon, output, run);
-            }
-            put_joined(block, join, canon, output, number)
+            let head = reply::numbered(reply::OK_LINES, block.lines);
+            let run = reply::with_run(head, block.lookahead, join);
+            reply::with_set(run, over(text, join, block.joined), block.set, canon)
         }
     }
 }
 
-fn put_joined(
-    block: Block,
-    join: &mut [u8],
-    canon: &mut [u8],
-    output: &mut [u8],
-    at: usize,
-) -> usize {
-    let n = canon::lay(fields::part(join, 0, block.joined), block.set, canon);
-    let run = put_run(block.lookahead, join, output, at);
-    canon::put_laid(n, canon, output, run)
+// What a block's set is over: the joined bytes if there are any, else the text.
+fn over<'a>(text: &'a [u8], join: &'a [u8], joined: usize) -> &'a [u8] {
+    if joined == 0 {
+        return text;
+    }
+    fields::part(join, 0, joined)
 }
 
-// Adds what measuring answers.
-fn put_measure(measure: Measure, join: &mut [u8], output: &mut [u8], at: usize) -> usize {
+// What measuring answers.
+fn measured(measure: Measure, join: &[u8]) -> Reply {
     let length = measure.length;
     match length {
         Length::Refused(r) => {
-            let words = out::put_refused(output, at, r);
-            put_run(measure.lookahead, join, output, words)
+            reply::with_run(reply::refused(reply::REFUSED, r), measure.lookahead, join)
         }
-        Length::Lines(n) => {
-            let words = out::put(output, at, b"ok lines ");
-            let number = out::put_number(output, words, n);
-            put_run(measure.lookahead, join, output, number)
-        }
+        Length::Lines(n) => reply::with_run(
+            reply::numbered(reply::OK_LINES, n),
+            measure.lookahead,
+            join,
+        ),
     }
-}
-
-// Adds the lookahead and what was joined, and makes the join buffer as it was.
-pub(crate) fn put_run(lookahead: usize, join: &mut [u8], output: &mut [u8], at: usize) -> usize {
-    let words = out::put(output, at, b" lookahead ");
-    let number = out::put_number(output, words, lookahead);
-    let behind = out::put(output, number, b" joined ");
-    let n = fields::find(join, 0, 255);
-    let to = put_front(
-        fields::part(join, 0, n),
-        least(fields::part(join, n, join.len())),
-        output,
-        behind,
-    );
-    clear(join);
-    to
-}
-
-fn put_front(front: &[u8], rest: u8, output: &mut [u8], at: usize) -> usize {
-    if rest < 255 {
-        return out::put(output, at, b"spoiled");
-    }
-    out::put_hex(output, at, front)
-}
-
-// The bits that all bytes have.
-fn least(s: &[u8]) -> u8 {
-    let mut all = 255;
-    let mut i = 0;
-    while i < s.len() {
-        all = all & s[i];
-        i += 1;
-    }
-    all
 }
 
 // Lays the byte FF everywhere.

@@ -1,17 +1,26 @@
 // The fields of a request line: words, numbers and bytes in hex. Each function is defined for all bytes and places.
 ghost use Prim.Native.Nat.{_≤_};
 
-// Up to eight fields, parted by single spaces: where each begins and ends. A count of nine says that there are more.
-pub(crate) struct Fields {
-    pub(crate) from: [usize; 8],
-    pub(crate) to: [usize; 8],
-    pub(crate) count: usize,
+// What a field says: a number, or how many bytes it put into the buffer; 1 and 0 where it is bad, else 0 and that.
+pub(crate) struct Said {
+    pub(crate) bad: u8,
+    pub(crate) n: usize,
 }
 
-// What a field says: a number, or how many bytes it put into the buffer.
-pub(crate) enum Said {
-    Bad,
-    Number(usize),
+// A byte, or that there is none.
+struct Byte {
+    bad: u8,
+    b: u8,
+}
+
+// What a bad field says.
+pub(crate) fn bad() -> Said {
+    Said { bad: 1, n: 0 }
+}
+
+// What a good one says.
+pub(crate) fn good(n: usize) -> Said {
+    Said { bad: 0, n }
 }
 
 // The bytes from `from` up to `to`, none where there are no such places.
@@ -39,112 +48,87 @@ pub(crate) fn find(s: &[u8], from: usize, byte: u8) -> usize
     i
 }
 
-// Splits a line into its fields.
-pub(crate) fn split(line: &[u8]) -> Fields {
-    let mut f = Fields {
-        from: [0; 8],
-        to: [0; 8],
-        count: 0,
-    };
-    let mut at = 0;
-    let mut k = 0;
-    while k < 8 {
-        let end = find(line, at, b' ');
-        f.from[k] = at;
-        f.to[k] = end;
-        k += 1;
-        f.count = k;
-        if line.len() <= end {
-            return f;
+// How many fields the byte parts.
+pub(crate) fn count(s: &[u8], byte: u8) -> usize {
+    let mut n = 1;
+    let mut at = find(s, 0, byte);
+    while at < s.len() {
+        n += 1;
+        at = find(s, at + 1, byte);
+    }
+    n
+}
+
+// The field of a number, counted from 0, of those that the byte parts; no bytes where there are fewer.
+pub(crate) fn field(s: &[u8], byte: u8, k: usize) -> &[u8] {
+    let mut from = 0;
+    let mut i = 0;
+    while i < k {
+        let end = find(s, from, byte);
+        if s.len() <= end {
+            return &s[..0];
         }
-        at = end + 1;
+        from = end + 1;
+        i += 1;
     }
-    f.count = 9;
-    f
+    part(s, from, find(s, from, byte))
 }
 
-// The field of a number, counted from 0, none of the line's bytes where there are fewer fields.
-pub(crate) fn field(line: &[u8], f: Fields, k: usize) -> &[u8] {
-    if 8 <= k {
-        return &line[..0];
-    }
-    part(line, f.from[k], f.to[k])
-}
-
-// Whether the last field, if it isn't the only one, sets the join buffer's length.
-fn has_cap(line: &[u8], f: Fields) -> bool {
-    let count = f.count;
-    if count < 2 {
-        return false;
-    }
-    let last = field(line, f, count - 1);
-    lists::same_bytes(part(last, 0, 4), b"cap=")
-}
-
-// How many fields there are, one that sets the join buffer's length left out.
-pub(crate) fn count_of(line: &[u8], f: Fields) -> usize {
-    let count = f.count;
-    if count == 0 {
+// The byte at a place, 0 behind the last.
+pub(crate) fn byte_at(s: &[u8], k: usize) -> u8 {
+    if s.len() <= k {
         return 0;
     }
-    if has_cap(line, f) {
-        return count - 1;
-    }
-    count
+    s[k]
 }
 
-// The length of the join buffer: what the last field says, or that of the longest text.
-pub(crate) fn cap_of(line: &[u8], f: Fields) -> Said {
-    if !has_cap(line, f) {
-        return Said::Number(refusals::MAX_TEXT);
+// The number of a word among those of a list, parted by `/`, or how many there are where it isn't one of them.
+pub(crate) fn index_of<'a>(list: &'a [u8], word: &'a [u8]) -> usize {
+    let n = count(list, b'/');
+    let mut k = 0;
+    while k < n {
+        if lists::same_bytes(field(list, b'/', k), word) {
+            return k;
+        }
+        k += 1;
     }
-    let count = f.count;
-    if count == 0 {
-        return Said::Bad;
-    }
-    let last = field(line, f, count - 1);
-    let Said::Number(n) = number(part(last, 4, last.len())) else {
-        return Said::Bad;
-    };
-    if refusals::MAX_TEXT < n {
-        return Said::Bad;
-    }
-    Said::Number(n)
+    n
 }
 
 // A decimal number up to 2^64 - 1, with no sign.
 pub(crate) fn number(s: &[u8]) -> Said {
     if s.len() == 0 {
-        return Said::Bad;
+        return bad();
     }
     let mut n = 0;
     let mut i = 0;
     while i < s.len() {
-        match longer(n, s[i]) {
-            Said::Bad => return Said::Bad,
-            Said::Number(m) => n = m,
+        let m = longer(n, s[i]);
+        if m.bad != 0 {
+            return m;
         }
+        n = m.n;
         i += 1;
     }
-    Said::Number(n)
+    good(n)
 }
 
 // The number with one digit more.
 fn longer(n: usize, digit: u8) -> Said {
     if digit < b'0' {
-        return Said::Bad;
+        return bad();
     }
     if b'9' < digit {
-        return Said::Bad;
+        return bad();
     }
     if 1844674407370955161 < n {
-        return Said::Bad;
+        return bad();
     }
     let d = wide(digit - b'0');
     if 18446744073709551615 - n * 10 < d {
-        return Said::Bad;
+        return bad();
     }
-    Said::Number(n * 10 + d)
+    good(n * 10 + d)
 }
 
 pub(crate) fn wide(b: u8) -> usize {
@@ -154,10 +138,10 @@ pub(crate) fn wide(b: u8) -> usize {
 // Lays the bytes that a field has in lower-case hex, `-` for none, into the buffer, and says how many.
 pub(crate) fn unhex(s: &[u8], text: &mut [u8]) -> Said {
     if s.len() == 0 {
-        return Said::Bad;
+        return bad();
     }
     if lists::same_bytes(s, b"-") {
-        return Said::Number(0);
+        return good(0);
     }
     unhex_pairs(s, text)
 }
@@ -166,34 +150,41 @@ fn unhex_pairs(s: &[u8], text: &mut [u8]) -> Said {
     let mut i = 0;
     while i < s.len() {
         if !unhex_pair(s, i, text) {
-            return Said::Bad;
+            return bad();
         }
         i += 2;
     }
-    Said::Number(i / 2)
+    good(i / 2)
 }
 
 // Lays the byte of the two digits from i on where it belongs, and says whether they are digits and it has room.
 fn unhex_pair(s: &[u8], i: usize, text: &mut [u8]) -> bool {
-    if s.len() <= i {
-        return false;
-    }
-    if s.len() - i == 1 {
+    let byte = byte_of(s, i);
+    if byte.bad != 0 {
         return false;
     }
     if text.len() <= i / 2 {
         return false;
     }
-    let high = nibble(s[i]);
-    let low = nibble(s[i + 1]);
+    text[i / 2] = byte.b;
+    true
+}
+
+// The byte of the two digits from i on.
+fn byte_of(s: &[u8], i: usize) -> Byte {
+    let rest = part(s, i, s.len());
+    let high = nibble(byte_at(rest, 0));
+    let low = nibble(byte_at(rest, 1));
     if 15 < high {
-        return false;
+        return Byte { bad: 1, b: 0 };
     }
     if 15 < low {
-        return false;
+        return Byte { bad: 1, b: 0 };
     }
-    text[i / 2] = high * 16 + low;
-    true
+    Byte {
+        bad: 0,
+        b: high * 16 + low,
+    }
 }
 
 // The value of a digit in hex, 16 for any other byte.

@@ -23,7 +23,6 @@ pub(crate) fn answer_all(
     a: &mut [u8],
     b: &mut [u8],
     join: &mut [u8],
-    canon: &mut [u8],
     output: &mut [u8],
 ) {
     let mut s = State {
@@ -33,7 +32,7 @@ pub(crate) fn answer_all(
     };
     let mut turns = u64::MAX;
     while turns > 0 {
-        s = turn(input, a, b, join, canon, output, s);
+        s = turn(input, a, b, join, output, s);
         if !s.more {
             return;
         }
@@ -41,50 +40,43 @@ pub(crate) fn answer_all(
     }
 }
 
-// Reads once, and answers each line that is whole. At the end of the input a line may lack its LF.
+// Reads once, and answers each line that is whole.
 fn turn(
     input: &mut [u8],
     a: &mut [u8],
     b: &mut [u8],
     join: &mut [u8],
-    canon: &mut [u8],
     output: &mut [u8],
     s: State,
 ) -> State {
     let n = fill(input, s.read);
-    let have = added(s.read, n);
-    if n == 0 {
-        let at = answer_last(
-            fields::part(input, 0, have),
-            a,
-            b,
-            join,
-            canon,
-            output,
-            s.at,
-        );
-        out::flush(output, at);
-        return State {
-            read: 0,
-            at: 0,
-            more: false,
-        };
-    }
-    let done = answer_lines(
-        fields::part(input, 0, have),
-        a,
-        b,
-        join,
-        canon,
-        output,
-        s.at,
-    );
+    let have = ended(input, s.read, n);
+    let done = answer_lines(fields::part(input, 0, have), a, b, join, output, s.at);
     let left = shift(input, done.from, have);
     State {
         read: shortened(input, left),
-        at: done.at,
-        more: true,
+        at: flushed(output, done.at, n),
+        more: n > 0,
     }
+}
+
+// How many bytes the buffer has where n more came. At the end of the input a line may lack its LF, and is given it.
+fn ended(input: &mut [u8], read: usize, n: usize) -> usize {
+    if n > 0 {
+        return added(read, n);
+    }
+    if read == 0 {
+        return 0;
+    }
+    out::put_byte(input, read, b'\n')
+}
+
+// Writes all out at the end of the input.
+fn flushed(output: &[u8], at: usize, n: usize) -> usize {
+    if n > 0 {
+        return at;
+    }
+    out::flush(output, at)
 }
 
 fn added(a: usize, b: usize) -> usize {
@@ -111,7 +103,6 @@ fn answer_lines(
     a: &mut [u8],
     b: &mut [u8],
     join: &mut [u8],
-    canon: &mut [u8],
     output: &mut [u8],
     at: usize,
 ) -> Answered {
@@ -122,52 +113,11 @@ fn answer_lines(
         if lines.len() <= end {
             return Answered { from, at: to };
         }
-        to = answer_line(
-            fields::part(lines, from, end),
-            a,
-            b,
-            join,
-            canon,
-            output,
-            to,
-        );
+        to = answer(fields::part(lines, from, end), a, b, join, output, to);
+        to = out::end_line(output, to);
         from = end + 1;
     }
     Answered { from, at: to }
-}
-
-// Answers one line, and writes out where many answers wait.
-fn answer_line(
-    line: &[u8],
-    a: &mut [u8],
-    b: &mut [u8],
-    join: &mut [u8],
-    canon: &mut [u8],
-    output: &mut [u8],
-    at: usize,
-) -> usize {
-    let end = answer(line, a, b, join, canon, output, at);
-    let next = out::put_byte(output, end, b'\n');
-    if next < 131072 {
-        return next;
-    }
-    out::flush(output, next)
-}
-
-// Answers the line that the input ends with, where it lacks its LF.
-fn answer_last(
-    line: &[u8],
-    a: &mut [u8],
-    b: &mut [u8],
-    join: &mut [u8],
-    canon: &mut [u8],
-    output: &mut [u8],
-    at: usize,
-) -> usize {
-    if line.len() == 0 {
-        return at;
-    }
-    answer_line(line, a, b, join, canon, output, at)
 }
 
 // Moves what waits for its LF to the front of the buffer, and answers how much it is.

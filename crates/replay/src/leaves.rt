@@ -1,177 +1,82 @@
 // Requests for the smallest parts, over any bytes: `leaf WORD ..`.
+use crate::ask;
 use crate::fields;
-use crate::fields::Fields;
-use crate::fields::Said;
 use crate::out;
+use crate::reply;
+use crate::reply::Reply;
 
-// What a leaf says of a text.
-enum Leaf {
-    Unknown,
-    Yes,
-    No,
-    Count(usize),
-    Part(usize, usize),
-    Missing,
-    Ends(usize, usize),
-    Byte(u8, usize),
-    End,
+// A text, or the byte x, by the number of the word in the list of `ask`.
+pub(crate) fn answer(word: usize, x: usize, text: &[u8], b: &mut [u8]) -> Reply {
+    if word < ask::MEASURE {
+        return reply::said(is(word, text));
+    }
+    if word < ask::TITLE {
+        return measure(word, text);
+    }
+    if word < ask::CLASS {
+        return unescaped(text, b);
+    }
+    classes(x, b)
 }
 
-pub(crate) fn answer(
-    line: &[u8],
-    f: Fields,
-    a: &mut [u8],
-    b: &mut [u8],
-    output: &mut [u8],
-    at: usize,
-) -> usize {
-    let word = fields::field(line, f, 1);
-    let x = fields::field(line, f, 2);
-    let y = fields::field(line, f, 3);
-    let count = f.count;
-    if count == 3 {
-        return answer_one(word, x, a, b, output, at);
+// Whether a text is what the word names.
+fn is(word: usize, s: &[u8]) -> bool {
+    match word {
+        16 => utf8::is_utf8(s),
+        17 => names::is_identifier(s),
+        18 => names::is_css_identifier(s),
+        19 => names::is_boolean_attr_name(s),
+        20 => names::is_language_tag(s),
+        _ => lines::is_blank_line(s),
     }
-    if count == 4 {
-        return answer_two(word, x, y, a, b, output, at);
-    }
-    out::put(output, at, b"error")
-}
-
-// A word and one field.
-fn answer_one<'a>(
-    word: &'a [u8],
-    x: &'a [u8],
-    a: &mut [u8],
-    b: &mut [u8],
-    output: &mut [u8],
-    at: usize,
-) -> usize {
-    if lists::same_bytes(word, b"is_class") {
-        return put_classes(x, output, at);
-    }
-    let Said::Number(n) = fields::unhex(x, a) else {
-        return out::put(output, at, b"error");
-    };
-    let text = fields::part(a, 0, n);
-    if lists::same_bytes(word, b"unescape_title") {
-        return put_unescaped(text, b, output, at);
-    }
-    put_leaf(output, at, leaf_of(word, text))
-}
-
-// A word, a number and a text, or a word and two texts.
-fn answer_two<'a>(
-    word: &'a [u8],
-    x: &'a [u8],
-    y: &'a [u8],
-    a: &mut [u8],
-    b: &mut [u8],
-    output: &mut [u8],
-    at: usize,
-) -> usize {
-    let Said::Number(n) = fields::unhex(y, b) else {
-        return out::put(output, at, b"error");
-    };
-    if lists::same_bytes(word, b"same_unescaped") {
-        let Said::Number(m) = fields::unhex(x, a) else {
-            return out::put(output, at, b"error");
-        };
-        return out::put_yes(
-            output,
-            at,
-            escapes::same_unescaped(fields::part(a, 0, m), fields::part(b, 0, n)),
-        );
-    }
-    let Said::Number(k) = fields::number(x) else {
-        return out::put(output, at, b"error");
-    };
-    put_leaf(output, at, leaf_at(word, k, fields::part(b, 0, n)))
-}
-
-// What the leaf of that word says of a text.
-fn leaf_of<'a>(word: &'a [u8], s: &'a [u8]) -> Leaf {
-    if lists::same_bytes(word, b"is_utf8") {
-        return truth(utf8::is_utf8(s));
-    }
-    if lists::same_bytes(word, b"is_identifier") {
-        return truth(names::is_identifier(s));
-    }
-    if lists::same_bytes(word, b"is_css_identifier") {
-        return truth(names::is_css_identifier(s));
-    }
-    if lists::same_bytes(word, b"is_boolean_attr_name") {
-        return truth(names::is_boolean_attr_name(s));
-    }
-    if lists::same_bytes(word, b"is_language_tag") {
-        return truth(names::is_language_tag(s));
-    }
-    if lists::same_bytes(word, b"is_blank_line") {
-        return truth(lines::is_blank_line(s));
-    }
-    measure_of(word, s)
 }
 
 // What the leaf of that word counts in a text, or which part of it it takes.
-fn measure_of<'a>(word: &'a [u8], s: &'a [u8]) -> Leaf {
-    if lists::same_bytes(word, b"check_text") {
-        return Leaf::Count(number_of(checks::check_text(s)));
+fn measure(word: usize, s: &[u8]) -> Reply {
+    match word {
+        22 => reply::numbered(reply::NUMBER, number_of(checks::check_text(s))),
+        23 => reply::numbered(reply::NUMBER, utf8::char_count(s)),
+        24 => reply::numbered(reply::NUMBER, columns::indent_columns(s)),
+        25 => reply::numbered(reply::NUMBER, columns::columns(0, s)),
+        26 => part(lines::trim_ascii(s)),
+        27 => reply::paired(reply::FROM, lines::trim_ascii_start(s), reply::TO, s.len()),
+        _ => reply::paired(reply::FROM, 0, reply::TO, lines::trim_ascii_end(s)),
     }
-    if lists::same_bytes(word, b"char_count") {
-        return Leaf::Count(utf8::char_count(s));
-    }
-    if lists::same_bytes(word, b"indent_columns") {
-        return Leaf::Count(columns::indent_columns(s));
-    }
-    if lists::same_bytes(word, b"columns") {
-        return Leaf::Count(columns::columns(0, s));
-    }
-    if lists::same_bytes(word, b"trim_ascii") {
-        let r = lines::trim_ascii(s);
-        return Leaf::Part(r.from, r.to);
-    }
-    if lists::same_bytes(word, b"trim_ascii_start") {
-        return Leaf::Part(lines::trim_ascii_start(s), s.len());
-    }
-    if lists::same_bytes(word, b"trim_ascii_end") {
-        return Leaf::Part(0, lines::trim_ascii_end(s));
-    }
-    Leaf::Unknown
 }
 
-// What the leaf of that word says of a text and a number.
-fn leaf_at<'a>(word: &'a [u8], k: usize, s: &'a [u8]) -> Leaf {
-    if lists::same_bytes(word, b"is_char_boundary") {
-        return truth(utf8::is_char_boundary(s, k));
+// What the leaf of that word says of a text and a number, or of two texts.
+pub(crate) fn answer_at<'a>(word: usize, k: usize, s: &'a [u8], other: &'a [u8]) -> Reply {
+    match word {
+        31 => reply::said(utf8::is_char_boundary(s, k)),
+        32 => line(lines::line_of(s, k)),
+        33 => ends(lines::line_from(s, k)),
+        34 => piece(escapes::piece_at(s, k)),
+        35 => reply::said(escapes::same_unescaped(s, other)),
+        _ => reply::alone(reply::ERROR),
     }
-    if lists::same_bytes(word, b"line") {
-        return place(lines::line_of(s, k));
-    }
-    if lists::same_bytes(word, b"line_from") {
-        let l = lines::line_from(s, k);
-        return Leaf::Ends(l.to, l.next);
-    }
-    if lists::same_bytes(word, b"piece_at") {
-        return piece(escapes::piece_at(s, k));
-    }
-    Leaf::Unknown
 }
 
-fn truth(yes: bool) -> Leaf {
-    if yes { Leaf::Yes } else { Leaf::No }
+fn part(r: lines::Range) -> Reply {
+    reply::paired(reply::FROM, r.from, reply::TO, r.to)
 }
 
-fn place(line: lines::Line) -> Leaf {
+fn line(line: lines::Line) -> Reply {
     match line {
-        lines::Line::Missing => Leaf::Missing,
-        lines::Line::At(r) => Leaf::Part(r.from, r.to),
+        lines::Line::Missing => reply::alone(reply::NONE),
+        lines::Line::At(r) => part(r),
     }
 }
 
-fn piece(p: escapes::Piece) -> Leaf {
+fn ends(l: lines::LineEnd) -> Reply {
+    reply::paired(reply::ENDS, l.to, reply::NEXT, l.next)
+}
+
+fn piece(p: escapes::Piece) -> Reply {
     match p {
-        escapes::Piece::End => Leaf::End,
-        escapes::Piece::Byte(b, next) => Leaf::Byte(b, next),
+        escapes::Piece::End => reply::alone(reply::END),
+        escapes::Piece::Byte(b, next) => {
+            reply::paired(reply::BYTE, fields::wide(b), reply::NEXT, next)
+        }
     }
 }
 
@@ -183,44 +88,38 @@ fn number_of(c: checks::Check) -> usize {
     }
 }
 
-fn put_leaf(output: &mut [u8], at: usize, leaf: Leaf) -> usize {
-    match leaf {
-        Leaf::Unknown => out::put(output, at, b"error"),
-        Leaf::Yes => out::put(output, at, b"yes"),
-        Leaf::No => out::put(output, at, b"no"),
-        Leaf::Count(n) => out::put_number(output, at, n),
-        Leaf::Part(from, to) => out::put_two(output, at, b"from ", from, b" to ", to),
-        Leaf::Missing => out::put(output, at, b"none"),
-        Leaf::Ends(to, next) => out::put_two(output, at, b"to ", to, b" next ", next),
-        Leaf::Byte(b, next) => out::put_two(output, at, b"byte ", fields::wide(b), b" next ", next),
-        Leaf::End => out::put(output, at, b"end"),
-    }
-}
-
-// The text without its escapes, by way of the second buffer.
-fn put_unescaped(s: &[u8], b: &mut [u8], output: &mut [u8], at: usize) -> usize {
+// The text without its escapes, laid into the second buffer.
+fn unescaped(s: &[u8], b: &mut [u8]) -> Reply {
     match escapes::write_unescaped(b, 0, s) {
-        escapes::Written::Full => out::put(output, at, b"error"),
-        escapes::Written::To(n) => out::put_hex(output, at, fields::part(b, 0, n)),
+        escapes::Written::Full => reply::alone(reply::ERROR),
+        escapes::Written::To(n) => reply::numbered(reply::BYTES, n),
     }
 }
 
-// The classes of the byte that a field names, a letter for each.
-fn put_classes(x: &[u8], output: &mut [u8], at: usize) -> usize {
-    let Said::Number(n) = fields::number(x) else {
-        return out::put(output, at, b"error");
-    };
+// The classes of the byte that a field names, a letter for each, laid into the second buffer.
+fn classes(n: usize, b: &mut [u8]) -> Reply {
     if 255 < n {
-        return out::put(output, at, b"error");
+        return reply::alone(reply::ERROR);
     }
     let byte = n as u8;
-    let classes = [
+    let first = out::put(b, 0, &classes_of_names(byte));
+    let to = out::put(b, first, &classes_of_marks(byte));
+    reply::numbered(reply::LETTERS, to)
+}
+
+fn classes_of_names(byte: u8) -> [u8; 6] {
+    [
         mark(ascii::is_letter(byte)),
         mark(ascii::is_digit(byte)),
         mark(ascii::is_alnum(byte)),
         mark(ascii::is_css_ident_start(byte)),
         mark(ascii::is_attr_ident_start(byte)),
         mark(ascii::is_attr_ident_part(byte)),
+    ]
+}
+
+fn classes_of_marks(byte: u8) -> [u8; 8] {
+    [
         mark(ascii::is_space(byte)),
         mark(ascii::is_punct(byte)),
         mark(ascii::is_quote(byte)),
@@ -229,8 +128,7 @@ fn put_classes(x: &[u8], output: &mut [u8], at: usize) -> usize {
         mark(ascii::is_blank(ascii::Mode::Loose, byte)),
         mark(ascii::is_indent(byte)),
         mark(ascii::is_tail(byte)),
-    ];
-    out::put(output, at, &classes)
+    ]
 }
 
 fn mark(yes: bool) -> u8 {

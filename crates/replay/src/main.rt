@@ -1,23 +1,24 @@
 // Answers request lines from standard input, one line for each: the Rattle side of the comparison with the Rust.
+mod ask;
 mod brace;
 mod by_line;
-mod canon;
 mod fields;
 mod input;
 mod leaves;
 mod merging;
 mod out;
 mod refusing;
+mod reply;
 mod sheets_at;
 
-use crate::fields::Fields;
-use crate::fields::Said;
+use crate::ask::Ask;
+use crate::reply::Reply;
 
 // A request line fits the input buffer with its LF: two texts in hex, and the words around them.
 const INPUT: usize = 263000;
-// The longest text of a request.
+// The longest text of a request; a canonical text is no longer.
 const TEXT: usize = 65600;
-// The join buffer, and the one for canonical text.
+// The join buffer.
 const JOIN: usize = 65535;
 // The longest answer is a sheet's, six times its text and in hex, and stands behind those that wait to be written.
 const OUTPUT: usize = 1048576;
@@ -27,16 +28,8 @@ fn main() {
     let mut a = [0u8; TEXT];
     let mut b = [0u8; TEXT];
     let mut join = [255u8; JOIN];
-    let mut canon = [0u8; JOIN];
     let mut output = [0u8; OUTPUT];
-    input::answer_all(
-        &mut input,
-        &mut a,
-        &mut b,
-        &mut join,
-        &mut canon,
-        &mut output,
-    );
+    input::answer_all(&mut input, &mut a, &mut b, &mut join, &mut output);
 }
 
 // Answers one request, its text or texts laid into a and b, behind what stands in the output up to `at`.
@@ -45,48 +38,59 @@ pub(crate) fn answer(
     a: &mut [u8],
     b: &mut [u8],
     join: &mut [u8],
-    canon: &mut [u8],
     output: &mut [u8],
     at: usize,
 ) -> usize {
-    let f = fields::split(line);
-    let first = fields::field(line, f, 0);
-    if lists::same_bytes(first, b"leaf") {
-        return leaves::answer(line, f, a, b, output, at);
-    }
-    let Said::Number(cap) = fields::cap_of(line, f) else {
-        return out::put(output, at, b"error");
-    };
-    if is_sheet(line, f) {
-        return sheets_at::answer(fields::field(line, f, 1), a, b, join, output, at);
-    }
-    answer_capped(line, f, a, b, join, cap, canon, output, at)
+    let q = ask::read(line, a, b);
+    let text = fields::part(a, 0, q.n);
+    let to = answer_asked(q, text, b, join, output, at);
+    by_line::clear(join);
+    to
 }
 
-// With a join buffer of `cap` bytes.
-fn answer_capped(
-    line: &[u8],
-    f: Fields,
-    a: &mut [u8],
+// Answers what is asked of a text, by way of b.
+fn answer_asked(
+    q: Ask,
+    text: &[u8],
     b: &mut [u8],
     join: &mut [u8],
-    cap: usize,
-    canon: &mut [u8],
     output: &mut [u8],
     at: usize,
 ) -> usize {
-    let count = fields::count_of(line, f);
-    if cap <= join.len() {
-        let part = &mut join[..cap];
-        return brace::answer(line, f, count, a, b, part, canon, output, at);
+    if q.word == ask::SHEET {
+        return sheets_at::answer(text, b, join, output, at);
     }
-    out::put(output, at, b"error")
+    let r = reply_to(q, text, b, join);
+    reply::put(output, at, r, b, join)
 }
 
-// Whether a sheet is asked for, which heeds no shorter join buffer.
-fn is_sheet(line: &[u8], f: Fields) -> bool {
-    if fields::count_of(line, f) != 2 {
-        return false;
+// Works out an answer with a join buffer of `cap` bytes.
+fn reply_to(q: Ask, text: &[u8], b: &mut [u8], join: &mut [u8]) -> Reply {
+    let cap = q.cap;
+    if cap <= join.len() {
+        let part = &mut join[..cap];
+        return reply_by(q, text, b, part);
     }
-    lists::same_bytes(fields::field(line, f, 0), b"sheet")
+    reply::alone(reply::ERROR)
+}
+
+// Works out an answer by the number of the word, with those buffers alone that it needs.
+fn reply_by(q: Ask, text: &[u8], b: &mut [u8], join: &mut [u8]) -> Reply {
+    let word = q.word;
+    if word < ask::JOINS {
+        return brace::answer(word, q.x, text);
+    }
+    if word < ask::BLOCKS {
+        return by_line::answer(q, text, join);
+    }
+    if word < ask::SETS {
+        return by_line::answer_block(q, text, join, b);
+    }
+    if word < ask::LEAF {
+        return by_line::answer_set(q, text, b);
+    }
+    if word < ask::LEAF_AT {
+        return leaves::answer(word, q.x, text, b);
+    }
+    leaves::answer_at(word, q.x, text, fields::part(b, 0, q.m))
 }

@@ -1,13 +1,9 @@
 // Answers, laid into a lent buffer. Each function takes the place from which to write and answers the place behind; a byte
 // that has no room is dropped.
 use crate::fields;
-use refusals::Refusal;
-ghost use Prim.Native.Nat.{_≤_};
 
 // Adds one byte.
-pub(crate) fn put_byte(output: &mut [u8], at: usize, byte: u8) -> usize
-    ensures { λ r. ⌜ at ≤ r ⌝ }
-{
+pub(crate) fn put_byte(output: &mut [u8], at: usize, byte: u8) -> usize {
     if output.len() <= at {
         return at;
     }
@@ -16,9 +12,7 @@ pub(crate) fn put_byte(output: &mut [u8], at: usize, byte: u8) -> usize
 }
 
 // Adds bytes as they are.
-pub(crate) fn put(output: &mut [u8], at: usize, s: &[u8]) -> usize
-    ensures { λ r. ⌜ at ≤ r ⌝ }
-{
+pub(crate) fn put(output: &mut [u8], at: usize, s: &[u8]) -> usize {
     let mut to = at;
     let mut i = 0;
     while i < s.len() {
@@ -44,9 +38,7 @@ pub(crate) fn put_hex(output: &mut [u8], at: usize, s: &[u8]) -> usize {
 }
 
 // Adds bytes in lower-case hex, nothing for none.
-pub(crate) fn put_pairs(output: &mut [u8], at: usize, s: &[u8]) -> usize
-    ensures { λ r. ⌜ at ≤ r ⌝ }
-{
+pub(crate) fn put_pairs(output: &mut [u8], at: usize, s: &[u8]) -> usize {
     let mut to = at;
     let mut i = 0;
     while i < s.len() {
@@ -56,9 +48,7 @@ pub(crate) fn put_pairs(output: &mut [u8], at: usize, s: &[u8]) -> usize
     to
 }
 
-fn put_pair(output: &mut [u8], at: usize, byte: u8) -> usize
-    ensures { λ r. ⌜ at ≤ r ⌝ }
-{
+fn put_pair(output: &mut [u8], at: usize, byte: u8) -> usize {
     let next = put_byte(output, at, digit(byte / 16));
     put_byte(output, next, digit(byte % 16))
 }
@@ -72,33 +62,13 @@ fn digit(n: u8) -> u8 {
     }
 }
 
-// Adds `yes` or `no`.
-pub(crate) fn put_yes(output: &mut [u8], at: usize, yes: bool) -> usize {
-    if yes {
-        return put(output, at, b"yes");
+// Ends an answer's line, and writes out where many answers wait.
+pub(crate) fn end_line(output: &mut [u8], at: usize) -> usize {
+    let next = put_byte(output, at, b'\n');
+    if next < 131072 {
+        return next;
     }
-    put(output, at, b"no")
-}
-
-// Adds two numbers, words before each.
-pub(crate) fn put_two<'a>(
-    output: &mut [u8],
-    at: usize,
-    first: &'a [u8],
-    n: usize,
-    second: &'a [u8],
-    m: usize,
-) -> usize {
-    let words = put(output, at, first);
-    let number = put_number(output, words, n);
-    let between = put(output, number, second);
-    put_number(output, between, m)
-}
-
-// Adds what a refusal says.
-pub(crate) fn put_refused(output: &mut [u8], at: usize, r: Refusal) -> usize {
-    let words = put(output, at, b"refused ");
-    put_number(output, words, refusals::number(r) as usize)
+    flush(output, next)
 }
 
 // Writes all out and answers the new place to write at, the front.

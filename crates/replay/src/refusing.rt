@@ -1,49 +1,36 @@
 // Requests for refused brace runs.
-use crate::by_line;
-use crate::out;
+use crate::reply;
+use crate::reply::Reply;
+use endings::Ends;
 use refused::Answer;
-use refused::Ends;
 
 // The run at a line.
-pub(crate) fn answer_run(
-    text: &[u8],
-    line: usize,
-    join: &mut [u8],
-    output: &mut [u8],
-    at: usize,
-) -> usize {
+pub(crate) fn run(text: &[u8], line: usize, join: &mut [u8]) -> Reply {
     let r = refused::refused_brace_run(text, line, join);
     let answer = r.answer;
-    let next = put_answer(output, at, answer);
-    by_line::put_run(r.lookahead, join, output, next)
+    reply::with_run(answered(answer), r.lookahead, join)
 }
 
 // Whether the text ends in one.
-pub(crate) fn answer_ends(text: &[u8], join: &mut [u8], output: &mut [u8], at: usize) -> usize {
-    let r = refused::ends_in_refused_brace_run(text, join);
+pub(crate) fn ends(text: &[u8], join: &mut [u8]) -> Reply {
+    let r = endings::ends_in_refused_brace_run(text, join);
     let answer = r.answer;
-    let next = put_ends(output, at, answer);
-    by_line::put_run(r.lookahead, join, output, next)
+    reply::with_run(ended(answer), r.lookahead, join)
 }
 
-fn put_answer(output: &mut [u8], at: usize, answer: Answer) -> usize {
+fn answered(answer: Answer) -> Reply {
     match answer {
-        Answer::No(n) => put_count(output, at, b"no ", n),
-        Answer::Lines(n) => put_count(output, at, b"lines ", n),
-        Answer::NoEnd => out::put(output, at, b"no end"),
-        Answer::Refused(r) => out::put_refused(output, at, r),
+        Answer::No(n) => reply::numbered(reply::NO_AT, n),
+        Answer::Lines(n) => reply::numbered(reply::LINES, n),
+        Answer::NoEnd => reply::alone(reply::NO_END),
+        Answer::Refused(r) => reply::refused(reply::REFUSED, r),
     }
 }
 
-fn put_count(output: &mut [u8], at: usize, word: &[u8], n: usize) -> usize {
-    let words = out::put(output, at, word);
-    out::put_number(output, words, n)
-}
-
-fn put_ends(output: &mut [u8], at: usize, answer: Ends) -> usize {
+fn ended(answer: Ends) -> Reply {
     match answer {
-        Ends::No => out::put(output, at, b"no"),
-        Ends::Yes => out::put(output, at, b"yes"),
-        Ends::Refused(r) => out::put_refused(output, at, r),
+        Ends::No => reply::alone(reply::NO),
+        Ends::Yes => reply::alone(reply::YES),
+        Ends::Refused(r) => reply::refused(reply::REFUSED, r),
     }
 }

@@ -18,7 +18,8 @@ use Rattle.checks.specs.declared.Check.the-variants as check
 use Rattle.lines.specs.Lines.{lineFrom}
 use Rattle.lines.proofs.Lines.{next-beyond}
 use Rattle.runs.specs.Runs.{over, pastLines}
-use Rattle.blocks.specs.Blocks.{Found, linesOf, flushLeft}
+use Rattle.blocks.specs.Blocks.{Found, linesOf}
+use Rattle.entries.specs.Entries.{flushLeft}
 use Rattle.sheets.specs.Sheets.{Try, triesAt, isBlock, onlyBlocks}
 use Rattle.sheets.proofs.Tries.{some-lines, tries-end, try, tries-on, tries-past}
 use Rattle.sheets.proofs.Goes.{block-bytes}

@@ -22,7 +22,8 @@ use Rattle.fill.specs.declared.Outcome as outcomes
 use Rattle.fill.specs.declared.Outcome.the-variants as outcome
 use Rattle.runs.specs.Runs.{over}
 use Rattle.runs.proofs.Joining.{over-long, over-sets}
-use Rattle.blocks.specs.Blocks.{Found, joinedIn, textIn, joinHolds, blockOf, flushLeft}
+use Rattle.blocks.specs.Blocks.{Found, joinedIn, textIn, joinHolds, blockOf}
+use Rattle.entries.specs.Entries.{flushLeft}
 use Rattle.sheets.specs.declared.Next.{Next}
 use Rattle.sheets.specs.Sheets.{Try, triesAt, isBlock, onlyBlocks, joinBehind, upToBlock, nextOf, nextTries}
 use Rattle.sheets.proofs.Tries.{found-by, run-found-by, flush-by, tries-end, try, tries-on, tries-past}

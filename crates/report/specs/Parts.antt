@@ -80,7 +80,7 @@ partOf t at n cap size =
     (layFrom t size (triesAt t maxText n at)))
     (ended (Refused NothingThere))))
 
--- "For 1 or 2 the only output is `refused`, 0, 0, number."; where that line has no room, the refusal is only told
+-- "For 1 or 2 the only output is `refused`, 0, 0, number."; where the longest line has no room, the refusal is only told
 abbrev pub refusal : ℕ → Refusal → Laid
 refusal size r = cond (ltb size maxLine) (ended (Refused r)) (behind [] (refusedLine 0 0 r) (ended Done))
 

@@ -25,7 +25,8 @@ use Rattle.fill.specs.declared.Outcome.the-variants.{Done, Refused}
 use Rattle.fill.proofs.Slots.{Shaped, shaped-puts, shaped-none, slots}
 use Rattle.runs.specs.Runs.{runAt}
 use Rattle.runs.proofs.Bounds.{text-short}
-use Rattle.blocks.specs.Blocks.{Found, filledBy, blockOf, flushLeft}
+use Rattle.blocks.specs.Blocks.{Found, filledBy, blockOf}
+use Rattle.entries.specs.Entries.{flushLeft}
 use Rattle.sheets.specs.Sheets.{isBlock}
 use Rattle.sheets.proofs.Tries.{found-by, run-found-by, flush-by}
 

@@ -15,7 +15,8 @@ use Rattle.lines.specs.declared.Range.{Range}
 use Rattle.lines.specs.declared.Line.the-variants.{At}
 use Rattle.runs.specs.Runs.{pastLines}
 use Rattle.blocks.proofs.Agree.{past-in}
-use Rattle.blocks.specs.Blocks.{linesOf, flushLeft, startAt, placeOf, standaloneFound}
+use Rattle.blocks.specs.Blocks.{linesOf}
+use Rattle.entries.specs.Entries.{flushLeft, startAt, placeOf, standaloneFound}
 use Rattle.sheets.specs.Sheets.{Try, triesFrom, triesAt, isBlock, onlyBlocks}
 use Rattle.sheets.proofs.Goes.{block-bytes, First, Leads, leads}
 use Rattle.sheets.proofs.Tries.{some-lines, tries-end, try}

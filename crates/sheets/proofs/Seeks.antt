@@ -17,8 +17,8 @@ use Rattle.lines.specs.declared.LineEnd.{LineEnd}
 use Rattle.lines.proofs.Lines.{next-beyond}
 use Rattle.runs.specs.Runs.{pastLines}
 use Rattle.fill.specs.declared.Outcome.the-variants.{Refused}
-use Rattle.blocks.specs.Blocks.{nothing, found, joinHolds, blockBy, blockOf, sized, flushLeft}
-use Rattle.blocks.specs.Steps.{unread}
+use Rattle.blocks.specs.Blocks.{nothing, found, joinHolds, blockBy, blockOf, sized, unread}
+use Rattle.entries.specs.Entries.{flushLeft}
 use Rattle.blocks.specs.declared.Block.{Block}
 use Rattle.blocks.proofs.Finds.{none-holds, sized-long, sized-is}
 use Rattle.sheets.specs.declared.Next.{Next}

@@ -31,8 +31,10 @@ use Rattle.runs.specs.declared.Stop as stops
 use Rattle.runs.specs.declared.Stop.the-variants as stop
 use Rattle.runs.proofs.Bounds.{run-by, text-le}
 use Rattle.runs.proofs.Joining.{over-long}
-use Rattle.blocks.specs.Blocks.{lineAt, frontOf, opensAt, Found, nothing, closedRun, ended, runFound, found, joinedIn, linesOf, joinHolds, beginsIndented, flushLeft}
-use Rattle.blocks.proofs.Trimmed.{line-none, indent-is}
+use Rattle.fronts.specs.Fronts.{lineAt, frontOf, opensAt, beginsIndented}
+use Rattle.blocks.specs.Blocks.{Found, nothing, closedRun, ended, runFound, found, joinedIn, linesOf, joinHolds}
+use Rattle.entries.specs.Entries.{flushLeft}
+use Rattle.fronts.proofs.Trimmed.{line-none, indent-is}
 use Rattle.blocks.proofs.Finds.{found-none}
 use Rattle.sheets.specs.Sheets.{Try, triesFrom, triesAt, isBlock}
 use Rattle.sheets.specs.Steps.{mayOpen}

@@ -10,7 +10,8 @@ use Rattle.refusals.specs.declared.Refusal.the-variants.{TextTooLong, NothingTh
 use Rattle.lines.specs.Lines.{rangesFrom, ranges}
 use Rattle.lines.specs.declared.Range.{Range}
 use Rattle.fill.specs.Fill.{refusing}
-use Rattle.blocks.specs.Blocks.{Found, linesOf, joinHolds, blockOf, blockBy, flushLeft}
+use Rattle.blocks.specs.Blocks.{Found, linesOf, joinHolds, blockOf, blockBy}
+use Rattle.entries.specs.Entries.{flushLeft}
 use Rattle.sheets.specs.declared.Next.{Next}
 
 -- ---- the lines at which a block is looked for

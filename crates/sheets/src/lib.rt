@@ -44,6 +44,17 @@ fn may_open(text: &[u8], at: usize) -> bool
     }
 }
 
+// An answer for the place itself, with no line gone past.
+fn at_once(at: usize, block: Block) -> Next
+    ensures { λ r. ⌜ r ≡ record { skipped = 0; at = at; block = block } ⌝ }
+{
+    Next {
+        skipped: 0,
+        at,
+        block,
+    }
+}
+
 // The join buffer is shorter than whole sheets need; the set is an empty one.
 fn short_join(set: Attrs, at: usize) -> Next
     ensures { λ r. ⌜ r ≡ record { skipped = 0; at = at; block = blockBy (record { outcome = Refused JoinFull; set = set }) 0 0 0 at } ⌝ }
@@ -71,11 +82,7 @@ pub fn next_block(text: &[u8], at: usize, join: &mut [u8]) -> Next
 {
     if refusals::MAX_TEXT < text.len() {
         let block = blocks::read_at(text, at, join);
-        return Next {
-            skipped: 0,
-            at,
-            block,
-        };
+        return at_once(at, block);
     }
     if join.len() < refusals::MAX_TEXT {
         let block = blocks::read_at(text, text.len(), join);
@@ -87,11 +94,7 @@ pub fn next_block(text: &[u8], at: usize, join: &mut [u8]) -> Next
         if text.len() <= from {
             let mut block = blocks::read_at(text, from, join);
             block.next = at;
-            return Next {
-                skipped: 0,
-                at,
-                block,
-            };
+            return at_once(at, block);
         }
         if may_open(text, from) {
             let block = blocks::read_at(text, from, join);

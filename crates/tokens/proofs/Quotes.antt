@@ -15,7 +15,7 @@ use Rattle.lists.proofs.More.{contra}
 use Rattle.grammar.specs.Read.{Shut, later, shutStep, shutOf}
 use Rattle.grammar.specs.declared.Place.{Place}
 use Rattle.grammar.specs.declared.Place.the-variants.{Nothing, At}
-use Rattle.tokens.specs.Shown.{shutAt}
+use Rattle.tokens.specs.Steps.{shutAt}
 
 at-later : (k : ℕ) (c : Shut) → shutAt k (later c) ≡ shutAt (suc k) c
 at-later k Shut.never = refl

@@ -1,6 +1,6 @@
 -- From the places that the code finds to a token by ranges.
 -- Assumes nothing.
-use mathlib.Core.Path.{_≡_, refl, sym}
+use mathlib.Core.Path.{_≡_, refl, sym, _∙_}
 use mathlib.Core.Bool.{Bool, true, false, _&&_, cond}
 use mathlib.Core.List.{List, [], _∷_}
 use Prim.Native.Nat.{ℕ, suc, _+_, _-_, _<_, _≤_}
@@ -14,14 +14,16 @@ use Rattle.lists.specs.Lists.{all, headed, run}
 use Rattle.lists.proofs.Scan.{run-le}
 use Rattle.lists.proofs.More.{contra}
 use Rattle.ascii.specs.declared.Mode.{Mode}
-use Rattle.ascii.specs.Bytes.{isNamePart, isQuote, isPlain}
+use Rattle.ascii.specs.Bytes.{isNamePart, isKeyStart, isQuote, isPlain}
 use Rattle.names.specs.Names.{isKey, isBareName}
 use Rattle.grammar.specs.Grammar.{Item, isValue}
 use Rattle.grammar.specs.Read.{First, Shut, ends, finish, frontToken, shutOf, quotedToken, plainToken, valueToken, afterName, nameToken, tokenOf}
+use Rattle.grammar.proofs.Bytes.{key-part}
 use Rattle.grammar.specs.declared.Place.the-variants.{Nothing}
 use Rattle.tokens.specs.declared.Token.{Token}
 use Rattle.tokens.specs.declared.Token.the-variants.{Bad, Plain, Quoted}
-use Rattle.tokens.specs.Shown.{shownItem, shown, tagToken, idToken, classToken, quotedFrom, part, startsEq, shutAt}
+use Rattle.tokens.specs.Shown.{shownItem, shown}
+use Rattle.tokens.specs.Steps.{tagToken, idToken, classToken, quotedFrom, part, firstIs, startsEq, shutAt}
 use Rattle.tokens.proofs.Quotes.{Closed}
 
 shown-finish : (i : ℕ) (m : Mode) (good : Bool) (it : Item) (rest : List ℕ) → shown i (finish m good it rest) ≡ cond (good && ends m rest) (shownItem i it) Bad
@@ -45,7 +47,14 @@ word i m f test item s {a} {e} is h good shows q =
     let l : e ≤ length s = omega (arith, run-le f (drop a s), length-drop a s) in
     rw (z, shown-finish i m (test (part a e s)) (item (part a e s)) (drop (e - a) (drop a s)), drop-drop (e - a) a s, y, ← good, shows (part a e s) (part-length a e s (omega arith) l)) q
 
--- ---- the value behind `=` at k
+-- ---- the first byte
+module _ (f : ℕ → Bool) (s : List ℕ) (i : ℕ) where
+  pub first-none : length s ≤ i → false ≡ firstIs f (drop i s)
+  first-none h = rw (drop-of-length-le s h)
+
+  pub first-some : i < length s → f (getD s i 0) ≡ firstIs f (drop i s)
+  first-some h = rw (drop-cons s i 0 h)
+
 run-all : (f : ℕ → Bool) (s : List ℕ) → all f (take (run f s) s) ≡ true
 unfolding run all
 run-all f [] = refl
@@ -55,6 +64,28 @@ run-all f (b ∷ s) = go (f b) refl (run-all f s)
     go true p h = rw (p, h)
     go false p h = refl
 
+run-headed : (f g : ℕ → Bool) → ((b : ℕ) → f b ≡ true → g b ≡ true) → (s : List ℕ) → firstIs f s ≡ headed f g (take (run g s) s)
+unfolding run headed
+run-headed f g of [] = refl
+run-headed f g of (b ∷ s) = go (f b) (g b) refl refl
+  where
+    go : (x y : Bool) → f b ≡ x → g b ≡ y → x ≡ headed f g (take (cond y (suc (run g s)) 0) (b ∷ s))
+    go true true p q = rw (p, run-all g s)
+    go true false p q = contra (g b) (of b p) q
+    go false true p q = rw p
+    go false false p q = refl
+
+-- a run from a to e is a name if its first byte begins one: each byte that does is one of the run
+module _ (f g : ℕ → Bool) (of : (b : ℕ) → f b ≡ true → g b ≡ true) (s : List ℕ) {e : ℕ} where
+  pub headed-run : (a : ℕ) → e ≡ a + run g (drop a s) → {r : Bool} → r ≡ firstIs f (drop a s) → r ≡ headed f g (part a e s)
+  headed-run a is q = let z : e - a ≡ run g (drop a s) = omega arith in rw z (q ∙ run-headed f g of (drop a s))
+
+  pub headed-word : (i : ℕ) (m : Mode) (item : List ℕ → Item) {a : ℕ} → e ≡ a + run g (drop a s) → a ≤ length s → {good : Bool} → good ≡ firstIs f (drop a s)
+      → {t r : Token} → ((n : List ℕ) → a + length n ≡ e → shownItem i (item n) ≡ t) → r ≡ cond (good && ends m (drop e s)) t Bad
+      → r ≡ shown i (frontToken m (run g (drop a s)) (headed f g) item (drop a s))
+  headed-word i m item {a} is h good shows q = word i m g (headed f g) item s is h (headed-run a is good) shows q
+
+-- ---- the value behind `=` at k
 run-value : (v : ℕ) (s : List ℕ) → ltb v (v + run isPlain s) ≡ isValue (take (run isPlain s) s)
 unfolding run isValue headed
 run-value v [] = le-ltb v (v + 0) (omega arith)
@@ -73,13 +104,13 @@ module _ (m : Mode) (i k : ℕ) (s : List ℕ) where
   unfolding valueToken shown
   value-none e = rw (drop-of-length-le s {i = k + 1} (omega arith))
 
-  pub value-quoted : k + 1 < length s → isQuote (getD s (k + 1) 0) ≡ true → shown i (quotedFrom m (part i k s) (getD s (k + 1) 0) (drop (k + 2) s)) ≡ shown i (valueToken m (part i k s) (drop (k + 1) s))
+  pub value-quoted : k + 1 < length s → isQuote (getD s (k + 1) 0) ≡ true → {r : Token} → r ≡ shown i (quotedFrom m (part i k s) (getD s (k + 1) 0) (drop (k + 2) s)) → r ≡ shown i (valueToken m (part i k s) (drop (k + 1) s))
   unfolding valueToken
-  value-quoted e q = let z : k + 2 ≡ suc (k + 1) = omega arith in rw (drop-cons s (k + 1) 0 e, q, z)
+  value-quoted e q h = let z : k + 2 ≡ suc (k + 1) = omega arith in rw (drop-cons s (k + 1) 0 e, q, ← z) h
 
-  pub value-plain : k + 1 < length s → isQuote (getD s (k + 1) 0) ≡ false → shown i (plainToken m (part i k s) (drop (k + 1) s)) ≡ shown i (valueToken m (part i k s) (drop (k + 1) s))
+  pub value-plain : k + 1 < length s → isQuote (getD s (k + 1) 0) ≡ false → {r : Token} → r ≡ shown i (plainToken m (part i k s) (drop (k + 1) s)) → r ≡ shown i (valueToken m (part i k s) (drop (k + 1) s))
   unfolding valueToken
-  value-plain e q = rw (drop-cons s (k + 1) 0 e, q)
+  value-plain e q h = h ∙ (rw (drop-cons s (k + 1) 0 e, q))
 
   -- a key's bytes end where it ends
   pub key-shown : (v : List ℕ) {e : ℕ} → i ≤ k → k ≤ length s → k + 1 + length v ≡ e → shownItem i (Item.plain (part i k s) v) ≡ Plain i k e
@@ -104,17 +135,11 @@ module _ (m : Mode) (i k : ℕ) (s : List ℕ) where
       rw (c .found, shown-finish i m true (Item.quoted (part i k s) q (take n (drop (k + 2) s))) (drop (suc n) (drop (k + 2) s)), drop-drop (suc n) (k + 2) s, y, part-length i k s h (omega arith), length-take-le n (drop (k + 2) s) (omega (arith, c .place, c .within, length-drop (k + 2) s)), z) p
 
 -- ---- behind a name
-pub starts-none : (s : List ℕ) (i : ℕ) → length s ≤ i → false ≡ startsEq (drop i s)
-starts-none s i h = rw (drop-of-length-le s h)
-
-pub starts-some : (s : List ℕ) (i : ℕ) → i < length s → eqb (getD s i 0) 61 ≡ startsEq (drop i s)
-starts-some s i h = rw (drop-cons s i 0 h)
-
 pub starts-within : (s : List ℕ) (i : ℕ) → startsEq (drop i s) ≡ true → i < length s
 starts-within s i e = go (leb (length s) i) refl
   where
     go : (x : Bool) → leb (length s) i ≡ x → i < length s
-    go true p = contra (startsEq (drop i s)) e (sym (starts-none s i (leb-true (length s) i p)))
+    go true p = contra (startsEq (drop i s)) e (sym (first-none (λ b. eqb b 61) s i (leb-true (length s) i p)))
     go false p = leb-false (length s) i p
 
 after-bare : (m : Mode) (k t : List ℕ) → startsEq t ≡ false → afterName m k t ≡ finish m (isBareName k) (Item.bare k) t
@@ -134,15 +159,19 @@ module _ (m : Mode) (i : ℕ) (s : List ℕ) {e : ℕ} (is : e ≡ i + run isNam
   front : take (run isNamePart (drop i s)) (drop i s) ≡ part i e s
   front = let z : e - i ≡ run isNamePart (drop i s) = omega arith in rw z
 
-  pub name-bare : startsEq (drop e s) ≡ false → shown i (frontToken m (run isNamePart (drop i s)) isBareName (λ n. Item.bare n) (drop i s)) ≡ shown i (nameToken m (drop i s))
-  name-bare h = rw (after-bare m (take (run isNamePart (drop i s)) (drop i s)) (drop (run isNamePart (drop i s)) (drop i s)) (rw rest h))
+  is-key : isKey (part i e s) ≡ firstIs isKeyStart (drop i s)
+  unfolding isKey
+  is-key = sym (headed-run isKeyStart isNamePart key-part s i is refl)
 
-  pub name-bad : startsEq (drop e s) ≡ true → isKey (part i e s) ≡ false → Bad ≡ shown i (nameToken m (drop i s))
+  pub name-bare : startsEq (drop e s) ≡ false → {r : Token} → r ≡ shown i (frontToken m (run isNamePart (drop i s)) isBareName (λ n. Item.bare n) (drop i s)) → r ≡ shown i (nameToken m (drop i s))
+  name-bare h q = q ∙ (rw (after-bare m (take (run isNamePart (drop i s)) (drop i s)) (drop (run isNamePart (drop i s)) (drop i s)) (rw rest h)))
+
+  pub name-bad : startsEq (drop e s) ≡ true → firstIs isKeyStart (drop i s) ≡ false → Bad ≡ shown i (nameToken m (drop i s))
   unfolding shown
-  name-bad h k = rw (front, rest, after-equals m (part i e s) (drop e s) h, k)
+  name-bad h k = rw (front, rest, after-equals m (part i e s) (drop e s) h, is-key, k)
 
-  pub name-key : startsEq (drop e s) ≡ true → isKey (part i e s) ≡ true → shown i (valueToken m (part i e s) (drop (e + 1) s)) ≡ shown i (nameToken m (drop i s))
-  name-key h k = rw (front, rest, after-equals m (part i e s) (drop e s) h, k, drop-drop 1 e s)
+  pub name-key : startsEq (drop e s) ≡ true → firstIs isKeyStart (drop i s) ≡ true → {r : Token} → r ≡ shown i (valueToken m (part i e s) (drop (e + 1) s)) → r ≡ shown i (nameToken m (drop i s))
+  name-key h k q = rw (front, rest, after-equals m (part i e s) (drop e s) h, is-key, k, drop-drop 1 e s) q
 
 -- ---- by the first byte
 module _ (m : Mode) (s : List ℕ) (i : ℕ) where

@@ -1,14 +1,9 @@
 -- A token by ranges of the text, as the code hands it out.
 use mathlib.Core.Bool.{Bool, true, false}
-use mathlib.Core.List.{List}
-use Prim.Native.Nat.{ℕ, _+_, _-_}
-use lib.ListN.{length, take, drop}
-use Rattle.lists.specs.Lists.{begins}
-use Rattle.ascii.specs.declared.Mode.{Mode}
-use Rattle.names.specs.Names.{isName}
-use Rattle.names.specs.Tags.{isLanguage}
+use Prim.Native.Nat.{ℕ, _+_}
+use lib.ListN.{length}
 use Rattle.grammar.specs.Grammar.{Item}
-use Rattle.grammar.specs.Read.{First, Shut, Reading, shutOf, wordToken, quotedToken}
+use Rattle.grammar.specs.Read.{First, Reading}
 use Rattle.grammar.specs.declared.Place.{Place}
 use Rattle.grammar.specs.declared.Place.the-variants.{Nothing, At}
 use Rattle.tokens.specs.declared.Token.{Token}
@@ -40,29 +35,3 @@ behind (Token.Bare f e) = At e
 abbrev pub accepted : Reading → Bool
 accepted Reading.refused = false
 accepted (Reading.items is) = true
-
--- ---- the parts that private functions read
-
-abbrev pub tagToken : Mode → List ℕ → First
-tagToken m s = wordToken m isLanguage (λ t. Item.tag t) s
-
-abbrev pub idToken : Mode → List ℕ → First
-idToken m s = wordToken m isName (λ n. Item.id n) s
-
-abbrev pub classToken : Mode → List ℕ → First
-classToken m s = wordToken m isName (λ n. Item.class n) s
-
-abbrev pub quotedFrom : Mode → List ℕ → ℕ → List ℕ → First
-quotedFrom m k q s = quotedToken m k q s (shutOf q s false)
-
--- the bytes of s from i to k
-abbrev pub part : ℕ → ℕ → List ℕ → List ℕ
-part i k s = take (k - i) (drop i s)
-
-abbrev pub startsEq : List ℕ → Bool
-startsEq s = begins s 61
-
--- where a quote closes whose text begins at i
-abbrev pub shutAt : ℕ → Shut → Place
-shutAt i Shut.never = Nothing
-shutAt i (Shut.after n) = At (i + n)

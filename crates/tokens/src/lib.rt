@@ -4,9 +4,10 @@ ghost use mathlib.Core.Bool.{false, cond, _&&_};
 ghost use Prim.Native.Nat.{_+_, _-_, _<_, _≤_};
 ghost use lib.ListN.{length, getD, drop};
 ghost use Rattle.lists.specs.Lists.{run};
-ghost use Rattle.ascii.specs.Bytes.{isBlank, isNamePart, isPlain};
+ghost use Rattle.ascii.specs.Bytes.{isLetter, isNameStart, isNamePart, isKeyStart, isPlain, isBlank};
 ghost use Rattle.grammar.specs.Read.{ends, shutOf, nameToken, valueToken, tokenOf, readPayload};
-ghost use Rattle.tokens.specs.Shown.{accepted, shown, behind, startsEq, tagToken, idToken, classToken, quotedFrom, part, shutAt};
+ghost use Rattle.tokens.specs.Shown.{accepted, shown, behind};
+ghost use Rattle.tokens.specs.Steps.{startsEq, tagToken, idToken, classToken, quotedFrom, part, firstIs, shutAt};
 use ascii::Mode;
 use grammar::Place;
 
@@ -35,13 +36,33 @@ pub fn blank_end(s: &[u8], i: usize, mode: Mode) -> usize
     a
 }
 
+// A later byte of a name; most are small letters, which are told first.
+fn is_part(b: u8) -> bool
+    ensures { λ r. ⌜ r ≡ isNamePart b ⌝ }
+{
+    match b {
+        b'a'..=b'z' => true,
+        _ => ascii::is_attr_ident_part(b),
+    }
+}
+
+// A byte of an unquoted value; from `(` to `{` all but `\` are, which are told first.
+fn is_value_byte(b: u8) -> bool
+    ensures { λ r. ⌜ r ≡ isPlain b ⌝ }
+{
+    match b {
+        b'('..=b'[' | b']'..=b'{' => true,
+        _ => ascii::is_plain(b),
+    }
+}
+
 // Behind the name bytes from i on.
 fn part_end(s: &[u8], i: usize) -> usize
     ensures { λ r. ⌜ r ≡ i + run isNamePart (drop i (now (s .entry))) ⌝ }
 {
     let mut k = i;
     while k < s.len() {
-        if !ascii::is_attr_ident_part(s[k]) {
+        if !is_part(s[k]) {
             return k;
         }
         k += 1;
@@ -55,12 +76,42 @@ fn plain_end(s: &[u8], i: usize) -> usize
 {
     let mut k = i;
     while k < s.len() {
-        if !ascii::is_plain(s[k]) {
+        if !is_value_byte(s[k]) {
             return k;
         }
         k += 1;
     }
     k
+}
+
+// Whether a byte that can begin a name stands at i.
+fn starts_name(s: &[u8], i: usize) -> bool
+    ensures { λ r. ⌜ r ≡ firstIs isNameStart (drop i (now (s .entry))) ⌝ }
+{
+    if s.len() <= i {
+        return false;
+    }
+    ascii::is_css_ident_start(s[i])
+}
+
+// Whether a byte that can begin a key stands at i.
+fn starts_key(s: &[u8], i: usize) -> bool
+    ensures { λ r. ⌜ r ≡ firstIs isKeyStart (drop i (now (s .entry))) ⌝ }
+{
+    if s.len() <= i {
+        return false;
+    }
+    ascii::is_attr_ident_start(s[i])
+}
+
+// Whether a byte that can begin a bare name stands at i.
+fn starts_bare(s: &[u8], i: usize) -> bool
+    ensures { λ r. ⌜ r ≡ firstIs isLetter (drop i (now (s .entry))) ⌝ }
+{
+    if s.len() <= i {
+        return false;
+    }
+    ascii::is_letter(s[i])
 }
 
 // The token t, if it is good and a token may end before e.
@@ -97,7 +148,7 @@ fn id_token(s: &[u8], i: usize, mode: Mode) -> Token
 {
     let a = i + 1;
     let e = part_end(s, a);
-    let good = names::is_css_identifier(&s[a..e]);
+    let good = starts_name(s, a);
     finish(s, e, mode, good, Token::Id(a, e))
 }
 
@@ -108,7 +159,7 @@ fn class_token(s: &[u8], i: usize, mode: Mode) -> Token
 {
     let a = i + 1;
     let e = part_end(s, a);
-    let good = names::is_css_identifier(&s[a..e]);
+    let good = starts_name(s, a);
     finish(s, e, mode, good, Token::Class(a, e))
 }
 
@@ -177,10 +228,10 @@ fn name_token(s: &[u8], i: usize, mode: Mode) -> Token
 {
     let e = part_end(s, i);
     if !has_equals(s, e) {
-        let good = names::is_boolean_attr_name(&s[i..e]);
+        let good = starts_bare(s, i);
         return finish(s, e, mode, good, Token::Bare(i, e));
     }
-    if !names::is_identifier(&s[i..e]) {
+    if !starts_key(s, i) {
         return Token::Bad;
     }
     value_token(s, i, e, mode)

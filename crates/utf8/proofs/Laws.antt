@@ -7,37 +7,17 @@ use Prim.Native.Nat.{ℕ, zero, suc, _+_, _-_, _<_, _≤_, zero-le}
 use native.Mathlib.Nat.{zero-add, add-zero}
 use native.Mathlib.Omega.{arith}
 use native.Mathlib.Numerals.{add-one}
-use lib.Dec.{eqb}
-use lib.ListN.{length, getD, drop, drop-of-length-le, List·getD-eq-default}
+use lib.Dec.{leb, eqb}
+use lib.ListN.{replicate, length, getD, drop, length-drop, drop-of-length-le, List·getD-eq-default}
 use lib.Seq.{drop-cons}
-use borrow.Author.Tests.{eqb-true, eqb-false, eq-eqb, le-leb, lt-leb}
+use borrow.Author.Tests.{leb-true, eqb-true, eqb-false, eq-eqb, ne-eqb, le-leb, lt-leb}
+use Rattle.lists.proofs.Scan.{both}
+use Rattle.lists.proofs.Steady.{steady, values}
 use Rattle.ascii.specs.Bytes.{isTail, within}
 use Rattle.utf8.specs.declared.Want.{Want}
-use Rattle.utf8.specs.declared.Next.the-variants.{Bad, Go}
-use Rattle.utf8.specs.Utf8.{isUtf8, octetsFrom, leadOf, afterOf, fresh, isBoundary, charCount}
-use Rattle.utf8.specs.Blocks.{NoneAbove}
-
--- ---- the loop of `is_utf8` stands before byte i of s with w wanted: the answer for the rest is the answer for the whole
-pub record Reads (s : List ℕ) (i : ℕ) (w : Want) : Type 0 where
-  pub inside : i ≤ length s
-  pub rest : octetsFrom (drop i s) w ≡ isUtf8 s
-
-pub start : (s : List ℕ) → Reads s 0 fresh
-unfolding isUtf8
-start s = record { inside = zero-le; rest = refl }
-
-module _ {s : List ℕ} {i : ℕ} {w : Want} (inv : Reads s i w) where
-  pub stop : i < length s → Bad ≡ afterOf w (getD s i 0) → false ≡ isUtf8 s
-  unfolding octetsFrom
-  stop h e = rw (drop-cons s i 0 h, ← e) at (inv .rest)
-
-  pub go : {v : Want} → i < length s → Go v ≡ afterOf w (getD s i 0) → Reads s (i + 1) v
-  unfolding octetsFrom
-  go h e = record { inside = omega arith; rest = rw add-one (rw (drop-cons s i 0 h, ← e) at (inv .rest)) }
-
-  pub end : length s ≤ i → eqb (w .owed) 0 ≡ isUtf8 s
-  unfolding octetsFrom
-  end h = rw (drop-of-length-le s h) at (inv .rest)
+use Rattle.utf8.specs.declared.Next.the-variants.{Bad}
+use Rattle.utf8.specs.Utf8.{isUtf8, octetsFrom, leadOf, afterOf, fresh, want, goOn, isBoundary, charCount}
+use Rattle.utf8.specs.Blocks.{NoneAbove, Same, Passed, Begins}
 
 -- ---- where nothing is owed, the range does not matter
 pub idle : (s : List ℕ) (w : Want) → w .owed ≡ 0 → octetsFrom s w ≡ octetsFrom s fresh
@@ -60,11 +40,133 @@ skipped (suc n) s i h low =
     ∙ skipped n s (suc i) (omega arith) (λ k a b. low k (omega arith) (omega arith))
     ∙ ap (λ (m : ℕ). octetsFrom (drop m s) fresh) z
 
-pub skip : {s : List ℕ} {i e m : ℕ} {w : Want} → Reads s i w → w .owed ≡ 0 → (i < e) × (e ≤ length s) → NoneAbove s i e m → m ≤ 0x7F → Reads s e w
-skip {s} {i} {e} {m} {w} inv o b low h =
+pub low-same : {s : List ℕ} {i e m : ℕ} → i ≤ e → e ≤ length s → NoneAbove s i e m → m ≤ 0x7F → Same s i e
+low-same {s} {i} {e} {m} o b low h =
     let z : i + (e - i) ≡ e = omega arith in
     let p = skipped (e - i) s i (omega arith) (λ k a l. let q = low .below k a (omega arith) in omega arith) in
-    record { inside = b .1; rest = idle (drop e s) w o ∙ sym (rw z at p) ∙ sym (idle (drop i s) w o) ∙ inv .rest }
+    record { onward = o; inside = b; same = rw z at p }
+
+-- ---- passing one piece and then another
+pub same-start : (s : List ℕ) (i : ℕ) → i ≤ length s → Same s i i
+same-start s i h = record { onward = omega arith; inside = h; same = refl }
+
+pub same-then : {s : List ℕ} {i j k : ℕ} → Same s i j → Same s j k → Same s i k
+same-then p q = record { onward = omega (arith, p .onward, q .onward); inside = q .inside; same = p .same ∙ q .same }
+
+pub same-low : {s : List ℕ} {i j : ℕ} → Same s i j → j < length s → getD s j 0 ≤ 0x7F → Same s i (j + 1)
+same-low {s} {i} {j} p h l = record { onward = omega (arith, p .onward); inside = omega arith; same = p .same ∙ (rw add-one (rw (drop-cons s j 0 h) (past-ascii (getD s j 0) (drop (suc j) s) l))) }
+
+pub same-on : {s : List ℕ} {i j k : ℕ} → Same s i j → Passed s j k → 0 < k → Same s i k
+same-on p q h = same-then p (q .on h .1)
+
+pub passed : {s : List ℕ} {i j : ℕ} → Same s i j → i < j → Passed s i j
+passed p h = record { on = λ l. (h, p); off = λ e. absurd (omega arith) }
+
+pub not-passed : {s : List ℕ} {i : ℕ} → octetsFrom (drop i s) fresh ≡ false → Passed s i 0
+not-passed e = record { on = λ l. absurd (omega arith); off = λ z. e }
+
+pub fails : {s : List ℕ} {i j k : ℕ} → Same s i j → Passed s j k → k ≡ 0 → Passed s i 0
+fails p q z = not-passed (p .same ∙ q .off z)
+
+-- ---- within a character: behind its first byte at i, at k, n bytes are owed, the next of them from lo to hi
+pub record Owes (s : List ℕ) (i k n lo hi : ℕ) : Type 0 where
+  pub rest : octetsFrom (drop i s) fresh ≡ octetsFrom (drop k s) (record { owed = n; lo = lo; hi = hi })
+
+pub owes : {s : List ℕ} {i n lo hi : ℕ} → Begins s i n lo hi → Owes s i (i + 1) n lo hi
+unfolding octetsFrom afterOf
+owes {s} {i} b = record { rest = rw (drop-cons s i 0 (b .inside), b .asks, add-one) }
+
+-- a list shorter than what is owed
+short : (t : List ℕ) (n lo hi : ℕ) → length t < n → octetsFrom t (record { owed = n; lo = lo; hi = hi }) ≡ false
+unfolding octetsFrom afterOf
+short [] n lo hi h = ne-eqb n 0 (omega arith)
+short (a ∷ t) n lo hi h = rw (ne-eqb n 0 (omega arith)) (at (within lo hi a) (short t (n - 1) 0x80 0xBF (omega arith)))
+  where
+    at : (b : Bool) → octetsFrom t (record { owed = n - 1; lo = 0x80; hi = 0xBF }) ≡ false → goOn (cond b (want (n - 1) 0x80 0xBF) Bad) (octetsFrom t) ≡ false
+    at true e = e
+    at false e = refl
+
+pub cut : {s : List ℕ} {i n lo hi : ℕ} → Begins s i n lo hi → length s - i < n + 1 → Passed s i 0
+cut {s} {i} {n} {lo} {hi} b h = not-passed (owes b .rest ∙ short (drop (i + 1) s) n lo hi (omega (arith, length-drop (i + 1) s, b .inside)))
+
+module _ {s : List ℕ} {i k n lo hi : ℕ} (o : Owes s i k (suc n) lo hi) (h : k < length s) where
+  pub owes-on : lo ≤ getD s k 0 → getD s k 0 ≤ hi → Owes s i (k + 1) n 0x80 0xBF
+  unfolding octetsFrom afterOf within
+  owes-on l u =
+      let z : suc n - 1 ≡ n = omega arith in
+      record { rest = o .rest ∙ rw (drop-cons s k 0 h, ne-eqb (suc n) 0 (omega arith), le-leb lo (getD s k 0) l, le-leb (getD s k 0) hi u, z, add-one) }
+
+  pub below : getD s k 0 < lo → Passed s i 0
+  unfolding octetsFrom afterOf within
+  below l = not-passed (o .rest ∙ rw (drop-cons s k 0 h, ne-eqb (suc n) 0 (omega arith), lt-leb lo (getD s k 0) l))
+
+  pub above : lo ≤ getD s k 0 → hi < getD s k 0 → Passed s i 0
+  unfolding octetsFrom afterOf within
+  above l u = not-passed (o .rest ∙ rw (drop-cons s k 0 h, ne-eqb (suc n) 0 (omega arith), le-leb lo (getD s k 0) l, lt-leb (getD s k 0) hi u))
+
+-- ---- a byte that goes on a character and one that does not, in a character's last place or before it
+module _ {s : List ℕ} {i k n : ℕ} (o : Owes s i k (suc n) 0x80 0xBF) (h : k < length s) where
+  pub tail-on : isTail (getD s k 0) ≡ true → Owes s i (k + 1) n 0x80 0xBF
+  unfolding isTail within
+  tail-on e =
+      let p = both (leb 0x80 (getD s k 0)) (leb (getD s k 0) 0xBF) e in
+      owes-on o h (leb-true 0x80 (getD s k 0) (p .0)) (leb-true (getD s k 0) 0xBF (p .1))
+
+  pub no-tail : isTail (getD s k 0) ≡ false → Passed s i 0
+  unfolding octetsFrom afterOf isTail
+  no-tail e = not-passed (o .rest ∙ rw (drop-cons s k 0 h, ne-eqb (suc n) 0 (omega arith), e))
+
+-- the third byte of a character is next, and the fourth
+pub third : {s : List ℕ} {i n lo hi : ℕ} → Begins s i (suc n) lo hi → i + 1 < length s → lo ≤ getD s (i + 1) 0 → getD s (i + 1) 0 ≤ hi → Owes s i (i + 2) n 0x80 0xBF
+third {s} {i} b h l u = let z : i + 1 + 1 ≡ i + 2 = omega arith in rw z at (owes-on (owes b) h l u)
+
+pub fourth : {s : List ℕ} {i n : ℕ} → Owes s i (i + 2) (suc n) 0x80 0xBF → i + 2 < length s → isTail (getD s (i + 2) 0) ≡ true → Owes s i (i + 3) n 0x80 0xBF
+fourth {s} {i} o h e = let z : i + 2 + 1 ≡ i + 3 = omega arith in rw z at (tail-on o h e)
+
+pub last : {s : List ℕ} {i k r : ℕ} → Owes s i k 1 0x80 0xBF → i < k → k < length s → r ≡ cond (isTail (getD s k 0)) (k + 1) 0 → Passed s i r
+last {s} {i} {k} {r} o l h e = at (isTail (getD s k 0)) refl
+  where
+    at : (b : Bool) → isTail (getD s k 0) ≡ b → Passed s i r
+    at true t =
+        let z : r ≡ k + 1 = rw t at e in
+        let q = tail-on o h t in
+        rw z (passed (record { onward = omega arith; inside = omega arith; same = q .rest }) (omega arith))
+    at false t = let z : r ≡ 0 = rw t at e in rw z (no-tail o h t)
+
+-- ---- the first byte of a character, one of the m from a on, which all ask for the same
+pub begins : {s : List ℕ} {i n lo hi : ℕ} (a m : ℕ) → i < length s → values leadOf m a ≡ replicate m (want n lo hi) → a ≤ getD s i 0 → getD s i 0 < a + m → Begins s i n lo hi
+begins {s} {i} {n} {lo} {hi} a m h e l u = record { inside = h; asks = sym (steady leadOf (want n lo hi) a m (getD s i 0) e l u) }
+
+pub no-lead : {s : List ℕ} {i : ℕ} (a m : ℕ) → i < length s → values leadOf m a ≡ replicate m Bad → a ≤ getD s i 0 → getD s i 0 < a + m → Passed s i 0
+unfolding octetsFrom afterOf
+no-lead {s} {i} a m h e l u = not-passed (rw (drop-cons s i 0 h, sym (steady leadOf Bad a m (getD s i 0) e l u)))
+
+pub past-leads : {s : List ℕ} {i : ℕ} → i < length s → 0xF4 < getD s i 0 → Passed s i 0
+unfolding octetsFrom afterOf leadOf
+past-leads {s} {i} h l =
+    let b = getD s i 0 in
+    not-passed (rw (
+      drop-cons s i 0 h,
+      lt-leb b 0x7F (omega arith),
+      lt-leb b 0xC1 (omega arith),
+      lt-leb b 0xDF (omega arith),
+      lt-leb b 0xE0 (omega arith),
+      lt-leb b 0xEC (omega arith),
+      lt-leb b 0xED (omega arith),
+      lt-leb b 0xEF (omega arith),
+      lt-leb b 0xF0 (omega arith),
+      lt-leb b 0xF3 (omega arith),
+      lt-leb b 0xF4 (omega arith),
+    ))
+
+-- ---- the whole text
+pub whole-end : {s : List ℕ} {i : ℕ} → Same s 0 i → length s ≤ i → true ≡ isUtf8 s
+unfolding isUtf8 octetsFrom
+whole-end {s} p h = sym (rw (drop-of-length-le s h) at (p .same))
+
+pub whole-fails : {s : List ℕ} {i j : ℕ} → Same s 0 i → Passed s i j → j ≡ 0 → false ≡ isUtf8 s
+unfolding isUtf8
+whole-fails p q z = sym (fails p q z .off refl)
 
 -- ---- none of the bytes from i to before k is above m
 pub tops-start : (s : List ℕ) (i : ℕ) → NoneAbove s i i 0

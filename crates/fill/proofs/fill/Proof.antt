@@ -25,11 +25,17 @@ refusing-requires-2 c κs = search needs
 returns-2 : tie.Need-returns-2
 returns-2 c = let a = (c .before .before .before .before .before .before .before .args) in whole.no-token (a .mode) (a .text .now) (a .at) (a .end) (c .before .before .before .before .before .too-long .ensures) (c .before .before .before .before .if1 .left) (c .before .before .before .bytes-of .ensures) (c .before .before .blank-end .ensures) (omega (arith, (c .before .if2 .taken))) (c .refusing2 .ensures)
 
-fill-part-requires : tie.Need-fill-part-requires
-fill-part-requires c κs = let a = (c .before .before .before .before .before .before .args) in omega (arith, (c .before .blank-end .ensures), (c .if2 .left), whole.short (a .mode) (a .text .now) (a .at) (a .end) (c .before .before .before .before .too-long .ensures) (c .before .before .before .if1 .left) (c .before .before .bytes-of .ensures))
+empty-requires : tie.Need-empty-requires
+empty-requires c κs = search needs
+
+fill-unless-requires : tie.Need-fill-unless-requires
+fill-unless-requires c κs =
+    let a = (c .before .before .before .before .before .before .before .args) in
+    let short = whole.short (a .mode) (a .text .now) (a .at) (a .end) (c .before .before .before .before .before .too-long .ensures) (c .before .before .before .before .if1 .left) (c .before .before .before .bytes-of .ensures) in
+    (omega (arith, (c .before .before .blank-end .ensures), (c .before .if2 .left)), omega (arith), omega (arith, short), (c .empty .ensures))
 
 returns-3 : tie.Need-returns-3
-returns-3 c = let a = (c .before .before .before .before .before .before .before .args) in whole.tokens (a .mode) (a .text .now) (a .at) (a .end) (c .before .before .before .before .before .too-long .ensures) (c .before .before .before .before .if1 .left) (c .before .before .before .bytes-of .ensures) (c .before .before .blank-end .ensures) (omega (arith, (c .before .if2 .left))) (c .fill-part .ensures)
+returns-3 c = let a = (c .before .before .before .before .before .before .before .before .args) in whole.tokens (a .mode) (a .text .now) (a .at) (a .end) (c .before .before .before .before .before .before .too-long .ensures) (c .before .before .before .before .before .if1 .left) (c .before .before .before .before .bytes-of .ensures) (c .before .before .before .blank-end .ensures) (omega (arith, (c .before .before .if2 .left))) (c .fill-unless .ensures)
 
 pub fill-spec : {M : Type 1} → statement M
 fill-spec =
@@ -42,5 +48,6 @@ fill-spec =
     blank-end-requires
     refusing-requires-2
     returns-2
-    fill-part-requires
+    empty-requires
+    fill-unless-requires
     returns-3)

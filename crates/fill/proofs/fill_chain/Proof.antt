@@ -36,11 +36,18 @@ refusing-requires-3 c κs = search needs
 enum-known-e : tie.Need-enum-known-e
 enum-known-e c = search needs
 
-add-fill-part : tie.Need-add-fill-part
-add-fill-part c = let z = chains.goes (c .before .before .before .next-block .ensures) (c .before .e .given .1) in omega (arith, z .ahead, z .within)
+add-fill-unless : tie.Need-add-fill-unless
+add-fill-unless c = let z = chains.goes (c .before .before .before .next-block .ensures) (c .before .e .given .1) in omega (arith, z .ahead, z .within)
 
-fill-part-requires : tie.Need-fill-part-requires
-fill-part-requires c κs = let z = chains.goes (c .before .before .before .next-block .ensures) (c .before .e .given .1) in let a = (c .before .before .before .before .before .before .before .before .args) in omega (arith, z .ahead, z .within, whole.line-short (a .text .now) (a .from) (a .to) (c .before .before .before .before .before .before .too-long .ensures) (c .before .before .before .before .before .if1 .left) (c .before .before .before .before .bytes-of .ensures))
+empty-requires : tie.Need-empty-requires
+empty-requires c κs = search needs
+
+fill-unless-requires : tie.Need-fill-unless-requires
+fill-unless-requires c κs =
+    let z = chains.goes (c .before .before .before .before .next-block .ensures) (c .before .before .e .given .1) in
+    let a = (c .before .before .before .before .before .before .before .before .before .args) in
+    let short = whole.line-short (a .text .now) (a .from) (a .to) (c .before .before .before .before .before .before .before .too-long .ensures) (c .before .before .before .before .before .before .if1 .left) (c .before .before .before .before .before .bytes-of .ensures) in
+    (omega (arith, z .ahead), omega (arith, z .within), omega (arith, short), (c .empty .ensures))
 
 returns-2 : tie.Need-returns-2
 returns-2 c = let a = (c .before .before .before .before .before .before .before .before .args) in whole.no-block (a .text .now) (a .from) (a .to) (c .before .before .before .before .before .before .too-long .ensures) (c .before .before .before .before .before .if1 .left) (c .before .before .before .before .bytes-of .ensures) (c .before .before .before .next-block .ensures) (c .before .enum-told .given .1) (c .refusing2 .ensures)
@@ -49,7 +56,7 @@ returns-3 : tie.Need-returns-3
 returns-3 c = let a = (c .before .before .before .before .before .before .before .before .args) in whole.unread (a .text .now) (a .from) (a .to) (c .before .before .before .before .before .before .too-long .ensures) (c .before .before .before .before .before .if1 .left) (c .before .before .before .before .bytes-of .ensures) (c .before .before .before .next-block .ensures) (c .before .enum-told2 .given .1) (c .refusing3 .ensures)
 
 returns-4 : tie.Need-returns-4
-returns-4 c = let a = (c .before .before .before .before .before .before .before .before .before .args) in whole.blocks (a .text .now) (a .from) (a .to) (c .before .before .before .before .before .before .before .too-long .ensures) (c .before .before .before .before .before .before .if1 .left) (c .before .before .before .before .before .bytes-of .ensures) (c .before .before .before .before .next-block .ensures) (c .before .before .e .given .1) (c .fill-part .ensures)
+returns-4 c = let a = (c .before .before .before .before .before .before .before .before .before .before .args) in whole.blocks (a .text .now) (a .from) (a .to) (c .before .before .before .before .before .before .before .before .too-long .ensures) (c .before .before .before .before .before .before .before .if1 .left) (c .before .before .before .before .before .before .bytes-of .ensures) (c .before .before .before .before .before .next-block .ensures) (c .before .before .before .e .given .1) (c .fill-unless .ensures)
 
 pub fill-chain-spec : {M : Type 1} → statement M
 fill-chain-spec =
@@ -65,8 +72,9 @@ fill-chain-spec =
     enum-told-2
     refusing-requires-3
     enum-known-e
-    add-fill-part
-    fill-part-requires
+    add-fill-unless
+    empty-requires
+    fill-unless-requires
     returns-2
     returns-3
     returns-4)

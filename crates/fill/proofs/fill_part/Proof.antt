@@ -13,31 +13,28 @@ use Rattle.fill.proofs.fill_part.Statement.{statement}
 use Rattle.fill.proofs.fill_part.Tie as tie
 
 abbrev Inv-pushes : tie.InvT-pushes
-Inv-pushes text w at close mode set₀ end₀ cur₀ set end cur = fills.Fills (one text) mode w (filledFrom (one text) noRows (chainRest mode w close (tokensAt at))) set end cur
+Inv-pushes text w at close mode start set₀ end₀ cur₀ set end cur = fills.Fills (one text) mode w (filledFrom (one text) noRows (chainRest mode w close (tokensAt at))) set end cur
 
 abbrev μ-pushes : tie.MeasureT-pushes
-μ-pushes text w at close mode set₀ end₀ cur₀ set end cur = length w - cur .at
-
-empty-requires : tie.Need-empty-requires Inv-pushes μ-pushes
-empty-requires c κs = search needs
+μ-pushes text w at close mode start set₀ end₀ cur₀ set end cur = length w - cur .at
 
 before-tokens-requires : tie.Need-before-tokens-requires Inv-pushes μ-pushes
 before-tokens-requires c κs = search needs
 
 pushes-holds : tie.Need-pushes-holds Inv-pushes μ-pushes
-pushes-holds c = fills.start _ _ _ _ _ (c .before .before .before .before .pre .0) (c .before .before .before .before .pre .1) (c .before .empty .ensures) (c .before-tokens .ensures)
+pushes-holds c = fills.start _ _ _ _ _ (c .before .before .before .pre .0) (c .before .before .before .pre .1) (c .before .before .before .pre .3) (c .before-tokens .ensures)
 
 slice-aggregate-next-push : tie.Need-slice-aggregate-next-push Inv-pushes μ-pushes
 slice-aggregate-next-push c = sym (chains.front ((c .before .pushes .inv) .stands))
 
 next-push-requires : tie.Need-next-push-requires Inv-pushes μ-pushes
-next-push-requires c κs = let i = (c .before .pushes .inv) in (i .stands .inside, omega (arith, chains.front (i .stands), i .stands .fits, (c .before .before .before .before .before .before .pre .2)))
+next-push-requires c κs = let i = (c .before .pushes .inv) in (i .stands .inside, omega (arith, chains.front (i .stands), i .stands .fits, (c .before .before .before .before .before .pre .2)))
 
 enum-told : tie.Need-enum-told Inv-pushes μ-pushes
 enum-told c = search needs
 
 block-behind-requires : tie.Need-block-behind-requires Inv-pushes μ-pushes
-block-behind-requires c κs = let i = (c .before .before .before .before .pushes .inv) in (i .stands .fits, (c .before .before .before .before .before .before .before .before .before .pre .2))
+block-behind-requires c κs = let i = (c .before .before .before .before .pushes .inv) in (i .stands .fits, (c .before .before .before .before .before .before .before .before .pre .2))
 
 enum-told-2 : tie.Need-enum-told-2 Inv-pushes μ-pushes
 enum-told-2 c = search needs
@@ -48,17 +45,17 @@ returns c = fills.last (c .before .before .before .before .before .before .befor
 enum-told-3 : tie.Need-enum-told-3 Inv-pushes μ-pushes
 enum-told-3 c = search needs
 
-refusing-requires : tie.Need-refusing-requires Inv-pushes μ-pushes
-refusing-requires c κs = search needs
+refused-by-requires : tie.Need-refused-by-requires Inv-pushes μ-pushes
+refused-by-requires c κs = search needs
 
 returns-2 : tie.Need-returns-2 Inv-pushes μ-pushes
-returns-2 c = fills.unread (c .before .before .before .before .before .before .before .before .pushes .inv) (c .before .before .before .before .before .before .next-push .ensures) (c .before .before .before .block-behind .ensures) (c .before .before .before .before .enum-told .given .1) (c .before .enum-told3 .given .1) (c .refusing .ensures)
+returns-2 c = fills.unread (c .before .before .before .before .before .before .before .before .pushes .inv) (c .before .before .before .before .before .before .next-push .ensures) (c .before .before .before .block-behind .ensures) (c .before .before .before .before .enum-told .given .1) (c .before .enum-told3 .given .1) (fills.none (c .before .before .before .before .before .before .before .before .before .before .before .before .pre .3) (c .refused-by .ensures))
 
 enum-known-e : tie.Need-enum-known-e Inv-pushes μ-pushes
 enum-known-e c = search needs
 
 add-before-tokens : tie.Need-add-before-tokens Inv-pushes μ-pushes
-add-before-tokens c = let i = (c .before .before .before .before .before .before .before .before .pushes .inv) in omega (arith, i .stands .fits, (c .before .before .before .before .before .before .before .before .before .before .before .before .before .pre .2))
+add-before-tokens c = let i = (c .before .before .before .before .before .before .before .before .pushes .inv) in omega (arith, i .stands .fits, (c .before .before .before .before .before .before .before .before .before .before .before .before .pre .2))
 
 before-tokens-requires-2 : tie.Need-before-tokens-requires-2 Inv-pushes μ-pushes
 before-tokens-requires-2 c κs = search needs
@@ -72,11 +69,11 @@ pushes-again c = fills.into (c .before .before .before .before .before .before .
 enum-told-4 : tie.Need-enum-told-4 Inv-pushes μ-pushes
 enum-told-4 c = search needs
 
-refusing-requires-2 : tie.Need-refusing-requires-2 Inv-pushes μ-pushes
-refusing-requires-2 c κs = search needs
+refused-by-requires-2 : tie.Need-refused-by-requires-2 Inv-pushes μ-pushes
+refused-by-requires-2 c κs = search needs
 
 returns-3 : tie.Need-returns-3 Inv-pushes μ-pushes
-returns-3 c = fills.bad (c .before .before .before .before .before .pushes .inv) (c .before .before .before .next-push .ensures) (c .before .enum-told4 .given .1) (c .refusing2 .ensures)
+returns-3 c = fills.bad (c .before .before .before .before .before .pushes .inv) (c .before .before .before .next-push .ensures) (c .before .enum-told4 .given .1) (fills.none (c .before .before .before .before .before .before .before .before .before .pre .3) (c .refused-by2 .ensures))
 
 enum-known-v : tie.Need-enum-known-v Inv-pushes μ-pushes
 enum-known-v c = search needs
@@ -118,13 +115,13 @@ add-passed-limit : tie.Need-add-passed-limit Inv-pushes μ-pushes
 add-passed-limit c = let i = (c .before .before .before .before .before .before .pushes .inv) in omega (arith, fills.few (i .holds))
 
 passed-limit-requires : tie.Need-passed-limit-requires Inv-pushes μ-pushes
-passed-limit-requires c κs = let i = (c .before .before .before .before .before .before .pushes .inv) in (walk.class-gives (c .before .before .before .before .next-push .ensures) (c .before .before .v2 .given .1) .inside, i .stands .fits, (c .before .before .before .before .before .before .before .before .before .before .before .pre .2), omega (arith, fills.few (i .holds)))
+passed-limit-requires c κs = let i = (c .before .before .before .before .before .before .pushes .inv) in (walk.class-gives (c .before .before .before .before .next-push .ensures) (c .before .before .v2 .given .1) .inside, i .stands .fits, (c .before .before .before .before .before .before .before .before .before .before .pre .2), omega (arith, fills.few (i .holds)))
 
-refusing-requires-3 : tie.Need-refusing-requires-3 Inv-pushes μ-pushes
-refusing-requires-3 c κs = search needs
+refused-by-requires-3 : tie.Need-refused-by-requires-3 Inv-pushes μ-pushes
+refused-by-requires-3 c κs = search needs
 
 returns-4 : tie.Need-returns-4 Inv-pushes μ-pushes
-returns-4 c = fills.class-over (c .before .before .before .before .before .before .before .before .pushes .inv) (walk.class-gives (c .before .before .before .before .before .before .next-push .ensures) (c .before .before .before .before .v2 .given .1)) (omega (arith, (c .before .before .if2 .taken))) (c .before .passed-limit .ensures) (c .refusing3 .ensures)
+returns-4 c = fills.class-over (c .before .before .before .before .before .before .before .before .pushes .inv) (walk.class-gives (c .before .before .before .before .before .before .next-push .ensures) (c .before .before .before .before .v2 .given .1)) (omega (arith, (c .before .before .if2 .taken))) (c .before .passed-limit .ensures) (fills.none (c .before .before .before .before .before .before .before .before .before .before .before .before .pre .3) (c .refused-by3 .ensures))
 
 mul-v : tie.Need-mul-v Inv-pushes μ-pushes
 mul-v c = search needs
@@ -190,13 +187,13 @@ cast-passed-limit : tie.Need-cast-passed-limit Inv-pushes μ-pushes
 cast-passed-limit c = let i = (c .before .before .before .before .before .before .before .before .before .pushes .inv) in omega (arith, fills.few (i .holds))
 
 passed-limit-requires-2 : tie.Need-passed-limit-requires-2 Inv-pushes μ-pushes
-passed-limit-requires-2 c κs = let i = (c .before .before .before .before .before .before .before .before .before .pushes .inv) in (walk.key-gives (c .before .before .before .before .before .before .before .next-push .ensures) (c .before .before .before .before .before .name .given .1) .inside, i .stands .fits, (c .before .before .before .before .before .before .before .before .before .before .before .before .before .before .pre .2), omega (arith, fills.few (i .holds)))
+passed-limit-requires-2 c κs = let i = (c .before .before .before .before .before .before .before .before .before .pushes .inv) in (walk.key-gives (c .before .before .before .before .before .before .before .next-push .ensures) (c .before .before .before .before .before .name .given .1) .inside, i .stands .fits, (c .before .before .before .before .before .before .before .before .before .before .before .before .before .pre .2), omega (arith, fills.few (i .holds)))
 
-refusing-requires-4 : tie.Need-refusing-requires-4 Inv-pushes μ-pushes
-refusing-requires-4 c κs = search needs
+refused-by-requires-4 : tie.Need-refused-by-requires-4 Inv-pushes μ-pushes
+refused-by-requires-4 c κs = search needs
 
 returns-5 : tie.Need-returns-5 Inv-pushes μ-pushes
-returns-5 c = fills.key-over (c .before .before .before .before .before .before .before .before .before .before .before .pushes .inv) (walk.key-gives (c .before .before .before .before .before .before .before .before .before .next-push .ensures) (c .before .before .before .before .before .before .before .name .given .1)) (c .before .before .before .before .find-key .ensures) (omega (arith, (c .before .before .before .if4 .left))) (omega (arith, (c .before .before .if5 .taken))) (c .before .passed-limit2 .ensures) (c .refusing4 .ensures)
+returns-5 c = fills.key-over (c .before .before .before .before .before .before .before .before .before .before .before .pushes .inv) (walk.key-gives (c .before .before .before .before .before .before .before .before .before .next-push .ensures) (c .before .before .before .before .before .before .before .name .given .1)) (c .before .before .before .before .find-key .ensures) (omega (arith, (c .before .before .before .if4 .left))) (omega (arith, (c .before .before .if5 .taken))) (c .before .passed-limit2 .ensures) (fills.none (c .before .before .before .before .before .before .before .before .before .before .before .before .before .before .before .pre .3) (c .refused-by4 .ensures))
 
 cast-p-3 : tie.Need-cast-p-3 Inv-pushes μ-pushes
 cast-p-3 c = let i = (c .before .before .before .before .before .before .before .before .before .pushes .inv) in omega (arith, fills.few (i .holds))
@@ -231,7 +228,6 @@ fill-part-spec =
     (tie.spec
     Inv-pushes
     μ-pushes
-    empty-requires
     before-tokens-requires
     pushes-holds
     slice-aggregate-next-push
@@ -241,7 +237,7 @@ fill-part-spec =
     enum-told-2
     returns
     enum-told-3
-    refusing-requires
+    refused-by-requires
     returns-2
     enum-known-e
     add-before-tokens
@@ -249,7 +245,7 @@ fill-part-spec =
     pushes-less
     pushes-again
     enum-told-4
-    refusing-requires-2
+    refused-by-requires-2
     returns-3
     enum-known-v
     is-given-requires
@@ -265,7 +261,7 @@ fill-part-spec =
     cast-n
     add-passed-limit
     passed-limit-requires
-    refusing-requires-3
+    refused-by-requires-3
     returns-4
     mul-v
     element-set-from-v
@@ -289,7 +285,7 @@ fill-part-spec =
     pushes-again-6
     cast-passed-limit
     passed-limit-requires-2
-    refusing-requires-4
+    refused-by-requires-4
     returns-5
     cast-p-3
     mul-t71

@@ -26,15 +26,6 @@ refused-requires c κs = search needs
 returns : tie.Need-returns
 returns c = (c .refused .ensures) ∙ laws.not-utf8 (c .before .before .before .before .before .args .mode) (c .before .before .before .before .before .args .text .now) (c .before .before .before .before .before .args .place) (c .before .before .before .before .before .args .end) (sym (c .before .before .is-utf8 .ensures) ∙ not-true _ (c .before .if1 .taken))
 
-attr-payload-provably-invalid-requires : tie.Need-attr-payload-provably-invalid-requires
-attr-payload-provably-invalid-requires c κs = search needs
-
-refused-requires-2 : tie.Need-refused-requires-2
-refused-requires-2 c κs = search needs
-
-returns-2 : tie.Need-returns-2
-returns-2 c = (c .refused2 .ensures) ∙ laws.quick (c .before .before .before .before .before .before .before .args .mode) (c .before .before .before .before .before .before .before .args .text .now) (c .before .before .before .before .before .before .before .args .place) (c .before .before .before .before .before .before .before .args .end) (sym (c .before .before .before .before .is-utf8 .ensures) ∙ not-false _ (c .before .before .before .if1 .left)) ((c .before .before .before .before .before .before .before .pre) .1 .1 .1) (sym (c .before .before .attr-payload-provably-invalid .ensures) ∙ (c .before .if2 .taken))
-
 add-fill : tie.Need-add-fill
 add-fill c = search needs
 
@@ -47,8 +38,8 @@ add-handed-out c = search needs
 handed-out-requires : tie.Need-handed-out-requires
 handed-out-requires c κs = search needs
 
-returns-3 : tie.Need-returns-3
-returns-3 c = (c .handed-out .ensures) ∙ laws.filled (c .before .before .before .before .before .before .before .before .args .mode) (c .before .before .before .before .before .before .before .before .args .text .now) (c .before .before .before .before .before .before .before .before .args .place) (c .before .before .before .before .before .before .before .before .args .end) (sym (c .before .before .before .before .before .is-utf8 .ensures) ∙ not-false _ (c .before .before .before .before .if1 .left)) ((c .before .before .before .before .before .before .before .before .pre) .0) (c .before .fill .ensures)
+returns-2 : tie.Need-returns-2
+returns-2 c = (c .handed-out .ensures) ∙ laws.filled (c .before .before .before .before .before .before .args .mode) (c .before .before .before .before .before .before .args .text .now) (c .before .before .before .before .before .before .args .place) (c .before .before .before .before .before .before .args .end) (sym (c .before .before .before .is-utf8 .ensures) ∙ not-false _ (c .before .before .if1 .left)) ((c .before .before .before .before .before .before .pre) .0) (c .before .fill .ensures)
 
 pub read-payload-spec : {M : Type 1} → statement M
 read-payload-spec =
@@ -61,11 +52,8 @@ read-payload-spec =
     is-utf8-requires
     refused-requires
     returns
-    attr-payload-provably-invalid-requires
-    refused-requires-2
-    returns-2
     add-fill
     fill-requires
     add-handed-out
     handed-out-requires
-    returns-3)
+    returns-2)

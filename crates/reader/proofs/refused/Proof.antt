@@ -2,11 +2,11 @@ use borrow.Author.Needs.{needs}
 use Rattle.reader.proofs.refused.Statement.{statement}
 use Rattle.reader.proofs.refused.Tie as tie
 
-empty-requires : tie.Need-empty-requires
-empty-requires c κs = search needs
+refusing-requires : tie.Need-refusing-requires
+refusing-requires c κs = search needs
 
 returns : tie.Need-returns
-returns c = rw (c .empty .ensures)
+returns c = rw (c .before .refusing .ensures)
 
 pub refused-spec : {M : Type 1} → statement M
-refused-spec = tie.close (tie.spec empty-requires returns)
+refused-spec = tie.close (tie.spec refusing-requires returns)

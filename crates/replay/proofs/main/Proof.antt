@@ -20,10 +20,7 @@ slice-aggregate-answer-all-4 : tie.Need-slice-aggregate-answer-all-4
 slice-aggregate-answer-all-4 c = sym (length-replicate {A = ℕ} 65535 255)
 
 slice-aggregate-answer-all-5 : tie.Need-slice-aggregate-answer-all-5
-slice-aggregate-answer-all-5 c = sym (length-replicate {A = ℕ} 65535 0)
-
-slice-aggregate-answer-all-6 : tie.Need-slice-aggregate-answer-all-6
-slice-aggregate-answer-all-6 c = sym (length-replicate {A = ℕ} 1048576 0)
+slice-aggregate-answer-all-5 c = sym (length-replicate {A = ℕ} 1048576 0)
 
 answer-all-requires : tie.Need-answer-all-requires
 answer-all-requires c κs = search needs
@@ -40,6 +37,5 @@ main-spec =
     slice-aggregate-answer-all-3
     slice-aggregate-answer-all-4
     slice-aggregate-answer-all-5
-    slice-aggregate-answer-all-6
     answer-all-requires
     returns)

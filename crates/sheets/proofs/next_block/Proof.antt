@@ -16,11 +16,14 @@ abbrev μ-lines : tie.MeasureT-lines
 read-at-requires : tie.Need-read-at-requires Inv-lines μ-lines
 read-at-requires c κs = search needs
 
+at-once-requires : tie.Need-at-once-requires Inv-lines μ-lines
+at-once-requires c κs = search needs
+
 same-length : tie.Need-same-length Inv-lines μ-lines
 same-length c = search needs
 
 returns : tie.Need-returns Inv-lines μ-lines
-returns c = laws.too-long _ _ _ (c .before .before .before .before .if1 .taken) (c .before .before .read-at .ensures)
+returns c = rw (c .at-once .ensures) (laws.too-long _ _ _ (c .before .before .before .before .before .if1 .taken) (c .before .before .before .read-at .ensures))
 
 read-at-requires-2 : tie.Need-read-at-requires-2 Inv-lines μ-lines
 read-at-requires-2 c κs = search needs
@@ -40,11 +43,14 @@ lines-holds c = laws.seeks-start _ _ _ (c .before .if1 .left) (c .if2 .left)
 read-at-requires-3 : tie.Need-read-at-requires-3 Inv-lines μ-lines
 read-at-requires-3 c κs = search needs
 
+at-once-requires-2 : tie.Need-at-once-requires-2 Inv-lines μ-lines
+at-once-requires-2 c κs = search needs
+
 same-length-3 : tie.Need-same-length-3 Inv-lines μ-lines
 same-length-3 c = search needs
 
 returns-3 : tie.Need-returns-3 Inv-lines μ-lines
-returns-3 c = laws.seeks-end (c .before .before .before .before .before .lines .inv) (c .before .before .before .before .if3 .taken) (c .before .before .read-at3 .ensures)
+returns-3 c = rw (c .at-once2 .ensures) (laws.seeks-end (c .before .before .before .before .before .before .lines .inv) (c .before .before .before .before .before .if3 .taken) (c .before .before .before .read-at3 .ensures))
 
 may-open-requires : tie.Need-may-open-requires Inv-lines μ-lines
 may-open-requires c κs = search needs
@@ -89,6 +95,7 @@ next-block-spec =
     Inv-lines
     μ-lines
     read-at-requires
+    at-once-requires
     same-length
     returns
     read-at-requires-2
@@ -97,6 +104,7 @@ next-block-spec =
     returns-2
     lines-holds
     read-at-requires-3
+    at-once-requires-2
     same-length-3
     returns-3
     may-open-requires

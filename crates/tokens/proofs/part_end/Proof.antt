@@ -19,15 +19,15 @@ abbrev μ-loop : tie.MeasureT-loop
 loop-holds : tie.Need-loop-holds Inv-loop μ-loop
 loop-holds c = runs.start _ _ _
 
-shared-slice-read-is-attr-ident-part :
-    tie.Need-shared-slice-read-is-attr-ident-part Inv-loop μ-loop
-shared-slice-read-is-attr-ident-part c = search needs
+shared-slice-read-is-part :
+    tie.Need-shared-slice-read-is-part Inv-loop μ-loop
+shared-slice-read-is-part c = search needs
 
-is-attr-ident-part-requires : tie.Need-is-attr-ident-part-requires Inv-loop μ-loop
-is-attr-ident-part-requires c κs = search needs
+is-part-requires : tie.Need-is-part-requires Inv-loop μ-loop
+is-part-requires c κs = search needs
 
 returns : tie.Need-returns Inv-loop μ-loop
-returns c = runs.stop (c .before .before .before .before .loop .inv) (omega arith) (sym (c .before .is-attr-ident-part .ensures) ∙ not-true _ (c .if1 .taken))
+returns c = runs.stop (c .before .before .before .before .loop .inv) (omega arith) (sym (c .before .is-part .ensures) ∙ not-true _ (c .if1 .taken))
 
 add-k : tie.Need-add-k Inv-loop μ-loop
 add-k c = omega arith
@@ -36,7 +36,7 @@ loop-less : tie.Need-loop-less Inv-loop μ-loop
 loop-less c = omega arith
 
 loop-again : tie.Need-loop-again Inv-loop μ-loop
-loop-again c = runs.go (c .before .before .before .before .loop .inv) (omega arith) (sym (c .before .is-attr-ident-part .ensures) ∙ not-false _ (c .if1 .left))
+loop-again c = runs.go (c .before .before .before .before .loop .inv) (omega arith) (sym (c .before .is-part .ensures) ∙ not-false _ (c .if1 .left))
 
 returns-2 : tie.Need-returns-2 Inv-loop μ-loop
 returns-2 c = runs.end (c .before .loop .inv) (omega arith)
@@ -48,8 +48,8 @@ part-end-spec =
     Inv-loop
     μ-loop
     loop-holds
-    shared-slice-read-is-attr-ident-part
-    is-attr-ident-part-requires
+    shared-slice-read-is-part
+    is-part-requires
     returns
     add-k
     loop-less

@@ -19,14 +19,14 @@ abbrev μ-loop : tie.MeasureT-loop
 loop-holds : tie.Need-loop-holds Inv-loop μ-loop
 loop-holds c = runs.start _ _ _
 
-shared-slice-read-is-plain : tie.Need-shared-slice-read-is-plain Inv-loop μ-loop
-shared-slice-read-is-plain c = search needs
+shared-slice-read-is-value-byte : tie.Need-shared-slice-read-is-value-byte Inv-loop μ-loop
+shared-slice-read-is-value-byte c = search needs
 
-is-plain-requires : tie.Need-is-plain-requires Inv-loop μ-loop
-is-plain-requires c κs = search needs
+is-value-byte-requires : tie.Need-is-value-byte-requires Inv-loop μ-loop
+is-value-byte-requires c κs = search needs
 
 returns : tie.Need-returns Inv-loop μ-loop
-returns c = runs.stop (c .before .before .before .before .loop .inv) (omega arith) (sym (c .before .is-plain .ensures) ∙ not-true _ (c .if1 .taken))
+returns c = runs.stop (c .before .before .before .before .loop .inv) (omega arith) (sym (c .before .is-value-byte .ensures) ∙ not-true _ (c .if1 .taken))
 
 add-k : tie.Need-add-k Inv-loop μ-loop
 add-k c = omega arith
@@ -35,7 +35,7 @@ loop-less : tie.Need-loop-less Inv-loop μ-loop
 loop-less c = omega arith
 
 loop-again : tie.Need-loop-again Inv-loop μ-loop
-loop-again c = runs.go (c .before .before .before .before .loop .inv) (omega arith) (sym (c .before .is-plain .ensures) ∙ not-false _ (c .if1 .left))
+loop-again c = runs.go (c .before .before .before .before .loop .inv) (omega arith) (sym (c .before .is-value-byte .ensures) ∙ not-false _ (c .if1 .left))
 
 returns-2 : tie.Need-returns-2 Inv-loop μ-loop
 returns-2 c = runs.end (c .before .loop .inv) (omega arith)
@@ -47,8 +47,8 @@ plain-end-spec =
     Inv-loop
     μ-loop
     loop-holds
-    shared-slice-read-is-plain
-    is-plain-requires
+    shared-slice-read-is-value-byte
+    is-value-byte-requires
     returns
     add-k
     loop-less

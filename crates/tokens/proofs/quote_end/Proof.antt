@@ -3,7 +3,7 @@ use Prim.Native.Nat.{_-_}
 use native.Mathlib.Omega.{arith}
 use lib.ListN.{length, drop}
 use Rattle.grammar.specs.Read.{shutOf}
-use Rattle.tokens.specs.Shown.{shutAt}
+use Rattle.tokens.specs.Steps.{shutAt}
 use Rattle.tokens.proofs.Quotes as quotes
 use Rattle.tokens.proofs.quote_end.Statement.{statement}
 use Rattle.tokens.proofs.quote_end.Tie as tie

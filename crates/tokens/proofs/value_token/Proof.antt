@@ -2,7 +2,7 @@ use mathlib.Core.Path.{sym, _∙_}
 use native.Mathlib.Omega.{arith}
 use Rattle.ascii.specs.Bytes.{isPlain}
 use Rattle.grammar.specs.Grammar.{Item, isValue}
-use Rattle.tokens.specs.Shown.{part}
+use Rattle.tokens.specs.Steps.{part}
 use Rattle.tokens.proofs.Words as words
 use borrow.Author.Needs.{needs}
 use Rattle.tokens.proofs.value_token.Statement.{statement}
@@ -28,7 +28,7 @@ quoted-token-requires c κs = search needs
 returns-2 : tie.Need-returns-2
 returns-2 c =
     let a = c .before .before .before .before .before .before .args in
-    (c .quoted-token .ensures) ∙ words.value-quoted (a .mode) (a .i) (a .k) (a .s .now) (omega arith) (sym (c .before .before .is-quote .ensures) ∙ (c .before .if2 .taken))
+    words.value-quoted (a .mode) (a .i) (a .k) (a .s .now) (omega arith) (sym (c .before .before .is-quote .ensures) ∙ (c .before .if2 .taken)) (c .quoted-token .ensures)
 
 plain-end-requires : tie.Need-plain-end-requires
 plain-end-requires c κs = search needs
@@ -39,7 +39,8 @@ finish-requires c κs = search needs
 returns-3 : tie.Need-returns-3
 returns-3 c =
     let a = c .before .before .before .before .before .before .before .args in
-    words.word (a .i) (a .mode) isPlain isValue (λ v. Item.plain (part (a .i) (a .k) (a .s .now)) v) (a .s .now) (c .before .plain-end .ensures) (omega arith) (words.some-value _ _ (c .before .plain-end .ensures)) (λ v h. words.key-shown (a .mode) (a .i) (a .k) (a .s .now) v (omega (arith, c .before .before .before .before .before .before .before .pre)) (omega (arith, c .before .before .before .before .before .before .before .pre)) h) (c .finish .ensures) ∙ words.value-plain (a .mode) (a .i) (a .k) (a .s .now) (omega arith) (sym (c .before .before .before .is-quote .ensures) ∙ (c .before .before .if2 .left))
+    words.value-plain (a .mode) (a .i) (a .k) (a .s .now) (omega arith) (sym (c .before .before .before .is-quote .ensures) ∙ (c .before .before .if2 .left))
+    (words.word (a .i) (a .mode) isPlain isValue (λ v. Item.plain (part (a .i) (a .k) (a .s .now)) v) (a .s .now) (c .before .plain-end .ensures) (omega arith) (words.some-value _ _ (c .before .plain-end .ensures)) (λ v h. words.key-shown (a .mode) (a .i) (a .k) (a .s .now) v (omega (arith, c .before .before .before .before .before .before .before .pre)) (omega (arith, c .before .before .before .before .before .before .before .pre)) h) (c .finish .ensures))
 
 pub value-token-spec : {M : Type 1} → statement M
 value-token-spec =

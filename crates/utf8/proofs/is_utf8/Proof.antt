@@ -1,74 +1,43 @@
-use Prim.Native.Nat.{_-_, _≤_}
-use mathlib.Core.Path.{sym, _∙_}
 use native.Mathlib.Omega.{arith}
-use borrow.Author.Needs.{needs}
-use lib.ListN.{length}
 use Rattle.utf8.proofs.Laws as laws
+use Prim.Native.Nat.{_-_}
+use lib.ListN.{length}
+use Rattle.utf8.specs.Blocks.{Same}
 use Rattle.utf8.proofs.is_utf8.Statement.{statement}
 use Rattle.utf8.proofs.is_utf8.Tie as tie
 
 abbrev Inv-loop : tie.InvT-loop
-Inv-loop s w₀ i₀ e w i = laws.Reads s i w × (i₀ ≤ i)
+Inv-loop s i₀ i = Same s 0 i
 
 abbrev μ-loop : tie.MeasureT-loop
-μ-loop s w₀ i₀ e w i = e - i
+μ-loop s i₀ i = length s - i
 
-abbrev Inv-blocks2 : tie.InvT-blocks2
-Inv-blocks2 s w₀ i₀ w i = laws.Reads s i w
+loop-holds : tie.Need-loop-holds Inv-loop μ-loop
+loop-holds c = laws.same-start _ _ (omega arith)
 
-abbrev μ-blocks2 : tie.MeasureT-blocks2
-μ-blocks2 s w₀ i₀ w i = length s - i
+past-blocks-requires : tie.Need-past-blocks-requires Inv-loop μ-loop
+past-blocks-requires c κs = omega arith
 
-blocks2-holds : tie.Need-blocks2-holds Inv-loop μ-loop Inv-blocks2 μ-blocks2
-blocks2-holds c = laws.start _
+returns : tie.Need-returns Inv-loop μ-loop
+returns c = laws.whole-end (laws.same-then (c .before .before .before .loop .inv) (c .before .past-blocks .ensures)) (omega arith)
 
-block-end-requires : tie.Need-block-end-requires Inv-loop μ-loop Inv-blocks2 μ-blocks2
-block-end-requires c κs = omega arith
+block-end-requires : tie.Need-block-end-requires Inv-loop μ-loop
+block-end-requires c κs = omega (arith, (c .before .past-blocks .ensures))
 
-greatest-requires : tie.Need-greatest-requires Inv-loop μ-loop Inv-blocks2 μ-blocks2
-greatest-requires c κs = omega arith
+past-parts-requires : tie.Need-past-parts-requires Inv-loop μ-loop
+past-parts-requires c κs = (c .block-end .ensures)
 
-blocks2-less : tie.Need-blocks2-less Inv-loop μ-loop Inv-blocks2 μ-blocks2
-blocks2-less c = omega (arith, c .before .before .before .before .block-end .ensures)
+returns-2 : tie.Need-returns-2 Inv-loop μ-loop
+returns-2 c = laws.whole-fails (laws.same-then (c .before .before .before .before .before .before .loop .inv) (c .before .before .before .before .past-blocks .ensures)) (c .before .past-parts .ensures) (c .if2 .taken)
 
-blocks2-again : tie.Need-blocks2-again Inv-loop μ-loop Inv-blocks2 μ-blocks2
-blocks2-again c = laws.skip (c .before .before .before .before .before .before .blocks2 .inv) (c .before .before .if1 .taken) (c .before .before .before .before .block-end .ensures) (c .before .greatest .ensures) (omega arith)
+loop-less : tie.Need-loop-less Inv-loop μ-loop
+loop-less c = omega (arith, (c .before .before .before .before .past-blocks .ensures) .onward, (c .before .past-parts .ensures) .on (omega arith) .0)
 
-loop-holds : tie.Need-loop-holds Inv-loop μ-loop Inv-blocks2 μ-blocks2
-loop-holds c = (c .before .before .before .before .blocks2 .inv, omega arith)
+loop-again : tie.Need-loop-again Inv-loop μ-loop
+loop-again c = laws.same-on (laws.same-then (c .before .before .before .before .before .before .loop .inv) (c .before .before .before .before .past-blocks .ensures)) (c .before .past-parts .ensures) (omega arith)
 
-blocks2-less-2 : tie.Need-blocks2-less-2 Inv-loop μ-loop Inv-blocks2 μ-blocks2
-blocks2-less-2 c = omega (arith, c .before .before .before .before .block-end .ensures)
-
-blocks2-again-2 : tie.Need-blocks2-again-2 Inv-loop μ-loop Inv-blocks2 μ-blocks2
-blocks2-again-2 c = c .before .loop .inv .0
-
-shared-slice-read-after : tie.Need-shared-slice-read-after Inv-loop μ-loop Inv-blocks2 μ-blocks2
-shared-slice-read-after c = omega (arith, c .before .before .before .before .before .block-end .ensures)
-
-after-requires : tie.Need-after-requires Inv-loop μ-loop Inv-blocks2 μ-blocks2
-after-requires c κs = search needs
-
-enum-told : tie.Need-enum-told Inv-loop μ-loop Inv-blocks2 μ-blocks2
-enum-told c = search needs
-
-returns : tie.Need-returns Inv-loop μ-loop Inv-blocks2 μ-blocks2
-returns c = laws.stop (c .before .before .before .before .before .loop .inv .0) (omega (arith, c .before .before .before .before .before .before .before .before .block-end .ensures)) (sym (c .enum-told .given .1) ∙ c .before .before .after .ensures)
-
-enum-known-v : tie.Need-enum-known-v Inv-loop μ-loop Inv-blocks2 μ-blocks2
-enum-known-v c = search needs
-
-add-i : tie.Need-add-i Inv-loop μ-loop Inv-blocks2 μ-blocks2
-add-i c = omega arith
-
-loop-less : tie.Need-loop-less Inv-loop μ-loop Inv-blocks2 μ-blocks2
-loop-less c = omega arith
-
-loop-again : tie.Need-loop-again Inv-loop μ-loop Inv-blocks2 μ-blocks2
-loop-again c = (laws.go (c .before .before .before .before .before .before .loop .inv .0) (omega (arith, c .before .before .before .before .before .before .before .before .before .block-end .ensures)) (sym (c .before .v .given .1) ∙ c .before .before .before .after .ensures), omega arith)
-
-returns-2 : tie.Need-returns-2 Inv-loop μ-loop Inv-blocks2 μ-blocks2
-returns-2 c = laws.end (c .before .before .blocks2 .inv) (c .before .blocks2-test .left)
+returns-3 : tie.Need-returns-3 Inv-loop μ-loop
+returns-3 c = laws.whole-end (c .before .loop .inv) (omega arith)
 
 pub is-utf8-spec : {M : Type 1} → statement M
 is-utf8-spec =
@@ -76,22 +45,12 @@ is-utf8-spec =
     (tie.spec
     Inv-loop
     μ-loop
-    Inv-blocks2
-    μ-blocks2
-    blocks2-holds
-    block-end-requires
-    greatest-requires
-    blocks2-less
-    blocks2-again
     loop-holds
-    blocks2-less-2
-    blocks2-again-2
-    shared-slice-read-after
-    after-requires
-    enum-told
+    past-blocks-requires
     returns
-    enum-known-v
-    add-i
+    block-end-requires
+    past-parts-requires
+    returns-2
     loop-less
     loop-again
-    returns-2)
+    returns-3)

@@ -12,6 +12,9 @@ Inv-loop s n₀ i₀ n i = i ≤ length s
 abbrev μ-loop : tie.MeasureT-loop
 μ-loop s n₀ i₀ n i = length s - i
 
+bad-requires : tie.Need-bad-requires Inv-loop μ-loop
+bad-requires c κs = search needs
+
 returns : tie.Need-returns Inv-loop μ-loop
 returns c = search needs
 
@@ -24,14 +27,8 @@ shared-slice-read-longer c = search needs
 longer-requires : tie.Need-longer-requires Inv-loop μ-loop
 longer-requires c κs = search needs
 
-enum-told : tie.Need-enum-told Inv-loop μ-loop
-enum-told c = search needs
-
 returns-2 : tie.Need-returns-2 Inv-loop μ-loop
 returns-2 c = search needs
-
-enum-known-m : tie.Need-enum-known-m Inv-loop μ-loop
-enum-known-m c = search needs
 
 add-i : tie.Need-add-i Inv-loop μ-loop
 add-i c = search needs
@@ -42,6 +39,9 @@ loop-less c = search needs
 loop-again : tie.Need-loop-again Inv-loop μ-loop
 loop-again c = search needs
 
+good-requires : tie.Need-good-requires Inv-loop μ-loop
+good-requires c κs = search needs
+
 returns-3 : tie.Need-returns-3 Inv-loop μ-loop
 returns-3 c = search needs
 
@@ -51,14 +51,14 @@ number-spec =
     (tie.spec
     Inv-loop
     μ-loop
+    bad-requires
     returns
     loop-holds
     shared-slice-read-longer
     longer-requires
-    enum-told
     returns-2
-    enum-known-m
     add-i
     loop-less
     loop-again
+    good-requires
     returns-3)

@@ -19,6 +19,9 @@ loop-holds c = search needs
 unhex-pair-requires : tie.Need-unhex-pair-requires Inv-loop μ-loop
 unhex-pair-requires c κs = search needs
 
+bad-requires : tie.Need-bad-requires Inv-loop μ-loop
+bad-requires c κs = search needs
+
 same-length : tie.Need-same-length Inv-loop μ-loop
 same-length c = search needs
 
@@ -34,6 +37,9 @@ loop-less c = search needs
 loop-again : tie.Need-loop-again Inv-loop μ-loop
 loop-again c = search needs
 
+good-requires : tie.Need-good-requires Inv-loop μ-loop
+good-requires c κs = search needs
+
 same-length-2 : tie.Need-same-length-2 Inv-loop μ-loop
 same-length-2 c = search needs
 
@@ -48,10 +54,12 @@ unhex-pairs-spec =
     μ-loop
     loop-holds
     unhex-pair-requires
+    bad-requires
     same-length
     returns
     add-i
     loop-less
     loop-again
+    good-requires
     same-length-2
     returns-2)

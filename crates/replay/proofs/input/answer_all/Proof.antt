@@ -7,10 +7,10 @@ use Rattle.replay.proofs.input.answer_all.Statement.{statement}
 use Rattle.replay.proofs.input.answer_all.Tie as tie
 
 abbrev Inv-loop : tie.InvT-loop
-Inv-loop input₀ a₀ b₀ join₀ canon₀ output₀ s₀ turns₀ input a b join canon output s turns = (length input ≡ length input₀) × (length a ≡ length a₀) × (length b ≡ length b₀) × (length join ≡ length join₀) × (length canon ≡ length canon₀) × (length output ≡ length output₀)
+Inv-loop input₀ a₀ b₀ join₀ output₀ s₀ turns₀ input a b join output s turns = (length input ≡ length input₀) × (length a ≡ length a₀) × (length b ≡ length b₀) × (length join ≡ length join₀) × (length output ≡ length output₀)
 
 abbrev μ-loop : tie.MeasureT-loop
-μ-loop input₀ a₀ b₀ join₀ canon₀ output₀ s₀ turns₀ input a b join canon output s turns = turns
+μ-loop input₀ a₀ b₀ join₀ output₀ s₀ turns₀ input a b join output s turns = turns
 
 loop-holds : tie.Need-loop-holds Inv-loop μ-loop
 loop-holds c = search needs
@@ -60,12 +60,6 @@ same-length-9 c = search needs
 same-length-10 : tie.Need-same-length-10 Inv-loop μ-loop
 same-length-10 c = search needs
 
-same-length-11 : tie.Need-same-length-11 Inv-loop μ-loop
-same-length-11 c = search needs
-
-same-length-12 : tie.Need-same-length-12 Inv-loop μ-loop
-same-length-12 c = search needs
-
 returns-2 : tie.Need-returns-2 Inv-loop μ-loop
 returns-2 c = search needs
 
@@ -82,15 +76,13 @@ answer-all-spec =
     same-length-3
     same-length-4
     same-length-5
-    same-length-6
     returns
     sub-turns
     loop-less
     loop-again
+    same-length-6
     same-length-7
     same-length-8
     same-length-9
     same-length-10
-    same-length-11
-    same-length-12
     returns-2)

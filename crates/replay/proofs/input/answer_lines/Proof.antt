@@ -8,10 +8,10 @@ use Rattle.replay.proofs.input.answer_lines.Statement.{statement}
 use Rattle.replay.proofs.input.answer_lines.Tie as tie
 
 abbrev Inv-loop : tie.InvT-loop
-Inv-loop lines a₀ b₀ join₀ canon₀ output₀ at from₀ to₀ a b join canon output from to = (length a ≡ length a₀) × (length b ≡ length b₀) × (length join ≡ length join₀) × (length canon ≡ length canon₀) × (length output ≡ length output₀)
+Inv-loop lines a₀ b₀ join₀ output₀ at from₀ to₀ a b join output from to = (length a ≡ length a₀) × (length b ≡ length b₀) × (length join ≡ length join₀) × (length output ≡ length output₀)
 
 abbrev μ-loop : tie.MeasureT-loop
-μ-loop lines a₀ b₀ join₀ canon₀ output₀ at from₀ to₀ a b join canon output from to = length lines - from
+μ-loop lines a₀ b₀ join₀ output₀ at from₀ to₀ a b join output from to = length lines - from
 
 loop-holds : tie.Need-loop-holds Inv-loop μ-loop
 loop-holds c = search needs
@@ -40,8 +40,11 @@ returns c = search needs
 part-requires : tie.Need-part-requires Inv-loop μ-loop
 part-requires c κs = search needs
 
-answer-line-requires : tie.Need-answer-line-requires Inv-loop μ-loop
-answer-line-requires c κs = search needs
+answer-requires : tie.Need-answer-requires Inv-loop μ-loop
+answer-requires c κs = search needs
+
+end-line-requires : tie.Need-end-line-requires Inv-loop μ-loop
+end-line-requires c κs = search needs
 
 add-from : tie.Need-add-from Inv-loop μ-loop
 add-from c = search needs
@@ -61,12 +64,6 @@ same-length-7 c = search needs
 same-length-8 : tie.Need-same-length-8 Inv-loop μ-loop
 same-length-8 c = search needs
 
-same-length-9 : tie.Need-same-length-9 Inv-loop μ-loop
-same-length-9 c = search needs
-
-same-length-10 : tie.Need-same-length-10 Inv-loop μ-loop
-same-length-10 c = search needs
-
 returns-2 : tie.Need-returns-2 Inv-loop μ-loop
 returns-2 c = search needs
 
@@ -82,16 +79,15 @@ answer-lines-spec =
     same-length-2
     same-length-3
     same-length-4
-    same-length-5
     returns
     part-requires
-    answer-line-requires
+    answer-requires
+    end-line-requires
     add-from
     loop-less
     loop-again
+    same-length-5
     same-length-6
     same-length-7
     same-length-8
-    same-length-9
-    same-length-10
     returns-2)

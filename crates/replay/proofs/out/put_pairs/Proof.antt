@@ -1,14 +1,14 @@
--- `put_pairs` ends, since each turn passes a byte; the buffer keeps its length, and the place never goes back.
+-- `put_pairs` ends, since each turn passes a byte; the buffer keeps its length.
 -- Assumes nothing.
 use borrow.Author.Needs.{needs}
 use mathlib.Core.Path.{_≡_}
-use Prim.Native.Nat.{_≤_, _-_}
+use Prim.Native.Nat.{_-_}
 use lib.ListN.{length}
 use Rattle.replay.proofs.out.put_pairs.Statement.{statement}
 use Rattle.replay.proofs.out.put_pairs.Tie as tie
 
 abbrev Inv-loop : tie.InvT-loop
-Inv-loop output₀ at s to₀ i₀ output to i = (length output ≡ length output₀) × (at ≤ to)
+Inv-loop output₀ at s to₀ i₀ output to i = (length output ≡ length output₀)
 
 abbrev μ-loop : tie.MeasureT-loop
 μ-loop output₀ at s to₀ i₀ output to i = length s - i

@@ -7,25 +7,16 @@ use Rattle.replay.proofs.sheets_at.put_report.Statement.{statement}
 use Rattle.replay.proofs.sheets_at.put_report.Tie as tie
 
 abbrev Inv-loop : tie.InvT-loop
-Inv-loop text join₀ b₀ output₀ at part₀ to₀ turns₀ join b output part to turns = (length join ≡ length join₀) × (length b ≡ length b₀) × (length output ≡ length output₀)
+Inv-loop text b₀ join₀ output₀ at s₀ turns₀ b join output s turns = (length b ≡ length b₀) × (length join ≡ length join₀) × (length output ≡ length output₀)
 
 abbrev μ-loop : tie.MeasureT-loop
-μ-loop text join₀ b₀ output₀ at part₀ to₀ turns₀ join b output part to turns = turns
-
-report-start-requires : tie.Need-report-start-requires Inv-loop μ-loop
-report-start-requires c κs = search needs
+μ-loop text b₀ join₀ output₀ at s₀ turns₀ b join output s turns = turns
 
 loop-holds : tie.Need-loop-holds Inv-loop μ-loop
 loop-holds c = search needs
 
-part-requires : tie.Need-part-requires Inv-loop μ-loop
-part-requires c κs = search needs
-
-put-pairs-requires : tie.Need-put-pairs-requires Inv-loop μ-loop
-put-pairs-requires c κs = search needs
-
-is-more-requires : tie.Need-is-more-requires Inv-loop μ-loop
-is-more-requires c κs = search needs
+put-next-requires : tie.Need-put-next-requires Inv-loop μ-loop
+put-next-requires c κs = search needs
 
 same-length : tie.Need-same-length Inv-loop μ-loop
 same-length c = search needs
@@ -38,9 +29,6 @@ same-length-3 c = search needs
 
 returns : tie.Need-returns Inv-loop μ-loop
 returns c = search needs
-
-report-part-requires : tie.Need-report-part-requires Inv-loop μ-loop
-report-part-requires c κs = search needs
 
 sub-turns : tie.Need-sub-turns Inv-loop μ-loop
 sub-turns c = search needs
@@ -69,16 +57,12 @@ put-report-spec =
     (tie.spec
     Inv-loop
     μ-loop
-    report-start-requires
     loop-holds
-    part-requires
-    put-pairs-requires
-    is-more-requires
+    put-next-requires
     same-length
     same-length-2
     same-length-3
     returns
-    report-part-requires
     sub-turns
     loop-less
     loop-again

@@ -1,0 +1,128 @@
+//! The proved code, as the static library `door` has it, and one function from inside its module.
+
+/// A slice as the module's inner functions take it.
+#[repr(C)]
+struct Slice {
+    ptr: *const u8,
+    len: usize,
+}
+
+extern "C" {
+    fn bridlesnow_is_utf8(text: *const u8, len: usize) -> bool;
+    fn bridlesnow_read_attrs_at(
+        text: *const u8, len: usize, place: usize, loose: u8,
+        out: *mut u8, out_len: usize, told: *mut usize, told_len: usize,
+    ) -> u8;
+    fn bridlesnow_parse_standalone_attrs(
+        text: *const u8, len: usize, line: usize,
+        out: *mut u8, out_len: usize, told: *mut usize, told_len: usize,
+    ) -> u8;
+    fn bridlesnow_parse_standalone_attrs_block(
+        text: *const u8, len: usize, line: usize, join: *mut u8, join_len: usize,
+        out: *mut u8, out_len: usize, told: *mut usize, told_len: usize,
+    ) -> u8;
+    fn bridlesnow_merge_lines(
+        text: *const u8, len: usize, common: usize, variant: usize,
+        out: *mut u8, out_len: usize, told: *mut usize, told_len: usize,
+    ) -> u8;
+    fn bridlesnow_report_start(
+        text: *const u8, len: usize, join: *mut u8, join_len: usize,
+        out: *mut u8, out_len: usize, told: *mut usize, told_len: usize,
+    ) -> u8;
+    fn bridlesnow_report_part(
+        text: *const u8, len: usize, at: usize, line: usize, join: *mut u8, join_len: usize,
+        out: *mut u8, out_len: usize, told: *mut usize, told_len: usize,
+    ) -> u8;
+    /// `reader::read_attrs_at_with`, which `bench/run` makes visible: it answers by a struct that the caller has room for, takes a slice by a
+    /// pointer to its two words, and the mode by a pointer to its number.
+    fn reader__read_attrs_at_with(answer: *mut u8, text: *const Slice, place: usize, mode: *const u8);
+}
+
+/// The set of a block at a brace as the reader hands it out: the answer's number stands first, 1 where a set was read.
+#[repr(C, align(16))]
+pub struct Set([u8; 2048]);
+
+impl Set {
+    pub fn new() -> Self {
+        Set([0; 2048])
+    }
+    pub fn was_read(&self) -> bool {
+        self.0[0] == 1
+    }
+}
+
+/// Memory that the calls are lent.
+pub struct Lent {
+    pub join: Vec<u8>,
+    pub out: Vec<u8>,
+    pub report: Vec<u8>,
+    pub told: [usize; 5],
+}
+
+impl Lent {
+    pub fn new() -> Self {
+        Lent { join: vec![0; 65_535], out: vec![0; 1 << 18], report: Vec::with_capacity(1 << 20), told: [0; 5] }
+    }
+}
+
+pub fn is_utf8(text: &[u8]) -> bool {
+    unsafe { bridlesnow_is_utf8(text.as_ptr(), text.len()) }
+}
+
+/// The strict reading at a brace, its set left in memory.
+pub fn read_set(text: &[u8], place: usize, set: &mut Set) {
+    let slice = Slice { ptr: text.as_ptr(), len: text.len() };
+    unsafe { reader__read_attrs_at_with(set.0.as_mut_ptr(), &slice, place, &0u8) }
+}
+
+/// The strict reading at a brace, its canonical text left in `out`: its length.
+pub fn read_attrs_at(text: &[u8], place: usize, m: &mut Lent) -> (u8, usize) {
+    let told = m.told.as_mut_ptr();
+    let number = unsafe { bridlesnow_read_attrs_at(text.as_ptr(), text.len(), place, 0, m.out.as_mut_ptr(), m.out.len(), told, 2) };
+    (number, m.told[1])
+}
+
+pub fn parse_standalone_attrs(text: &[u8], line: usize, m: &mut Lent) -> (u8, usize) {
+    let told = m.told.as_mut_ptr();
+    let number = unsafe { bridlesnow_parse_standalone_attrs(text.as_ptr(), text.len(), line, m.out.as_mut_ptr(), m.out.len(), told, 1) };
+    (number, m.told[0])
+}
+
+pub fn parse_block(text: &[u8], line: usize, m: &mut Lent) -> (u8, usize) {
+    let told = m.told.as_mut_ptr();
+    let number = unsafe {
+        bridlesnow_parse_standalone_attrs_block(
+            text.as_ptr(), text.len(), line, m.join.as_mut_ptr(), m.join.len(), m.out.as_mut_ptr(), m.out.len(), told, 5,
+        )
+    };
+    (number, m.told[4])
+}
+
+pub fn merge_lines(text: &[u8], common: usize, variant: usize, m: &mut Lent) -> (u8, usize) {
+    let told = m.told.as_mut_ptr();
+    let number = unsafe { bridlesnow_merge_lines(text.as_ptr(), text.len(), common, variant, m.out.as_mut_ptr(), m.out.len(), told, 2) };
+    (number, m.told[1])
+}
+
+/// The whole job: the report on a sheet, laid into `report` part by part.
+pub fn sheet(text: &[u8], m: &mut Lent) {
+    m.report.clear();
+    let told = m.told.as_mut_ptr();
+    let mut number = unsafe {
+        bridlesnow_report_start(text.as_ptr(), text.len(), m.join.as_mut_ptr(), m.join.len(), m.out.as_mut_ptr(), m.out.len(), told, 3)
+    };
+    loop {
+        assert_eq!(number, 0);
+        let [len, at, line, ..] = m.told;
+        m.report.extend_from_slice(&m.out[..len]);
+        if line == 0 {
+            return;
+        }
+        let told = m.told.as_mut_ptr();
+        number = unsafe {
+            bridlesnow_report_part(
+                text.as_ptr(), text.len(), at, line, m.join.as_mut_ptr(), m.join.len(), m.out.as_mut_ptr(), m.out.len(), told, 3,
+            )
+        };
+    }
+}

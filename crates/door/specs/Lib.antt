@@ -1,0 +1,3 @@
+-- The definitions that the contracts of door cite.
+pub mod Door
+pub mod Steps

@@ -1,0 +1,98 @@
+-- "it is well-formed if its text gives neither 1 nor 2": every set that an entry by line number hands out.
+-- Assumes nothing.
+use mathlib.Core.Path.{_≡_, refl}
+use mathlib.Core.Bool.{Bool, true, false}
+use mathlib.Core.List.{List, [], _∷_}
+use Prim.Native.Nat.{ℕ, zero, suc, _<_}
+use native.Mathlib.Omega.{arith}
+use borrow.Author.Tests.{ltb-true, ltb-false}
+use lib.Dec.{ltb, eqb·suc-zero}
+use lib.ListN.{length, drop}
+use Rattle.utf8.specs.Utf8.{isUtf8}
+use Rattle.checks.specs.Check.{checkOf, isText}
+use Rattle.checks.specs.declared.Check as checks
+use Rattle.checks.specs.declared.Check.the-variants as check
+use Rattle.lines.specs.Lines.{lineFrom, rangesFrom, ranges, pick, lineOf}
+use Rattle.lines.specs.declared.Range.{Range}
+use Rattle.lines.specs.declared.Line as places
+use Rattle.lines.specs.declared.Line.the-variants as place
+use Rattle.lines.proofs.Lines.{ranges-at, ranges-end}
+use Rattle.fill.specs.Fill.{refusing}
+use Rattle.wellformed.specs.WellFormed.{wellFormed}
+use Rattle.reader.proofs.HandedOut.{text-utf8}
+use Rattle.runs.specs.Runs as runs
+use Rattle.runs.proofs.Texts.{past-well}
+use Rattle.entries.specs.declared.Start as starts
+use Rattle.entries.specs.declared.Start.the-variants as start
+use Rattle.blocks.specs.Blocks.{Found, nothing, found, wrapped, textIn, blockOf, lineRead}
+use Rattle.entries.specs.Entries.{begun, startAt, onStart, placeOf, parseStandalone, blockFound, wrappedFound}
+use Rattle.blocks.proofs.SetsOk.{Ok, empty-fits, none-ok, found-ok, wrapped-ok, line-read-ok}
+
+-- ---- where a line of a UTF-8 text begins, the rest is UTF-8
+
+inside : (n : ℕ) (t : List ℕ) (at : ℕ) (r : Range) → pick n (rangesFrom at false at (drop at t)) ≡ place.At r → at < length t
+unfolding pick
+inside n t at r q = go (ltb at (length t)) refl
+  where
+    go : (x : Bool) → ltb at (length t) ≡ x → at < length t
+    go true x = ltb-true at (length t) x
+    go false x =
+        let e : place.Missing ≡ place.At r = rw (ranges-end t at (ltb-false at (length t) x)) at q in
+        let z : _≡_ {A = ℕ} 0 1 = cc in
+        absurd (omega arith)
+
+line-past : (n : ℕ) (t : List ℕ) (at : ℕ) (r : Range) → pick (suc n) (rangesFrom at false at (drop at t)) ≡ place.At r → r .from ≡ runs.pastLines n t at
+unfolding pick runs.pastLines
+line-past zero t at r q =
+    let k = inside 1 t at r q in
+    let e : place.At (record { from = at; to = lineFrom t at .to }) ≡ place.At r = rw (ranges-at t at k) at q in
+    let z : record { from = at; to = lineFrom t at .to } ≡ r = cc in
+    rw (← z)
+line-past (suc n) t at r q =
+    let k = inside (suc (suc n)) t at r q in
+    line-past n t (lineFrom t at .next) r (rw (ranges-at t at k, eqb·suc-zero n) at q)
+
+line-well : (n : ℕ) (t : List ℕ) (r : Range) → isUtf8 t ≡ true → lineOf n t ≡ place.At r → isUtf8 (drop (r .from) t) ≡ true
+unfolding lineOf ranges pick
+line-well zero t r u q = absurd (none (ranges t) q)
+  where
+    none : (ls : List Range) → pick 0 ls ≡ place.At r → ⊥
+    none [] e = let z : _≡_ {A = ℕ} 0 1 = cc in absurd (omega arith)
+    none (l ∷ ls) e = let z : _≡_ {A = ℕ} 0 1 = cc in absurd (omega arith)
+line-well (suc n) t r u q = rw (line-past n t 0 r q) (past-well n t 0 u)
+
+pub start-well : (t : List ℕ) (n : ℕ) {at : ℕ} → isText t ≡ true → startAt t n ≡ start.At at → isUtf8 (drop at t) ≡ true
+unfolding startAt
+start-well t n {at} h e = go (checkOf t) (lineOf n t) refl e
+  where
+    go : (c : checks.Check) (l : places.Line) → lineOf n t ≡ l → begun c l ≡ start.At at → isUtf8 (drop at t) ≡ true
+    go (check.Refused r) l p e = let z : _≡_ {A = ℕ} 0 1 = cc in absurd (omega arith)
+    go check.Passed place.Missing p e = let z : _≡_ {A = ℕ} 0 1 = cc in absurd (omega arith)
+    go check.Passed (place.At r) p e = let z : r .from ≡ at = cc in rw (← z) (line-well n t r (text-utf8 t h) p)
+
+-- ---- the sets
+
+module _ (t : List ℕ) (h : isText t ≡ true) where
+  start-ok : (n : ℕ) (g : ℕ → Found) → ((at : ℕ) → isUtf8 (drop at t) ≡ true → Ok t at (g at)) → Ok t (placeOf t n) (onStart nothing g (startAt t n))
+  start-ok n g k = go (startAt t n) refl
+    where
+      go : (s : starts.Start) → startAt t n ≡ s → Ok t (onStart (λ r. 0) (λ at. at) s) (onStart nothing g s)
+      go (start.Refused r) e = none-ok t h 0 r [] 0
+      go (start.At at) e = k at (start-well t n h e)
+
+  -- every set that an entry by line number hands out
+  pub block-set-ok : (n base cap : ℕ) → wellFormed (textIn t (blockFound t n base cap)) (blockOf t (placeOf t n) (blockFound t n base cap) .set) ≡ true
+  unfolding blockFound
+  block-set-ok n base cap = start-ok n (λ at. found t at base cap) (λ at u. found-ok t h at base cap u)
+
+  pub run-set-ok : (n base cap : ℕ) → wellFormed (textIn t (wrappedFound t n base cap)) (blockOf t (placeOf t n) (wrappedFound t n base cap) .set) ≡ true
+  unfolding wrappedFound
+  run-set-ok n base cap = start-ok n (λ at. wrapped t at base cap) (λ at u. wrapped-ok t h at base cap u)
+
+  pub line-set-ok : (n : ℕ) → wellFormed t (parseStandalone t n .set) ≡ true
+  unfolding parseStandalone
+  line-set-ok n = go (startAt t n)
+    where
+      go : (s : starts.Start) → wellFormed t (onStart refusing (lineRead t) s .set) ≡ true
+      go (start.Refused r) = empty-fits t h
+      go (start.At at) = line-read-ok t h at

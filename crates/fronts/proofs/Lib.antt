@@ -1,0 +1,2 @@
+-- The laws about the line at a place that later crates cite.
+pub mod Trimmed

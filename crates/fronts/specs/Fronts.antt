@@ -1,0 +1,33 @@
+-- The line that begins at a place, trimmed.
+use Prim.Native.Nat.{ℕ, _+_}
+use mathlib.Core.Bool.{Bool, false}
+use mathlib.Core.List.{List, [], _∷_}
+use lib.ListN.{drop}
+use Rattle.ascii.specs.Bytes.{isIndent}
+use Rattle.lines.specs.Lines.{lines, firstOf, lineFrom}
+use Rattle.lines.specs.Trim.{trim, trimRange}
+use Rattle.payloads.specs.Payloads.{beginsOpen, endsInClose}
+use Rattle.fronts.specs.declared.Front.{Front}
+
+unfoldable pub lineAt : List ℕ → ℕ → List ℕ
+lineAt t at = firstOf (lines (drop at t))
+
+-- "trimmed line doesn't start with `{`"
+unfoldable pub opensAt : List ℕ → ℕ → Bool
+opensAt t at = beginsOpen (trim (lineAt t at))
+
+-- its range, where the next line begins, and the braces at its ends: "if the first line's trimmed end isn't `}`"
+unfoldable pub frontOf : List ℕ → ℕ → Front
+frontOf t at =
+    record {
+      from = at + trimRange (lineAt t at) .from;
+      to = at + trimRange (lineAt t at) .to;
+      next = lineFrom t at .next;
+      opens = opensAt t at;
+      closes = endsInClose (trim (lineAt t at));
+    }
+
+-- "for `standalone_attrs_block_len`, first line starts with space or tab"
+abbrev pub beginsIndented : List ℕ → Bool
+beginsIndented [] = false
+beginsIndented (b ∷ s) = isIndent b

@@ -1,0 +1,52 @@
+-- `count` ends, since each turn passes a byte; there are no more fields than bytes and one.
+-- Assumes nothing.
+use borrow.Author.Needs.{needs}
+use Prim.Native.Nat.{_≤_, _+_, _-_}
+use lib.ListN.{length}
+use Rattle.replay.proofs.fields.count.Statement.{statement}
+use Rattle.replay.proofs.fields.count.Tie as tie
+
+abbrev Inv-loop : tie.InvT-loop
+Inv-loop s byte n₀ at₀ n at = n ≤ at + 1
+
+abbrev μ-loop : tie.MeasureT-loop
+μ-loop s byte n₀ at₀ n at = length s - at
+
+find-requires : tie.Need-find-requires Inv-loop μ-loop
+find-requires c κs = search needs
+
+loop-holds : tie.Need-loop-holds Inv-loop μ-loop
+loop-holds c = search needs
+
+add-n : tie.Need-add-n Inv-loop μ-loop
+add-n c = search needs
+
+add-find : tie.Need-add-find Inv-loop μ-loop
+add-find c = search needs
+
+find-requires-2 : tie.Need-find-requires-2 Inv-loop μ-loop
+find-requires-2 c κs = search needs
+
+loop-less : tie.Need-loop-less Inv-loop μ-loop
+loop-less c = search needs
+
+loop-again : tie.Need-loop-again Inv-loop μ-loop
+loop-again c = search needs
+
+returns : tie.Need-returns Inv-loop μ-loop
+returns c = search needs
+
+pub count-spec : {M : Type 1} → statement M
+count-spec =
+    tie.close
+    (tie.spec
+    Inv-loop
+    μ-loop
+    find-requires
+    loop-holds
+    add-n
+    add-find
+    find-requires-2
+    loop-less
+    loop-again
+    returns)

@@ -1,0 +1,2 @@
+-- The definitions that the contracts of tells cite.
+pub mod Tells

@@ -1,0 +1,42 @@
+-- What the code's own functions read of a token. No definition of a public promise rests on these.
+use mathlib.Core.Bool.{Bool, false}
+use mathlib.Core.List.{List, [], _∷_}
+use Prim.Native.Nat.{ℕ, _+_, _-_}
+use lib.Dec.{eqb}
+use lib.ListN.{take, drop}
+use Rattle.ascii.specs.declared.Mode.{Mode}
+use Rattle.names.specs.Names.{isName}
+use Rattle.names.specs.Tags.{isLanguage}
+use Rattle.grammar.specs.Grammar.{Item}
+use Rattle.grammar.specs.Read.{First, Shut, shutOf, wordToken, quotedToken}
+use Rattle.grammar.specs.declared.Place.{Place}
+use Rattle.grammar.specs.declared.Place.the-variants.{Nothing, At}
+
+abbrev pub tagToken : Mode → List ℕ → First
+tagToken m s = wordToken m isLanguage (λ t. Item.tag t) s
+
+abbrev pub idToken : Mode → List ℕ → First
+idToken m s = wordToken m isName (λ n. Item.id n) s
+
+abbrev pub classToken : Mode → List ℕ → First
+classToken m s = wordToken m isName (λ n. Item.class n) s
+
+abbrev pub quotedFrom : Mode → List ℕ → ℕ → List ℕ → First
+quotedFrom m k q s = quotedToken m k q s (shutOf q s false)
+
+-- the bytes of s from i to k
+abbrev pub part : ℕ → ℕ → List ℕ → List ℕ
+part i k s = take (k - i) (drop i s)
+
+-- the first byte is there and passes the test
+abbrev pub firstIs : (ℕ → Bool) → List ℕ → Bool
+firstIs f [] = false
+firstIs f (b ∷ s) = f b
+
+abbrev pub startsEq : List ℕ → Bool
+startsEq s = firstIs (λ b. eqb b 61) s
+
+-- where a quote closes whose text begins at i
+abbrev pub shutAt : ℕ → Shut → Place
+shutAt i Shut.never = Nothing
+shutAt i (Shut.after n) = At (i + n)

@@ -1,0 +1,77 @@
+/* What a C caller can pass wrong: no memory at all, too little of it, places and lines that aren't there. Each gets an answer. */
+#include "bridlesnow.h"
+#include <stdio.h>
+#include <string.h>
+
+static int failed;
+
+static void expect(int ok, const char *what)
+{
+    if (!ok) {
+        printf("wrong: %s\n", what);
+        failed = 1;
+    }
+}
+
+#define EXPECT(x) expect((x), #x)
+
+int main(void)
+{
+    static const uint8_t block[] = "{.a}", wrapped[] = "{a\n b}";
+    uint8_t join[8], out[16];
+    size_t told[5];
+
+    EXPECT(bridlesnow_is_utf8(NULL, 0));
+    EXPECT(bridlesnow_check_text(NULL, 0) == 0);
+    EXPECT(!bridlesnow_parse_attrs(NULL, 0));
+    EXPECT(!bridlesnow_is_valid_attr_payload(NULL, 0));
+    EXPECT(!bridlesnow_valid_wrapped_attr_continuation(NULL, 0));
+    EXPECT(bridlesnow_read_attrs_at(NULL, 0, 0, 0, NULL, 0, NULL, 0) == 3);
+    EXPECT(bridlesnow_parse_standalone_attrs(NULL, 0, 1, NULL, 0, NULL, 0) == 3);
+    EXPECT(bridlesnow_merge_lines(NULL, 0, 1, 2, NULL, 0, NULL, 0) == 3);
+    EXPECT(bridlesnow_parse_standalone_attrs_block(NULL, 0, 1, NULL, 0, NULL, 0, NULL, 0) == 3);
+    EXPECT(bridlesnow_wrapped_attrs_run_at(NULL, 0, 1, SIZE_MAX, NULL, 0, NULL, 0, NULL, 0) == 3);
+    EXPECT(bridlesnow_read_block_at(NULL, 0, SIZE_MAX, NULL, 0, NULL, 0, NULL, 0) == 3);
+    EXPECT(bridlesnow_standalone_attrs_block_len(NULL, 0, 1, NULL, 0, NULL, 0) == 3);
+    EXPECT(bridlesnow_indented_wrapped_attrs_block_len(NULL, 0, 1, NULL, 0, NULL, 0) == 3);
+    EXPECT(bridlesnow_attrs_block_len_at(NULL, 0, 1, SIZE_MAX, NULL, 0, NULL, 0) == 3);
+    EXPECT(bridlesnow_refused_brace_run(NULL, 0, 1, NULL, 0, NULL, 0) == 0);
+    EXPECT(bridlesnow_ends_in_refused_brace_run(NULL, 0, NULL, 0, NULL, 0) == 0);
+    EXPECT(bridlesnow_report_start(NULL, 0, NULL, 0, NULL, 0, NULL, 0) == 9);
+    EXPECT(bridlesnow_report_part(NULL, 0, 0, 0, NULL, 0, NULL, 0, NULL, 0) == 9);
+
+    /* No memory to write into, and none to join in. */
+    EXPECT(bridlesnow_read_attrs_at(block, 4, 0, 0, NULL, 0, NULL, 0) == 10);
+    EXPECT(bridlesnow_read_attrs_at(block, 4, SIZE_MAX, 255, NULL, 0, NULL, 0) == 3);
+    EXPECT(bridlesnow_parse_standalone_attrs_block(wrapped, 6, 1, NULL, 0, NULL, 0, NULL, 0) == 9);
+    EXPECT(bridlesnow_parse_standalone_attrs_block(wrapped, 6, SIZE_MAX, NULL, 0, NULL, 0, NULL, 0) == 3);
+
+    /* One byte short: refused, and the memory as it was. */
+    memset(out, 7, sizeof out);
+    EXPECT(bridlesnow_read_attrs_at(block, 4, 0, 0, out, 10, told, 2) == 10);
+    EXPECT(told[0] == 4 && told[1] == 0 && out[0] == 7);
+    EXPECT(bridlesnow_read_attrs_at(block, 4, 0, 0, out, 11, told, 2) == 0);
+    EXPECT(told[0] == 4 && told[1] == 11 && memcmp(out, "{class=\"a\"}\7", 12) == 0);
+    memset(join, 7, sizeof join);
+    EXPECT(bridlesnow_standalone_attrs_block_len(wrapped, 6, 1, join, 4, told, 4) == 9);
+    EXPECT(told[0] == 0 && told[1] == 0 && told[2] == 2 && told[3] == 2 && memcmp(join, "{a\7\7", 4) == 0);
+    EXPECT(bridlesnow_standalone_attrs_block_len(wrapped, 6, 1, join, 5, told, 4) == 0);
+    EXPECT(told[0] == 2 && told[1] == 6 && told[2] == 5 && told[3] == 5 && memcmp(join, "{a b}\7", 6) == 0);
+
+    static uint8_t lines[BRIDLESNOW_MAX], report[BRIDLESNOW_LINE];
+    EXPECT(bridlesnow_report_start(block, 4, lines, sizeof lines - 1, report, sizeof report, told, 3) == 9);
+    EXPECT(bridlesnow_report_start(block, 4, lines, sizeof lines, report, sizeof report - 1, told, 3) == 10);
+    EXPECT(told[0] == 0 && told[2] == 0 && report[0] == 0);
+    EXPECT(bridlesnow_report_start(block, 4, lines, sizeof lines, report, sizeof report, told, 3) == 0);
+    EXPECT(told[0] == 22 && told[2] == 0 && memcmp(report, "block\t1\t1\t{class=\"a\"}\n", 23) == 0);
+    EXPECT(bridlesnow_report_part(block, 4, 4, 6, lines, sizeof lines, report, sizeof report, told, 3) == 3);
+    EXPECT(bridlesnow_report_start((const uint8_t *)"\377", 1, lines, sizeof lines, report, sizeof report, told, 3) == 0);
+    EXPECT(told[0] == 14 && told[2] == 0 && memcmp(report, "refused\t0\t0\t2\n", 14) == 0);
+
+    /* Room for fewer numbers than there are: the rest is untouched. */
+    told[1] = 99;
+    EXPECT(bridlesnow_standalone_attrs_block_len(wrapped, 6, 1, join, 5, told, 1) == 0 && told[0] == 2 && told[1] == 99);
+    if (!failed)
+        printf("arguments: all answered\n");
+    return failed;
+}

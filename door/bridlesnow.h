@@ -1,0 +1,129 @@
+/* Bridlesnow: a proved reader of Carve attribute blocks, for C.
+ *
+ * Link `target/door/libdoor.a`, which `door/library` writes. The functions allocate nothing, keep nothing between calls, and may be called from
+ * several threads at once.
+ *
+ * Every call but those that return a bool returns a number: 0 where nothing is refused, else one of
+ *
+ *     1  the text has more than 65,535 bytes        7  more than 32 distinct keys
+ *     2  it isn't UTF-8                             9  the next line to join doesn't fit `join`
+ *     3  nothing is there to read                  10  the canonical text has more than 65,535 bytes, or more than `out`
+ *     4  no close                                  11  (never given here: a set that isn't well-formed)
+ *     5  no reading                                12  (never given here: an empty set)
+ *     6  more than 32 classes
+ *
+ * A set is handed out as its canonical text at the front of `out`, such as {id="v17" class="wheel" side="left"}. After a number other than 0
+ * `out` is untouched. Numbers besides are told in `told`, in the order that the function's comment gives: as many as `told_len` has room for, the
+ * rest of it untouched. So a caller who wants none passes NULL and 0. They are told on a refusal too; the length of the canonical text is 0 where
+ * none is written, so 10 doesn't tell how much is needed.
+ *
+ * What the caller owes: each pointer with a length other than 0 points to that many elements, and memory that a call writes (`join`, `out`, `told`)
+ * overlaps no other memory of that call. A pointer with length 0 may be NULL. Any other argument gets an answer: a place or a line that isn't
+ * there is 3 (for a refused run: no), a buffer too short is 9 or 10.
+ *
+ * Lines end at LF, a CR before it is dropped, and are counted from 1. `join` is where the lines of a wrapped block are joined; 65,535 bytes are
+ * enough for any text.
+ */
+#ifndef BRIDLESNOW_H
+#define BRIDLESNOW_H
+
+#include <stdbool.h>
+#include <stddef.h>
+#include <stdint.h>
+
+#ifdef __cplusplus
+extern "C" {
+#endif
+
+/* The longest text, and the longest canonical text. */
+#define BRIDLESNOW_MAX 65535
+
+/* No line of a report is longer. */
+#define BRIDLESNOW_LINE 65600
+
+/* Whether the bytes are UTF-8. */
+bool bridlesnow_is_utf8(const uint8_t *text, size_t text_len);
+
+/* 1, 2, or 0 for a text that every function by line takes. */
+uint8_t bridlesnow_check_text(const uint8_t *text, size_t text_len);
+
+/* Whether the bytes are the payload of an inline block, or of a block on lines of its own; whether a wrapped block can go on with the line. */
+bool bridlesnow_parse_attrs(const uint8_t *payload, size_t payload_len);
+bool bridlesnow_is_valid_attr_payload(const uint8_t *payload, size_t payload_len);
+bool bridlesnow_valid_wrapped_attr_continuation(const uint8_t *line, size_t line_len);
+
+/* Reads the block whose brace stands at byte `place`. `loose` is 0 for an inline block, where only spaces part attributes; else a CR does so too. An LF before
+ * the close is 4 in either.
+ * Order of refusals: 1, 3, 4, 2 (of the payload), 5, 6, 7, then 2 (of the whole text) and 10.
+ * Tells: the place behind the block, 0 where it isn't read; the length of the canonical text. */
+uint8_t bridlesnow_read_attrs_at(const uint8_t *text, size_t text_len, size_t place, uint8_t loose,
+                                 uint8_t *out, size_t out_len, size_t *told, size_t told_len);
+
+/* Reads one line of blocks that stand back to back. Order: 1, 2, 3, 5, 6, 7, 10.
+ * Tells: the length of the canonical text. */
+uint8_t bridlesnow_parse_standalone_attrs(const uint8_t *text, size_t text_len, size_t line,
+                                          uint8_t *out, size_t out_len, size_t *told, size_t told_len);
+
+/* Merges the sets of two lines of blocks: what the variant's line says wins over the common line. Order: the numbers of the common line, those of the
+ * variant's line, 6 and 7 of the merge, 10.
+ * Tells: which step refuses (1 the common line, 2 the variant's, 3 the merge, 0 none of these, as with 10); the length of the canonical text. */
+uint8_t bridlesnow_merge_lines(const uint8_t *text, size_t text_len, size_t common, size_t variant,
+                               uint8_t *out, size_t out_len, size_t *told, size_t told_len);
+
+/* Reads the block of one or more lines that begins at a line. Order: 1, 2, 3, then 9 or 5 as its lines are met, 6, 7, 10.
+ * Tells: its lines, also where 6, 7 or 10 refuses its set, else 0; the place behind it, or that of the line (0 where there is no such line, or the
+ * text gives 1 or 2); the lookahead; how many bytes were joined; the length of the canonical text. */
+uint8_t bridlesnow_parse_standalone_attrs_block(const uint8_t *text, size_t text_len, size_t line,
+                                                uint8_t *join, size_t join_len,
+                                                uint8_t *out, size_t out_len, size_t *told, size_t told_len);
+
+/* The same for a wrapped run, also of one line; `base` is added to the column of the first line's brace. Tells as above. */
+uint8_t bridlesnow_wrapped_attrs_run_at(const uint8_t *text, size_t text_len, size_t line, size_t base,
+                                        uint8_t *join, size_t join_len,
+                                        uint8_t *out, size_t out_len, size_t *told, size_t told_len);
+
+/* The same for a block whose first line begins at byte `at`: for going through a text that bridlesnow_check_text took once. It looks at no byte
+ * outside its lines, so only 1 and no 2 is given. A place within a line is taken as the beginning of one; over bytes that aren't UTF-8 `out` isn't
+ * UTF-8 either. Tells as above. */
+uint8_t bridlesnow_read_block_at(const uint8_t *text, size_t text_len, size_t at,
+                                 uint8_t *join, size_t join_len,
+                                 uint8_t *out, size_t out_len, size_t *told, size_t told_len);
+
+/* Measures the block at a line: one that isn't indented; a wrapped one, whatever its indentation; one whose line stands in a column.
+ * Order: 1, 2, 3, then 9 or 5 as its lines are met.
+ * Tells: its lines, 0 where there is none; the place behind it, or that of the line (0 where there is no such line, or the text gives 1 or 2); the
+ * lookahead; how many bytes were joined. */
+uint8_t bridlesnow_standalone_attrs_block_len(const uint8_t *text, size_t text_len, size_t line,
+                                              uint8_t *join, size_t join_len, size_t *told, size_t told_len);
+uint8_t bridlesnow_indented_wrapped_attrs_block_len(const uint8_t *text, size_t text_len, size_t line,
+                                                    uint8_t *join, size_t join_len, size_t *told, size_t told_len);
+uint8_t bridlesnow_attrs_block_len_at(const uint8_t *text, size_t text_len, size_t line, size_t column,
+                                      uint8_t *join, size_t join_len, size_t *told, size_t told_len);
+
+/* Whether the brace run at a line is refused only for a line too far left. Order: 1, 2, 9; a missing line is no.
+ * Tells: 1 for yes, else 0; the lines that it takes, or over which a comment was looked at (SIZE_MAX where they reach to the end), else 0; the
+ * lookahead; how many bytes were joined. */
+uint8_t bridlesnow_refused_brace_run(const uint8_t *text, size_t text_len, size_t line,
+                                     uint8_t *join, size_t join_len, size_t *told, size_t told_len);
+
+/* Whether the text ends in such a run. Order: 1, 2, 9. Tells: 1 for yes, else 0; the lookahead of the runs made. */
+uint8_t bridlesnow_ends_in_refused_brace_run(const uint8_t *text, size_t text_len,
+                                             uint8_t *join, size_t join_len, size_t *told, size_t told_len);
+
+/* Lays the report on a sheet at the front of `out`, from its first line on: a line for each block, `block`, first line, line count and canonical text
+ * parted by tabs, or `refused`, first line, line count and number. As many lines are laid as surely have room; where some are left, the next call is
+ * bridlesnow_report_part with the place and the line that were told. The text is checked by the first call alone and must stay as it is.
+ * `join` has at least BRIDLESNOW_MAX bytes, else 9; `out` at least BRIDLESNOW_LINE, else 10. A text that gives 1 or 2 has a report of one line,
+ * refused, 0, 0 and the number; where `out` has fewer than BRIDLESNOW_LINE bytes, nothing is laid and the number is returned instead.
+ * Order: 1, 2, 9, 10; of report_part 1, 9, 3 (no line can begin there), 10.
+ * Tells: how many bytes are laid; the place and the line at which it goes on, the line 0 where the report is whole. */
+uint8_t bridlesnow_report_start(const uint8_t *text, size_t text_len, uint8_t *join, size_t join_len,
+                                uint8_t *out, size_t out_len, size_t *told, size_t told_len);
+uint8_t bridlesnow_report_part(const uint8_t *text, size_t text_len, size_t at, size_t line, uint8_t *join, size_t join_len,
+                               uint8_t *out, size_t out_len, size_t *told, size_t told_len);
+
+#ifdef __cplusplus
+}
+#endif
+
+#endif

@@ -1,0 +1,542 @@
+//! Bridlesnow for Rust: a safe face of the proved reader of Carve attribute blocks.
+//!
+//! One file and no crate: build it with plain `rustc` and link `target/door/libdoor.a`, which `door/library` writes:
+//!
+//! ```text
+//! rustc -O --crate-type rlib door/rust/bridlesnow.rs -L target/door -l static=door
+//! ```
+//!
+//! A [`Reader`] owns the memory that the calls are lent, 128 KB, and hands out canonical text as a part of it. What the functions answer is proved;
+//! that this file passes pointers, lengths and numbers on in the right order is not, and is tested below.
+
+use std::fmt;
+
+/// The longest text, and the longest canonical text.
+pub const MAX: usize = 65_535;
+
+/// No line of a report is longer.
+pub const LINE: usize = 65_600;
+
+/// The functions of the library, as `door/bridlesnow.h` declares them.
+mod raw {
+    extern "C" {
+        pub fn bridlesnow_is_utf8(text: *const u8, len: usize) -> bool;
+        pub fn bridlesnow_check_text(text: *const u8, len: usize) -> u8;
+        pub fn bridlesnow_parse_attrs(payload: *const u8, len: usize) -> bool;
+        pub fn bridlesnow_is_valid_attr_payload(payload: *const u8, len: usize) -> bool;
+        pub fn bridlesnow_valid_wrapped_attr_continuation(line: *const u8, len: usize) -> bool;
+        pub fn bridlesnow_read_attrs_at(
+            text: *const u8, len: usize, place: usize, loose: u8,
+            out: *mut u8, out_len: usize, told: *mut usize, told_len: usize,
+        ) -> u8;
+        pub fn bridlesnow_parse_standalone_attrs(
+            text: *const u8, len: usize, line: usize,
+            out: *mut u8, out_len: usize, told: *mut usize, told_len: usize,
+        ) -> u8;
+        pub fn bridlesnow_merge_lines(
+            text: *const u8, len: usize, common: usize, variant: usize,
+            out: *mut u8, out_len: usize, told: *mut usize, told_len: usize,
+        ) -> u8;
+        pub fn bridlesnow_parse_standalone_attrs_block(
+            text: *const u8, len: usize, line: usize, join: *mut u8, join_len: usize,
+            out: *mut u8, out_len: usize, told: *mut usize, told_len: usize,
+        ) -> u8;
+        pub fn bridlesnow_wrapped_attrs_run_at(
+            text: *const u8, len: usize, line: usize, base: usize, join: *mut u8, join_len: usize,
+            out: *mut u8, out_len: usize, told: *mut usize, told_len: usize,
+        ) -> u8;
+        pub fn bridlesnow_read_block_at(
+            text: *const u8, len: usize, at: usize, join: *mut u8, join_len: usize,
+            out: *mut u8, out_len: usize, told: *mut usize, told_len: usize,
+        ) -> u8;
+        pub fn bridlesnow_standalone_attrs_block_len(
+            text: *const u8, len: usize, line: usize, join: *mut u8, join_len: usize, told: *mut usize, told_len: usize,
+        ) -> u8;
+        pub fn bridlesnow_indented_wrapped_attrs_block_len(
+            text: *const u8, len: usize, line: usize, join: *mut u8, join_len: usize, told: *mut usize, told_len: usize,
+        ) -> u8;
+        pub fn bridlesnow_attrs_block_len_at(
+            text: *const u8, len: usize, line: usize, column: usize,
+            join: *mut u8, join_len: usize, told: *mut usize, told_len: usize,
+        ) -> u8;
+        pub fn bridlesnow_refused_brace_run(
+            text: *const u8, len: usize, line: usize, join: *mut u8, join_len: usize, told: *mut usize, told_len: usize,
+        ) -> u8;
+        pub fn bridlesnow_ends_in_refused_brace_run(
+            text: *const u8, len: usize, join: *mut u8, join_len: usize, told: *mut usize, told_len: usize,
+        ) -> u8;
+        pub fn bridlesnow_report_start(
+            text: *const u8, len: usize, join: *mut u8, join_len: usize,
+            out: *mut u8, out_len: usize, told: *mut usize, told_len: usize,
+        ) -> u8;
+        pub fn bridlesnow_report_part(
+            text: *const u8, len: usize, at: usize, line: usize, join: *mut u8, join_len: usize,
+            out: *mut u8, out_len: usize, told: *mut usize, told_len: usize,
+        ) -> u8;
+    }
+}
+
+/// Why nothing is handed out: the numbers of `docs/SCOPE.md`.
+#[derive(Clone, Copy, Debug, PartialEq, Eq)]
+pub struct Refusal(pub u8);
+
+impl fmt::Display for Refusal {
+    fn fmt(&self, f: &mut fmt::Formatter<'_>) -> fmt::Result {
+        f.write_str(match self.0 {
+            1 => "the text has more than 65,535 bytes",
+            2 => "not UTF-8",
+            3 => "nothing is there to read",
+            4 => "no close",
+            5 => "no reading",
+            6 => "more than 32 classes",
+            7 => "more than 32 keys",
+            9 => "the next line to join doesn't fit",
+            10 => "the canonical text is too long",
+            _ => "refused",
+        })
+    }
+}
+
+impl std::error::Error for Refusal {}
+
+/// `Ok` for 0.
+fn granted(number: u8) -> Result<(), Refusal> {
+    if number == 0 { Ok(()) } else { Err(Refusal(number)) }
+}
+
+/// Whether the bytes are UTF-8.
+pub fn is_utf8(text: &[u8]) -> bool {
+    unsafe { raw::bridlesnow_is_utf8(text.as_ptr(), text.len()) }
+}
+
+/// 1 or 2 for a text that is refused as a whole.
+pub fn check_text(text: &[u8]) -> Result<(), Refusal> {
+    granted(unsafe { raw::bridlesnow_check_text(text.as_ptr(), text.len()) })
+}
+
+/// Whether the bytes are the payload of an inline block.
+pub fn parse_attrs(payload: &[u8]) -> bool {
+    unsafe { raw::bridlesnow_parse_attrs(payload.as_ptr(), payload.len()) }
+}
+
+/// Whether the bytes are the payload of a block on lines of its own.
+pub fn is_valid_attr_payload(payload: &[u8]) -> bool {
+    unsafe { raw::bridlesnow_is_valid_attr_payload(payload.as_ptr(), payload.len()) }
+}
+
+/// Whether a wrapped block can go on with the line.
+pub fn valid_wrapped_attr_continuation(line: &[u8]) -> bool {
+    unsafe { raw::bridlesnow_valid_wrapped_attr_continuation(line.as_ptr(), line.len()) }
+}
+
+/// What parts the attributes of a block at a brace: spaces, or also CR (an LF before the close is 4 in both).
+#[derive(Clone, Copy, Debug, PartialEq, Eq)]
+pub enum Mode {
+    Strict,
+    Loose,
+}
+
+/// What is said of a block's lines, also where its set is refused.
+#[derive(Clone, Copy, Debug, PartialEq, Eq, Default)]
+pub struct Lines {
+    /// How many lines it takes, 0 where there is no block.
+    pub count: usize,
+    /// The place behind it, or that of the line where there is none.
+    pub next: usize,
+    /// The sum of the lengths of the lines that were joined.
+    pub lookahead: usize,
+    /// How many bytes the joined text has.
+    pub joined: usize,
+}
+
+impl Lines {
+    fn of(told: &[usize]) -> Self {
+        Lines { count: told[0], next: told[1], lookahead: told[2], joined: told[3] }
+    }
+}
+
+/// What is said of a brace run that may be refused only for a line too far left.
+#[derive(Clone, Copy, Debug, PartialEq, Eq)]
+pub enum BraceRun {
+    /// It is refused and takes so many lines.
+    Lines(usize),
+    /// It isn't; a comment run was looked at over so many lines, `usize::MAX` where they reach to the end.
+    No(usize),
+}
+
+/// Memory for the calls, to be used again and again.
+pub struct Reader {
+    join: Vec<u8>,
+    out: Vec<u8>,
+}
+
+impl Default for Reader {
+    fn default() -> Self {
+        Self::new()
+    }
+}
+
+impl Reader {
+    /// With room for every text.
+    pub fn new() -> Self {
+        Self::with_room(MAX, LINE)
+    }
+
+    /// With `join` bytes to join lines in and `out` bytes for canonical text: what doesn't fit is refused by 9 or 10.
+    pub fn with_room(join: usize, out: usize) -> Self {
+        Reader { join: vec![0; join], out: vec![0; out] }
+    }
+
+    /// The first `len` bytes that were written. Canonical text over UTF-8 is UTF-8; where the bytes that were read aren't, it is refused by 2 here.
+    fn canonical(&self, len: usize) -> Result<&str, Refusal> {
+        std::str::from_utf8(&self.out[..len]).map_err(|_| Refusal(2))
+    }
+
+    /// What the last call that joined lines left in the join buffer.
+    pub fn joined(&self, len: usize) -> &[u8] {
+        &self.join[..len.min(self.join.len())]
+    }
+
+    /// The block whose brace stands at `place`: the place behind it and its canonical text.
+    pub fn read_attrs_at(&mut self, text: &[u8], place: usize, mode: Mode) -> Result<(usize, &str), Refusal> {
+        let mut told = [0usize; 2];
+        granted(unsafe {
+            raw::bridlesnow_read_attrs_at(
+                text.as_ptr(), text.len(), place, u8::from(mode == Mode::Loose),
+                self.out.as_mut_ptr(), self.out.len(), told.as_mut_ptr(), told.len(),
+            )
+        })?;
+        Ok((told[0], self.canonical(told[1])?))
+    }
+
+    /// One line of blocks.
+    pub fn parse_standalone_attrs(&mut self, text: &[u8], line: usize) -> Result<&str, Refusal> {
+        let mut told = [0usize; 1];
+        granted(unsafe {
+            raw::bridlesnow_parse_standalone_attrs(
+                text.as_ptr(), text.len(), line,
+                self.out.as_mut_ptr(), self.out.len(), told.as_mut_ptr(), told.len(),
+            )
+        })?;
+        self.canonical(told[0])
+    }
+
+    /// The sets of two lines made into one: what the variant's line says wins. The number with a refusal says where: 1 the common line, 2 the
+    /// variant's, 3 the merge, 0 the writing.
+    pub fn merge_lines(&mut self, text: &[u8], common: usize, variant: usize) -> Result<&str, (Refusal, usize)> {
+        let mut told = [0usize; 2];
+        let number = unsafe {
+            raw::bridlesnow_merge_lines(
+                text.as_ptr(), text.len(), common, variant,
+                self.out.as_mut_ptr(), self.out.len(), told.as_mut_ptr(), told.len(),
+            )
+        };
+        granted(number).map_err(|refusal| (refusal, told[0]))?;
+        self.canonical(told[1]).map_err(|refusal| (refusal, 0))
+    }
+
+    fn block(&self, number: u8, told: [usize; 5]) -> Result<(Lines, &str), (Refusal, Lines)> {
+        let lines = Lines::of(&told);
+        granted(number).map_err(|refusal| (refusal, lines))?;
+        let text = self.canonical(told[4]).map_err(|refusal| (refusal, lines))?;
+        Ok((lines, text))
+    }
+
+    /// The block of one or more lines that begins at a line.
+    pub fn parse_standalone_attrs_block(&mut self, text: &[u8], line: usize) -> Result<(Lines, &str), (Refusal, Lines)> {
+        let mut told = [0usize; 5];
+        let number = unsafe {
+            raw::bridlesnow_parse_standalone_attrs_block(
+                text.as_ptr(), text.len(), line, self.join.as_mut_ptr(), self.join.len(),
+                self.out.as_mut_ptr(), self.out.len(), told.as_mut_ptr(), told.len(),
+            )
+        };
+        self.block(number, told)
+    }
+
+    /// The wrapped run at a line, also of one line; `base` is added to the column of the first line's brace.
+    pub fn wrapped_attrs_run_at(&mut self, text: &[u8], line: usize, base: usize) -> Result<(Lines, &str), (Refusal, Lines)> {
+        let mut told = [0usize; 5];
+        let number = unsafe {
+            raw::bridlesnow_wrapped_attrs_run_at(
+                text.as_ptr(), text.len(), line, base, self.join.as_mut_ptr(), self.join.len(),
+                self.out.as_mut_ptr(), self.out.len(), told.as_mut_ptr(), told.len(),
+            )
+        };
+        self.block(number, told)
+    }
+
+    /// The block whose first line begins at byte `at` of a text that [`check_text`] took; over bytes that aren't UTF-8 it is refused by 2.
+    pub fn read_block_at(&mut self, text: &[u8], at: usize) -> Result<(Lines, &str), (Refusal, Lines)> {
+        let mut told = [0usize; 5];
+        let number = unsafe {
+            raw::bridlesnow_read_block_at(
+                text.as_ptr(), text.len(), at, self.join.as_mut_ptr(), self.join.len(),
+                self.out.as_mut_ptr(), self.out.len(), told.as_mut_ptr(), told.len(),
+            )
+        };
+        self.block(number, told)
+    }
+
+    fn measured(number: u8, told: [usize; 4]) -> Result<Lines, (Refusal, Lines)> {
+        granted(number).map(|()| Lines::of(&told)).map_err(|refusal| (refusal, Lines::of(&told)))
+    }
+
+    /// The lines of the block at a line that isn't indented.
+    pub fn standalone_attrs_block_len(&mut self, text: &[u8], line: usize) -> Result<Lines, (Refusal, Lines)> {
+        let mut told = [0usize; 4];
+        let number = unsafe {
+            raw::bridlesnow_standalone_attrs_block_len(
+                text.as_ptr(), text.len(), line, self.join.as_mut_ptr(), self.join.len(), told.as_mut_ptr(), told.len(),
+            )
+        };
+        Self::measured(number, told)
+    }
+
+    /// The lines of a wrapped block, whatever its indentation.
+    pub fn indented_wrapped_attrs_block_len(&mut self, text: &[u8], line: usize) -> Result<Lines, (Refusal, Lines)> {
+        let mut told = [0usize; 4];
+        let number = unsafe {
+            raw::bridlesnow_indented_wrapped_attrs_block_len(
+                text.as_ptr(), text.len(), line, self.join.as_mut_ptr(), self.join.len(), told.as_mut_ptr(), told.len(),
+            )
+        };
+        Self::measured(number, told)
+    }
+
+    /// The lines of the block at a line that stands in a column.
+    pub fn attrs_block_len_at(&mut self, text: &[u8], line: usize, column: usize) -> Result<Lines, (Refusal, Lines)> {
+        let mut told = [0usize; 4];
+        let number = unsafe {
+            raw::bridlesnow_attrs_block_len_at(
+                text.as_ptr(), text.len(), line, column,
+                self.join.as_mut_ptr(), self.join.len(), told.as_mut_ptr(), told.len(),
+            )
+        };
+        Self::measured(number, told)
+    }
+
+    /// Whether the brace run at a line is refused only for a line too far left, with the lookahead and how many bytes were joined.
+    pub fn refused_brace_run(&mut self, text: &[u8], line: usize) -> Result<(BraceRun, usize, usize), Refusal> {
+        let mut told = [0usize; 4];
+        granted(unsafe {
+            raw::bridlesnow_refused_brace_run(
+                text.as_ptr(), text.len(), line, self.join.as_mut_ptr(), self.join.len(), told.as_mut_ptr(), told.len(),
+            )
+        })?;
+        let run = if told[0] == 1 { BraceRun::Lines(told[1]) } else { BraceRun::No(told[1]) };
+        Ok((run, told[2], told[3]))
+    }
+
+    /// Whether the text ends in such a run, with the lookahead of the runs made.
+    pub fn ends_in_refused_brace_run(&mut self, text: &[u8]) -> Result<(bool, usize), Refusal> {
+        let mut told = [0usize; 2];
+        granted(unsafe {
+            raw::bridlesnow_ends_in_refused_brace_run(
+                text.as_ptr(), text.len(), self.join.as_mut_ptr(), self.join.len(), told.as_mut_ptr(), told.len(),
+            )
+        })?;
+        Ok((told[0] == 1, told[1]))
+    }
+
+    /// The report on a sheet, handed to `lay` part by part: a line for each block, or one line for a text that gives 1 or 2.
+    pub fn report(&mut self, text: &[u8], mut lay: impl FnMut(&[u8])) -> Result<(), Refusal> {
+        let mut told = [0usize; 3];
+        let mut number = unsafe {
+            raw::bridlesnow_report_start(
+                text.as_ptr(), text.len(), self.join.as_mut_ptr(), self.join.len(),
+                self.out.as_mut_ptr(), self.out.len(), told.as_mut_ptr(), told.len(),
+            )
+        };
+        loop {
+            granted(number)?;
+            let [len, at, line] = told;
+            lay(&self.out[..len]);
+            if line == 0 {
+                return Ok(());
+            }
+            number = unsafe {
+                raw::bridlesnow_report_part(
+                    text.as_ptr(), text.len(), at, line, self.join.as_mut_ptr(), self.join.len(),
+                    self.out.as_mut_ptr(), self.out.len(), told.as_mut_ptr(), told.len(),
+                )
+            };
+        }
+    }
+}
+
+#[cfg(test)]
+mod tests {
+    use super::*;
+    use std::ptr::{null, null_mut};
+
+    fn at_brace(text: &str) -> Result<(usize, String), u8> {
+        Reader::new()
+            .read_attrs_at(text.as_bytes(), 0, Mode::Strict)
+            .map(|(next, canonical)| (next, canonical.to_string()))
+            .map_err(|refusal| refusal.0)
+    }
+
+    /// The twelve cases of docs/SCOPE.md.
+    #[test]
+    fn cases() {
+        let read = |next: usize, canonical: &str| Ok((next, canonical.to_string()));
+        assert_eq!(at_brace("{:}"), read(3, "{lang=\"\"}"));
+        assert_eq!(at_brace("{class=\"\"}"), read(10, "{class=\"\"}"));
+        assert_eq!(at_brace("{_a}"), Err(5));
+        assert_eq!(at_brace("{:abcdefgh}"), read(11, "{lang=\"abcdefgh\"}"));
+        assert_eq!(at_brace("{:abcdefghi}"), Err(5));
+        assert_eq!(at_brace("{a=}"), Err(5));
+        assert_eq!(at_brace("{}"), Err(5));
+        assert_eq!(at_brace("{a=\"1\"b}"), Err(5));
+        assert_eq!(at_brace("{a=\"}\"}"), read(7, "{a=\"}\"}"));
+        assert_eq!(at_brace("{k=1 k=2}"), read(9, "{k=\"2\"}"));
+        assert_eq!(at_brace("{a"), Err(4));
+        assert_eq!(at_brace("{.a #x k=1 .b}"), read(14, "{class=\"a\" class=\"b\" id=\"x\" k=\"1\"}"));
+    }
+
+    #[test]
+    fn numbers_at_a_brace() {
+        let mut reader = Reader::new();
+        assert_eq!(reader.read_attrs_at(&vec![b'{'; MAX + 1], 0, Mode::Strict), Err(Refusal(1)));
+        assert_eq!(reader.read_attrs_at(b"a{.b}", 0, Mode::Strict), Err(Refusal(3)));
+        assert_eq!(reader.read_attrs_at(b"a{.b}", usize::MAX, Mode::Strict), Err(Refusal(3)));
+        assert_eq!(reader.read_attrs_at(b"a{.b}c", 1, Mode::Strict), Ok((5, "{class=\"b\"}")));
+        assert_eq!(reader.read_attrs_at(b"{k=\xff}", 0, Mode::Strict), Err(Refusal(2)));
+        // The block is read, and the writer then refuses the text for what stands behind the block.
+        assert_eq!(reader.read_attrs_at(b"{.a}\xff", 0, Mode::Strict), Err(Refusal(2)));
+        assert_eq!(reader.read_attrs_at(b"{.a\r.b}", 0, Mode::Strict), Err(Refusal(5)));
+        assert_eq!(reader.read_attrs_at(b"{.a\r.b}", 0, Mode::Loose), Ok((7, "{class=\"a\" class=\"b\"}")));
+        let many = |word: &str, n: usize| (0..n).map(|i| format!(" {word}{i}")).collect::<String>();
+        assert!(reader.read_attrs_at(format!("{{{}}}", many(".c", 32)).as_bytes(), 0, Mode::Strict).is_ok());
+        assert_eq!(reader.read_attrs_at(format!("{{{}}}", many(".c", 33)).as_bytes(), 0, Mode::Strict), Err(Refusal(6)));
+        assert!(reader.read_attrs_at(format!("{{{}}}", many("k", 32)).as_bytes(), 0, Mode::Strict).is_ok());
+        assert_eq!(reader.read_attrs_at(format!("{{{}}}", many("k", 33)).as_bytes(), 0, Mode::Strict), Err(Refusal(7)));
+    }
+
+    #[test]
+    fn texts_and_payloads() {
+        assert!(is_utf8("gr\u{f6}\u{df}er".as_bytes()) && !is_utf8(b"\xc0\x80"));
+        assert_eq!(check_text(b""), Ok(()));
+        assert_eq!(check_text(&vec![b' '; MAX]), Ok(()));
+        assert_eq!(check_text(&vec![b' '; MAX + 1]), Err(Refusal(1)));
+        assert_eq!(check_text(b"\xff"), Err(Refusal(2)));
+        assert!(parse_attrs(b"a b=1") && !parse_attrs(b"a\nb") && is_valid_attr_payload(b"a\nb") && !is_valid_attr_payload(b""));
+        assert!(valid_wrapped_attr_continuation(b" b}") && !valid_wrapped_attr_continuation(b" =}x"));
+    }
+
+    #[test]
+    fn lines_and_merges() {
+        let mut reader = Reader::new();
+        let text = b"{.wheel side=left}\r\ntext\n  {side=right #v17}{.b}\n{.a";
+        assert_eq!(reader.parse_standalone_attrs(text, 1), Ok("{class=\"wheel\" side=\"left\"}"));
+        assert_eq!(reader.parse_standalone_attrs(text, 2), Err(Refusal(3)));
+        assert_eq!(reader.parse_standalone_attrs(text, 3), Ok("{side=\"right\" id=\"v17\" class=\"b\"}"));
+        assert_eq!(reader.parse_standalone_attrs(text, 4), Err(Refusal(5)));
+        assert_eq!(reader.parse_standalone_attrs(text, 0), Err(Refusal(3)));
+        assert_eq!(reader.merge_lines(text, 1, 3), Ok("{class=\"wheel\" class=\"b\" side=\"right\" id=\"v17\"}"));
+        assert_eq!(reader.merge_lines(text, 3, 1), Ok("{side=\"left\" id=\"v17\" class=\"b\" class=\"wheel\"}"));
+        assert_eq!(reader.merge_lines(text, 2, 1), Err((Refusal(3), 1)));
+        assert_eq!(reader.merge_lines(text, 1, 4), Err((Refusal(5), 2)));
+        let classes = (0..17).map(|i| format!(" .c{i}")).collect::<String>();
+        assert_eq!(reader.merge_lines(format!("{{{classes}}}\n{{{classes}}}").as_bytes(), 1, 2), Err((Refusal(6), 3)));
+    }
+
+    #[test]
+    fn blocks() {
+        let mut reader = Reader::new();
+        let text = b"{#v17\n side=right}\n{.a}{.b}\n";
+        let first = Lines { count: 2, next: 19, lookahead: 17, joined: 17 };
+        assert_eq!(reader.parse_standalone_attrs_block(text, 1), Ok((first, "{id=\"v17\" side=\"right\"}")));
+        assert_eq!(reader.joined(17), b"{#v17 side=right}");
+        assert_eq!(reader.read_block_at(text, 0), Ok((first, "{id=\"v17\" side=\"right\"}")));
+        let second = Lines { count: 1, next: 28, lookahead: 0, joined: 0 };
+        assert_eq!(reader.read_block_at(text, 19), Ok((second, "{class=\"a\" class=\"b\"}")));
+        let other = Lines { count: 1, next: 5, lookahead: 0, joined: 0 };
+        assert_eq!(reader.read_block_at(b"{a=\xff}", 0), Err((Refusal(2), other)));
+        let run = Lines { lookahead: 8, joined: 8, ..second };
+        assert_eq!(reader.wrapped_attrs_run_at(text, 3, 0), Ok((run, "{class=\"a\" class=\"b\"}")));
+        assert_eq!(reader.standalone_attrs_block_len(text, 1), Ok(first));
+        assert_eq!(reader.standalone_attrs_block_len(b" {a}", 1), Err((Refusal(3), Lines::default())));
+        assert_eq!(reader.indented_wrapped_attrs_block_len(text, 1), Ok(first));
+        assert_eq!(reader.indented_wrapped_attrs_block_len(text, 3), Err((Refusal(5), Lines { count: 0, next: 19, ..Lines::default() })));
+        assert_eq!(reader.attrs_block_len_at(text, 1, 0), Ok(first));
+        let refused = Lines { count: 0, next: 0, lookahead: 5, joined: 5 };
+        assert_eq!(reader.attrs_block_len_at(text, 1, 1), Err((Refusal(5), refused)));
+        // A block keeps its lines where a limit refuses its set.
+        let classes = (0..33).map(|i| format!(" .c{i}")).collect::<String>();
+        let lines = Lines { count: 1, next: classes.len() + 2, lookahead: 0, joined: 0 };
+        assert_eq!(reader.parse_standalone_attrs_block(format!("{{{classes}}}").as_bytes(), 1), Err((Refusal(6), lines)));
+    }
+
+    fn reported(reader: &mut Reader, text: &[u8]) -> Result<(String, usize), Refusal> {
+        let (mut report, mut parts) = (Vec::new(), 0);
+        reader.report(text, |part| {
+            report.extend_from_slice(part);
+            parts += 1;
+        })?;
+        Ok((String::from_utf8(report).unwrap(), parts))
+    }
+
+    #[test]
+    fn reports() {
+        let mut reader = Reader::new();
+        let sheet = b"{.wheel side=left}\ntext\n{#v17\n side=right}\n{.a}{.b side=\"x}y\"}\n";
+        let lines = "block\t1\t1\t{class=\"wheel\" side=\"left\"}\nblock\t3\t2\t{id=\"v17\" side=\"right\"}\n\
+                     block\t5\t1\t{class=\"a\" class=\"b\" side=\"x}y\"}\n";
+        // Before each line the longest has to have room, so the smallest buffer takes a part for each.
+        assert_eq!(reported(&mut reader, sheet), Ok((lines.into(), 3)));
+        assert_eq!(reported(&mut Reader::with_room(MAX, 1 << 20), sheet), Ok((lines.into(), 1)));
+        assert_eq!(reported(&mut reader, b""), Ok(("".into(), 1)));
+        assert_eq!(reported(&mut reader, b"{.a}\n\xff"), Ok(("refused\t0\t0\t2\n".into(), 1)));
+        assert_eq!(reported(&mut reader, &vec![b'a'; MAX + 1]), Ok(("refused\t0\t0\t1\n".into(), 1)));
+        let classes = (0..33).map(|i| format!(" .c{i}")).collect::<String>();
+        assert_eq!(reported(&mut reader, format!("\n{{{classes}}}").as_bytes()), Ok(("refused\t2\t1\t6\n".into(), 1)));
+        assert_eq!(reported(&mut Reader::with_room(MAX - 1, LINE), sheet), Err(Refusal(9)));
+        assert_eq!(reported(&mut Reader::with_room(MAX, LINE - 1), sheet), Err(Refusal(10)));
+        assert_eq!(reported(&mut Reader::with_room(MAX, LINE - 1), b"\xff"), Err(Refusal(2)));
+    }
+
+    #[test]
+    fn refused_runs() {
+        let mut reader = Reader::new();
+        assert_eq!(reader.refused_brace_run(b"{a\nb}", 1), Ok((BraceRun::Lines(2), 4, 5)));
+        assert_eq!(reader.refused_brace_run(b"{%\n\nx", 1), Ok((BraceRun::No(usize::MAX), 0, 0)));
+        assert_eq!(reader.refused_brace_run(b"{a}", 7), Ok((BraceRun::No(0), 0, 0)));
+        assert_eq!(reader.refused_brace_run(b"\xff", 1), Err(Refusal(2)));
+        assert_eq!(reader.ends_in_refused_brace_run(b"t\n{a\nb}\n"), Ok((true, 4)));
+        assert_eq!(reader.ends_in_refused_brace_run(b"t\n{a\n b}\n"), Ok((false, 0)));
+    }
+
+    #[test]
+    fn room() {
+        let text = b"{#v17\n side=right}\n";
+        assert!(Reader::with_room(17, 23).parse_standalone_attrs_block(text, 1).is_ok());
+        let lines = Lines { count: 2, next: 19, lookahead: 17, joined: 17 };
+        assert_eq!(Reader::with_room(17, 22).parse_standalone_attrs_block(text, 1), Err((Refusal(10), lines)));
+        let lines = Lines { count: 0, next: 0, lookahead: 5, joined: 5 };
+        assert_eq!(Reader::with_room(16, 23).parse_standalone_attrs_block(text, 1), Err((Refusal(9), lines)));
+        assert_eq!(Reader::with_room(0, 0).read_attrs_at(b"{.a}", 0, Mode::Strict), Err(Refusal(10)));
+    }
+
+    /// What only a caller from C can pass: no memory at all, and memory for fewer numbers than there are.
+    #[test]
+    fn no_memory() {
+        unsafe {
+            assert!(raw::bridlesnow_is_utf8(null(), 0));
+            assert_eq!(raw::bridlesnow_check_text(null(), 0), 0);
+            assert!(!raw::bridlesnow_parse_attrs(null(), 0));
+            assert_eq!(raw::bridlesnow_read_attrs_at(null(), 0, 0, 0, null_mut(), 0, null_mut(), 0), 3);
+            assert_eq!(raw::bridlesnow_read_attrs_at(b"{.a}".as_ptr(), 4, 0, 7, null_mut(), 0, null_mut(), 0), 10);
+            assert_eq!(raw::bridlesnow_parse_standalone_attrs_block(null(), 0, 1, null_mut(), 0, null_mut(), 0, null_mut(), 0), 3);
+            assert_eq!(raw::bridlesnow_standalone_attrs_block_len(b"{a\n b}".as_ptr(), 6, 1, null_mut(), 0, null_mut(), 0), 9);
+            assert_eq!(raw::bridlesnow_merge_lines(null(), 0, 1, 2, null_mut(), 0, null_mut(), 0), 3);
+            let mut out = [255u8; 12];
+            let mut told = [77usize; 2];
+            assert_eq!(raw::bridlesnow_read_attrs_at(b"{.a}".as_ptr(), 4, 0, 0, out.as_mut_ptr(), 12, told.as_mut_ptr(), 1), 0);
+            assert_eq!((&out, told), (b"{class=\"a\"}\xff", [4, 77]));
+            assert_eq!(raw::bridlesnow_read_attrs_at(b"{.a}".as_ptr(), 4, 1, 0, out.as_mut_ptr(), 12, told.as_mut_ptr(), 2), 3);
+            assert_eq!((&out, told), (b"{class=\"a\"}\xff", [0, 0]));
+        }
+    }
+}
