@@ -1,4 +1,4 @@
-//! The proved code, as the static library `door` has it, and one function from inside its module.
+//! The proved code, as the static library has it, and one function from inside the module of `door_sets`.
 
 /// A slice as the module's inner functions take it.
 #[repr(C)]

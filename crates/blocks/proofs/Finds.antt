@@ -26,13 +26,11 @@ use Rattle.runs.specs.Runs.{Run, runAt, joinedOf, over, pastLines}
 use Rattle.runs.specs.declared.Joined.{Joined}
 use Rattle.fill.specs.declared.Filled.{Filled}
 use Rattle.fronts.specs.declared.Front.{Front}
-use Rattle.blocks.specs.declared.Length.the-variants as lengthIs
-use Rattle.blocks.specs.declared.Measure.{Measure}
 use Rattle.blocks.specs.declared.Block.{Block}
 use Rattle.runs.proofs.Bounds.{text-short}
 use Rattle.runs.specs.declared.Stop.the-variants as stop
 use Rattle.fronts.specs.Fronts.{lineAt, frontOf, opensAt}
-use Rattle.blocks.specs.Blocks.{Found, nothing, closedRun, runFound, found, wrapped, joinHolds, measured, blockBy, unread, blockOf, sized}
+use Rattle.blocks.specs.Blocks.{Found, nothing, closedRun, runFound, found, wrapped, joinHolds, blockBy, unread, blockOf, sized}
 use Rattle.blocks.specs.Steps.{isUnread}
 
 -- ---- a good line is one that is read
@@ -100,9 +98,6 @@ module _ (t : List ℕ) (at base cap : ℕ) where
 -- ---- what is handed out, and what the join buffer holds
 
 module _ (t : List ℕ) (at : ℕ) (buf : List ℕ) {b : List ℕ} {f g : Found} (e : f ≡ g) where
-  pub measured-by : {m : Measure} → m ≡ measured t at g → b ≡ joinHolds buf g → (m ≡ measured t at f) × (b ≡ joinHolds buf f)
-  measured-by p q = rw e (p, q)
-
   pub read-by : {x : Block} → x ≡ blockOf t at g → b ≡ joinHolds buf g → (x ≡ blockOf t at f) × (b ≡ joinHolds buf f)
   read-by p q = rw e (p, q)
 
@@ -119,10 +114,6 @@ unfolding blockOf pastLines
 none-read t at e = e
 
 module _ (t : List ℕ) (at : ℕ) {f : Front} (p : f ≡ frontOf t at) where
-  pub line-measured : record { length = lengthIs.Lines 1; lookahead = 0; joined = 0; next = f .next } ≡ measured t at Found.line
-  unfolding measured pastLines frontOf
-  line-measured = rw p
-
   pub line-read : {y : Filled} {x : Block} → y ≡ chainAt Loose t (f .from) (f .to) → x ≡ blockBy y 1 0 0 (f .next) → x ≡ blockOf t at Found.line
   unfolding blockOf pastLines frontOf
   line-read e q = rw (q, e, p)
@@ -152,7 +143,7 @@ module _ (t : List ℕ) (at base : ℕ) (buf : List ℕ) {j : Joined} {b : List 
   joined-in = rw (e, o, length-append) (omega arith)
 
   module _ {q : Refusal} (s : j .stop ≡ stop.Refused q) where
-    refused-is : f ≡ Found.none q (r .text) (r .lookahead)
+    pub refused-is : f ≡ Found.none q (r .text) (r .lookahead)
     unfolding runFound
     refused-is = let z : r .stop ≡ stop.Refused q = rw e at s in rw z
 
@@ -160,16 +151,12 @@ module _ (t : List ℕ) (at base : ℕ) (buf : List ℕ) {j : Joined} {b : List 
     unfolding joinHolds
     run-holds = rw (refused-is, o)
 
-    pub run-measured : record { length = lengthIs.Refused q; lookahead = j .lookahead; joined = j .len; next = at } ≡ measured t at f
-    unfolding measured pastLines
-    run-measured = rw (refused-is, e)
-
     pub run-unread : {x : Block} → x ≡ unread q (j .lookahead) (j .len) at → x ≡ blockOf t at f
     unfolding blockOf pastLines
     run-unread p = rw (refused-is, p, e)
 
   module _ (s : j .stop ≡ stop.Closed) where
-    closed-is : (x : Bool) → goodLine (take (j .len) b) 0 (j .len) ≡ x → f ≡ closedRun r x
+    pub closed-is : (x : Bool) → goodLine (take (j .len) b) 0 (j .len) ≡ x → f ≡ closedRun r x
     unfolding runFound
     closed-is x g =
         let z : r .stop ≡ stop.Closed = rw e at s in
@@ -182,10 +169,6 @@ module _ (t : List ℕ) (at base : ℕ) (buf : List ℕ) {j : Joined} {b : List 
       unfolding joinHolds
       good-holds = rw (closed-is true g, o)
 
-      pub good-measured : record { length = lengthIs.Lines (j .lines); lookahead = j .lookahead; joined = j .len; next = j .next } ≡ measured t at f
-      unfolding measured
-      good-measured = rw (closed-is true g, e)
-
       pub good-read : {y : Filled} {x : Block} → y ≡ chainAt Loose (take (j .len) b) 0 (j .len) → x ≡ blockBy y (j .lines) (j .lookahead) (j .len) (j .next) → x ≡ blockOf t at f
       unfolding blockOf
       good-read p q = rw (closed-is true g, q, p, joined-is, e)
@@ -194,10 +177,6 @@ module _ (t : List ℕ) (at base : ℕ) (buf : List ℕ) {j : Joined} {b : List 
       pub bad-holds : b ≡ joinHolds buf f
       unfolding joinHolds
       bad-holds = rw (closed-is false g, o)
-
-      pub bad-measured : record { length = lengthIs.Refused NoReading; lookahead = j .lookahead; joined = j .len; next = at } ≡ measured t at f
-      unfolding measured pastLines
-      bad-measured = rw (closed-is false g, e)
 
       pub bad-read : {x : Block} → x ≡ unread NoReading (j .lookahead) (j .len) at → x ≡ blockOf t at f
       unfolding blockOf pastLines

@@ -1,6 +1,7 @@
 -- The laws about blocks that later crates cite.
 pub mod Finds
-pub mod Agree
+pub mod ByLine
+pub mod Places
 pub mod Wraps
 pub mod SetsOk
 pub mod Numbers

@@ -1,4 +1,4 @@
--- The numbers of a block at a place: "9 or 5 as the run meets them, 6, 7, 8"; "Measuring never gives 6 to 8".
+-- The numbers of a block at a place: "9 or 5 as the run meets them, 6, 7, 8".
 -- Assumes nothing.
 use mathlib.Core.Path.{_≡_, refl, _∙_}
 use mathlib.Core.Bool.{Bool, true, false, cond}
@@ -6,7 +6,7 @@ use mathlib.Core.List.{List}
 use Prim.Native.Nat.{ℕ, _≤_}
 use native.Mathlib.Omega.{arith}
 use borrow.Author.Tests.{ltb-false, le-ltb}
-use lib.Dec.{eqb, ltb}
+use lib.Dec.{ltb}
 use lib.ListN.{length}
 use lib.Seq.{slice}
 use Rattle.ascii.specs.declared.Mode.the-variants.{Loose}
@@ -24,14 +24,11 @@ use Rattle.runs.specs.declared.Stop as stops
 use Rattle.runs.specs.declared.Stop.the-variants as stop
 use Rattle.runs.proofs.Bounds.{text-short}
 use Rattle.fronts.specs.Fronts.{lineAt, frontOf, opensAt}
-use Rattle.blocks.specs.Blocks.{Found, nothing, closedRun, ended, runFound, found, wrapped, linesOf, lengthOf, lengthNo, measured, blockOf, sized, lineRead, unlessLine}
+use Rattle.blocks.specs.Blocks.{Found, nothing, closedRun, ended, runFound, found, wrapped, blockOf, sized, lineRead}
 
 -- ---- the line at a place, where g is the number of a good line from a place up to one
 
--- 0 where it is measured; where it is read 6, 7, 8, or 0 for a set
-abbrev pub measuring : List ℕ → ℕ → ℕ → ℕ
-measuring t from to = 0
-
+-- 6, 7, 8, or 0 for a set, where it is read
 abbrev pub reading : List ℕ → ℕ → ℕ → ℕ
 reading t from to = readingNo (one t) (readBlocks Loose from (slice from to t))
 
@@ -79,7 +76,7 @@ module _ (g : List ℕ → ℕ → ℕ → ℕ) (t : List ℕ) (at base cap : �
       go true = by-run
       go false = none NothingThere _ _
 
-  by-found : n Found.line ≡ g t (frontOf t at .from) (frontOf t at .to) → n (found t at base cap) ≡ foundNo g t at base cap
+  pub by-found : n Found.line ≡ g t (frontOf t at .from) (frontOf t at .to) → n (found t at base cap) ≡ foundNo g t at base cap
   unfolding found numberOf
   by-found line = go (opensAt t at) (goodLine t (frontOf t at .from) (frontOf t at .to)) (endsInClose (trim (lineAt t at)))
     where
@@ -92,10 +89,6 @@ module _ (g : List ℕ → ℕ → ℕ → ℕ) (t : List ℕ) (at base cap : �
       go false b c = none NothingThere _ _
 
 module _ (t : List ℕ) (at base cap : ℕ) where
-  pub measured-no : lengthNo (measured t at (found t at base cap) .length) ≡ foundNo measuring t at base cap
-  unfolding measured
-  measured-no = by-found measuring t at base cap (λ f. lengthNo (lengthOf f)) (λ q x k. refl) (λ r h. refl) refl
-
   module _ (k : length t ≤ maxText) where
     part-no : (s : List ℕ) (from to : ℕ) → length s ≤ length t → outcomeNo (chainAt Loose s from to .outcome) ≡ reading s from to
     part-no s from to h = chain-no Loose s from to ∙ (rw (le-ltb maxText (length s) (omega (arith, h, k))))
@@ -126,15 +119,6 @@ module _ (t : List ℕ) (at base cap : ℕ) where
 
   pub sized-wrapped-no : outcomeNo (blockOf t at (sized t (wrapped t at base cap)) .outcome) ≡ cond (ltb maxText (length t)) 1 (wrappedNo reading t at base cap)
   sized-wrapped-no = by-size (wrapped t at base cap) wrapped-read-no
-
-  -- `measure_wrapped_at`: a block of one line is 5
-  pub unless-no : lengthNo (measured t at (unlessLine (found t at base cap)) .length) ≡ cond (eqb (linesOf (found t at base cap)) 1) 5 (foundNo measuring t at base cap)
-  unfolding measured numberOf
-  unless-no = go (eqb (linesOf (found t at base cap)) 1)
-    where
-      go : (b : Bool) → lengthNo (lengthOf (cond b (nothing NoReading) (found t at base cap))) ≡ cond b 5 (foundNo measuring t at base cap)
-      go true = refl
-      go false = measured-no
 
 -- `read_line`
 pub line-read-no : (t : List ℕ) (at : ℕ) → length t ≤ maxText → outcomeNo (lineRead t at .outcome) ≡ cond (opensAt t at) (reading t (frontOf t at .from) (frontOf t at .to)) 3

@@ -30,7 +30,7 @@ use Rattle.runs.proofs.Bounds.{run-by}
 use Rattle.fronts.specs.Fronts.{lineAt, frontOf, opensAt}
 use Rattle.fronts.specs.declared.Front.{Front}
 use Rattle.fronts.proofs.Trimmed.{front-slice}
-use Rattle.blocks.specs.Blocks.{Found, nothing, closedRun, ended, runFound, found, linesOf, unlessLine}
+use Rattle.blocks.specs.Blocks.{Found, nothing, closedRun, ended, runFound, found, linesOf}
 use Rattle.blocks.proofs.Finds.{found-run}
 
 -- ---- a good line ends in `}`
@@ -123,7 +123,7 @@ module _ (t : List ℕ) (at base cap : ℕ) where
           let z = run-first e .1 (ltb-false 1 (r .lines) x) in
           contra (endsInClose (r .text)) (rw (take-length (r .text)) at (good-ends (r .text) 0 (length (r .text)) g)) (rw z c)
 
-  run-more : endsInClose (trim (lineAt t at)) ≡ false → eqb (linesOf (runFound t at base cap)) 1 ≡ false
+  pub run-more : endsInClose (trim (lineAt t at)) ≡ false → eqb (linesOf (runFound t at base cap)) 1 ≡ false
   unfolding runFound
   run-more c = go (r .stop) refl
     where
@@ -134,9 +134,6 @@ module _ (t : List ℕ) (at base cap : ℕ) where
       go : (x : stops.Stop) → r .stop ≡ x → eqb (linesOf (ended r x)) 1 ≡ false
       go stop.Closed e = closed (goodLine (r .text) 0 (length (r .text))) refl e
       go (stop.Refused q) e = refl
-
-  pub run-stays : endsInClose (trim (lineAt t at)) ≡ false → unlessLine (runFound t at base cap) ≡ runFound t at base cap
-  run-stays c = rw (run-more c)
 
   -- the block of one line is the good line
   pub one-line : eqb (linesOf (found t at base cap)) 1 ≡ true → found t at base cap ≡ Found.line

@@ -2,10 +2,10 @@
 use Prim.Native.Nat.{ℕ}
 use mathlib.Core.Bool.{Bool, cond}
 use mathlib.Core.List.{List, []}
-use lib.Dec.{eqb, ltb}
+use lib.Dec.{ltb}
 use lib.ListN.{length}
 use Rattle.ascii.specs.declared.Mode.the-variants.{Loose}
-use Rattle.refusals.specs.Numbers.{maxText, numberOf}
+use Rattle.refusals.specs.Numbers.{maxText}
 use Rattle.refusals.specs.declared.Refusal.{Refusal}
 use Rattle.refusals.specs.declared.Refusal.the-variants.{TextTooLong, NothingThere, NoReading}
 use Rattle.lines.specs.Trim.{trim}
@@ -17,9 +17,6 @@ use Rattle.runs.specs.Runs.{Run, runAt, pastLines, over}
 use Rattle.runs.specs.declared.Stop as stops
 use Rattle.runs.specs.declared.Stop.the-variants as stop
 use Rattle.fronts.specs.Fronts.{lineAt, frontOf, opensAt}
-use Rattle.blocks.specs.declared.Length as lengths
-use Rattle.blocks.specs.declared.Length.the-variants as lengthIs
-use Rattle.blocks.specs.declared.Measure.{Measure}
 use Rattle.blocks.specs.declared.Block.{Block}
 
 -- ---- which lines a block takes
@@ -77,30 +74,6 @@ linesOf (Found.none q x n) = 0
 
 unfoldable pub joinHolds : List ℕ → Found → List ℕ
 joinHolds buf f = over (joinedIn f) buf
-
--- ---- measuring: "Measuring never gives 6 to 8"
-
-abbrev pub lengthOf : Found → lengths.Length
-lengthOf Found.line = lengthIs.Lines 1
-lengthOf (Found.run r) = lengthIs.Lines (r .lines)
-lengthOf (Found.none q x n) = lengthIs.Refused q
-
--- the number of an answer, 0 where a block is there, and its lines
-abbrev pub lengthNo : lengths.Length → ℕ
-lengthNo (lengthIs.Refused r) = numberOf r
-lengthNo (lengthIs.Lines n) = 0
-
-abbrev pub linesIn : lengths.Length → ℕ
-linesIn (lengthIs.Refused r) = 0
-linesIn (lengthIs.Lines n) = n
-
--- with the place behind the block
-unfoldable pub measured : List ℕ → ℕ → Found → Measure
-measured t at f = record { length = lengthOf f; lookahead = lookaheadOf f; joined = length (joinedIn f); next = pastLines (linesOf f) t at }
-
--- "`indented_wrapped_attrs_block_len` answers 5 for a block of one line."
-abbrev pub unlessLine : Found → Found
-unlessLine f = cond (eqb (linesOf f) 1) (nothing NoReading) f
 
 -- ---- reading: "A set has ranges of one text: the lent one or, for a wrapped run, the joined text"
 

@@ -9,22 +9,8 @@ ghost use Prim.Native.Nat.{_≤_};
 ghost use lib.ListN.{length};
 ghost use Rattle.refusals.specs.Numbers.{maxText};
 ghost use Rattle.fill.specs.Fill.{refusing};
-ghost use Rattle.blocks.specs.Blocks.{runFound, found, wrapped, unlessLine, joinHolds, measured, nothing, blockBy, unread, blockOf, sized, lineRead};
+ghost use Rattle.blocks.specs.Blocks.{runFound, found, wrapped, joinHolds, blockBy, unread, blockOf, sized};
 ghost use Rattle.blocks.specs.Steps.{isUnread};
-
-// How many lines a block has, or why none is there.
-pub enum Length {
-    Refused(Refusal),
-    Lines(usize),
-}
-
-// What measuring answers, with how many bytes were joined, and the place behind the block.
-pub struct Measure {
-    pub length: Length,
-    pub lookahead: usize,
-    pub joined: usize,
-    pub next: usize,
-}
 
 // What reading answers: a block that was joined has its set over the joined bytes, any other over the text.
 pub struct Block {
@@ -34,92 +20,6 @@ pub struct Block {
     pub lookahead: usize,
     pub joined: usize,
     pub next: usize,
-}
-
-// Nothing is there, and nothing was joined.
-pub fn no_measure(r: Refusal, text: &[u8], at: usize) -> Measure
-    ensures { λ m. ⌜ m ≡ measured (now (text .entry)) at (nothing r) ⌝ }
-{
-    Measure {
-        length: Length::Refused(r),
-        lookahead: 0,
-        joined: 0,
-        next: at,
-    }
-}
-
-// The run from the line at the place on.
-fn measure_run(text: &[u8], at: usize, base: usize, join: &mut [u8]) -> Measure
-    ensures { λ r. ⌜ r ≡ measured (now (text .entry)) at (runFound (now (text .entry)) at base (length (now (join .entry)))) ⌝ }
-    ensures { λ r. ⌜ now (join .exit) ≡ joinHolds (now (join .entry)) (runFound (now (text .entry)) at base (length (now (join .entry)))) ⌝ }
-{
-    let j = runs::join_run(text, at, base, join);
-    let stop = j.stop;
-    match stop {
-        Stop::Refused(r) => Measure {
-            length: Length::Refused(r),
-            lookahead: j.lookahead,
-            joined: j.len,
-            next: at,
-        },
-        Stop::Closed => {
-            if chain::good_line(&join[..j.len], 0, j.len) {
-                return Measure {
-                    length: Length::Lines(j.lines),
-                    lookahead: j.lookahead,
-                    joined: j.len,
-                    next: j.next,
-                };
-            }
-            Measure {
-                length: Length::Refused(Refusal::NoReading),
-                lookahead: j.lookahead,
-                joined: j.len,
-                next: at,
-            }
-        }
-    }
-}
-
-// The block at the place: one good line, or a run. The caller has checked the text.
-pub fn measure_at(text: &[u8], at: usize, base: usize, join: &mut [u8]) -> Measure
-    ensures { λ r. ⌜ r ≡ measured (now (text .entry)) at (found (now (text .entry)) at base (length (now (join .entry)))) ⌝ }
-    ensures { λ r. ⌜ now (join .exit) ≡ joinHolds (now (join .entry)) (found (now (text .entry)) at base (length (now (join .entry)))) ⌝ }
-{
-    let f = fronts::trimmed_line(text, at);
-    if !f.opens {
-        return no_measure(Refusal::NothingThere, text, at);
-    }
-    if chain::good_line(text, f.from, f.to) {
-        return Measure {
-            length: Length::Lines(1),
-            lookahead: 0,
-            joined: 0,
-            next: f.next,
-        };
-    }
-    if f.closes {
-        return no_measure(Refusal::NoReading, text, at);
-    }
-    measure_run(text, at, base, join)
-}
-
-// The block at the place, if it isn't one line. The caller has checked the text.
-pub fn measure_wrapped_at(text: &[u8], at: usize, join: &mut [u8]) -> Measure
-    ensures { λ r. ⌜ r ≡ measured (now (text .entry)) at (unlessLine (found (now (text .entry)) at 0 (length (now (join .entry))))) ⌝ }
-    ensures { λ r. ⌜ now (join .exit) ≡ joinHolds (now (join .entry)) (unlessLine (found (now (text .entry)) at 0 (length (now (join .entry))))) ⌝ }
-{
-    let f = fronts::trimmed_line(text, at);
-    if !f.opens {
-        return no_measure(Refusal::NothingThere, text, at);
-    }
-    if chain::good_line(text, f.from, f.to) {
-        return no_measure(Refusal::NoReading, text, at);
-    }
-    if f.closes {
-        return no_measure(Refusal::NoReading, text, at);
-    }
-    measure_run(text, at, 0, join)
 }
 
 // Why nothing is read, with what was joined by then.
@@ -213,15 +113,4 @@ pub fn wrapped_at(text: &[u8], at: usize, base: usize, join: &mut [u8]) -> Block
         return no_block(Refusal::NothingThere, 0, 0, at);
     }
     read_run(text, at, base, join)
-}
-
-// The line at the place alone, read.
-pub fn read_line(text: &[u8], at: usize) -> Filled
-    ensures { λ r. ⌜ r ≡ lineRead (now (text .entry)) at ⌝ }
-{
-    let f = fronts::trimmed_line(text, at);
-    if !f.opens {
-        return fill::refusing(Refusal::NothingThere);
-    }
-    fill::fill_chain(text, f.from, f.to)
 }

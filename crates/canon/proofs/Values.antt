@@ -12,37 +12,37 @@ use Rattle.ascii.specs.Bytes.{isPunct, isSpace, within}
 use Rattle.escapes.specs.Unescape.{unescapeFrom, unescape}
 use Rattle.grammar.specs.Grammar.{Inside}
 use Rattle.grammar.specs.Meaning.{flush, piecesFrom, orWhole, classesOf, isClass, valuesOf}
-use Rattle.canon.specs.Canon.{escape, isClassValue}
+use Rattle.canon.specs.Canon.{marked, escape, isClassValue}
 
 pub inside-escape : (v : List ℕ) → Inside 34 (escape v)
-unfolding escape isIn
+unfolding escape marked isIn
 inside-escape [] = Inside.end
 inside-escape (b ∷ v) = go (eqb b 34) (eqb b 92) refl refl (inside-escape v)
   where
-    go : (x y : Bool) → eqb b 34 ≡ x → eqb b 92 ≡ y → Inside 34 (escape v) → Inside 34 (cond (x || (y || false)) (92 ∷ (b ∷ escape v)) (b ∷ escape v))
+    go : (x y : Bool) → eqb b 34 ≡ x → eqb b 92 ≡ y → Inside 34 (escape v) → Inside 34 (cond (x || (y || false)) (92 ∷ (b ∷ [])) (b ∷ []) ++ escape v)
     go true y p q h = Inside.pair h
     go false true p q h = Inside.pair h
     go false false p q h = Inside.byte (eqb-false b 34 p) (eqb-false b 92 q) h
 
 pub unescape-escape : (v : List ℕ) → unescape (escape v) ≡ v
-unfolding escape isIn unescape unescapeFrom isPunct within
+unfolding escape marked isIn unescape unescapeFrom isPunct within
 unescape-escape [] = refl
 unescape-escape (b ∷ v) = go (eqb b 34) (eqb b 92) refl refl (unescape-escape v)
   where
-    go : (x y : Bool) → eqb b 34 ≡ x → eqb b 92 ≡ y → unescapeFrom false (escape v) ≡ v → unescapeFrom false (cond (x || (y || false)) (92 ∷ (b ∷ escape v)) (b ∷ escape v)) ≡ b ∷ v
+    go : (x y : Bool) → eqb b 34 ≡ x → eqb b 92 ≡ y → unescapeFrom false (escape v) ≡ v → unescapeFrom false (cond (x || (y || false)) (92 ∷ (b ∷ [])) (b ∷ []) ++ escape v) ≡ b ∷ v
     go true y p q h = rw (eqb-true b 34 p, h)
     go false true p q h = rw (eqb-true b 92 q, h)
     go false false p q h = rw (q, h)
 
 -- a test that a backslash passes
 pub all-escape : (f : ℕ → Bool) → f 92 ≡ true → (v : List ℕ) → all f v ≡ true → all f (escape v) ≡ true
-unfolding escape all
+unfolding escape marked all
 all-escape f w [] h = refl
 all-escape f w (b ∷ v) h =
     let g = both (f b) (all f v) h in
     go (isIn (34 ∷ 92 ∷ []) b) (g .0) (all-escape f w v (g .1))
   where
-    go : (x : Bool) → f b ≡ true → all f (escape v) ≡ true → all f (cond x (92 ∷ (b ∷ escape v)) (b ∷ escape v)) ≡ true
+    go : (x : Bool) → f b ≡ true → all f (escape v) ≡ true → all f (cond x (92 ∷ (b ∷ [])) (b ∷ []) ++ escape v) ≡ true
     go true p h = rw (w, p) h
     go false p h = rw p h
 

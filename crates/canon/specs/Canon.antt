@@ -48,9 +48,12 @@ readAt m s i = cond (eqb (getD s i 0) 123) (readTo m s (suc i) (findClose s (suc
 -- ---- canonical text
 
 -- "with a backslash before `"` and `\` only"
+unfoldable pub marked : ℕ → List ℕ
+marked b = cond (isIn (34 ∷ 92 ∷ []) b) (92 ∷ (b ∷ [])) (b ∷ [])
+
 unfoldable pub escape : List ℕ → List ℕ
 escape [] = []
-escape (b ∷ s) = cond (isIn (34 ∷ 92 ∷ []) b) (92 ∷ (b ∷ escape s)) (b ∷ escape s)
+escape (b ∷ s) = marked b ++ escape s
 
 pub record Pair : Type 0 where
   pub name : List ℕ

@@ -105,7 +105,7 @@ fn edge_turn(c: u8) -> Turn
         b' ' | b'\t' | b'\r' => Turn::On(Walk::Edge),
         b'#' | b'.' => Turn::On(Walk::Sigil),
         _ => {
-            if ascii::is_attr_ident_start(c) {
+            if letters::is_attr_ident_start(c) {
                 return Turn::On(Walk::Word);
             }
             Turn::Refuse
@@ -117,7 +117,7 @@ fn edge_turn(c: u8) -> Turn
 fn word_turn(c: u8) -> Turn
     ensures { λ r. ⌜ Leads r (λ rest. quickStep (walkOf Walk.Word) c rest) ⌝ }
 {
-    if ascii::is_attr_ident_part(c) {
+    if letters::is_attr_ident_part(c) {
         return Turn::On(Walk::Word);
     }
     if c == b'=' {
@@ -144,13 +144,13 @@ fn turn_by(w: Walk, c: u8) -> Turn
         Walk::Edge => edge_turn(c),
         Walk::Word => word_turn(c),
         Walk::Sigil => {
-            if ascii::is_css_ident_start(c) {
+            if letters::is_css_ident_start(c) {
                 return Turn::On(Walk::Ident);
             }
             Turn::Refuse
         }
         Walk::Ident => {
-            if ascii::is_attr_ident_part(c) {
+            if letters::is_attr_ident_part(c) {
                 return Turn::On(Walk::Ident);
             }
             edge_turn(c)

@@ -26,7 +26,7 @@ use Rattle.checks.proofs.Texts.{passed}
 use Rattle.names.specs.Names.{isKey}
 use Rattle.grammar.specs.Close.{noLf}
 use Rattle.grammar.specs.Meaning.{Entry, isClass, absent, distinct}
-use Rattle.canon.specs.Canon.{escape, moreText, pairsText, pairsOf, pairs, canon, valuesOk, entryOk, entriesOk, wf}
+use Rattle.canon.specs.Canon.{marked, escape, moreText, pairsText, pairsOf, pairs, canon, valuesOk, entryOk, entriesOk, wf}
 use Rattle.canon.proofs.Back.{back, same-text, same-meaning}
 use Rattle.sets.specs.Types.{one, maxClasses, maxKeys, maxSlots}
 use Rattle.sets.specs.Rows.{rowsIn, meaningOf}
@@ -204,7 +204,7 @@ abbrev bare : ℕ → List Entry
 bare b = record { name = b ∷ []; values = [] ∷ [] } ∷ []
 
 bare-may : (x : Bool) → May (bare (cond x 97 98))
-unfolding wf entriesOk entryOk all valuesOk isClass same isKey headed isKeyStart isNamePart isAlnum isLetter isDigit within noLf distinct absent canon pairs pairsOf pairsText moreText escape classCount keyCount isFree
+unfolding wf entriesOk entryOk all valuesOk isClass same isKey headed isKeyStart isNamePart isAlnum isLetter isDigit within noLf distinct absent canon pairs pairsOf pairsText moreText marked escape classCount keyCount isFree
 bare-may true = record { well = refl; some = λ q. contra true refl (cc); short = omega arith; utf8 = ascii (canon (bare 97)) refl; classes = omega arith; keys = omega arith }
 bare-may false = record { well = refl; some = λ q. contra true refl (cc); short = omega arith; utf8 = ascii (canon (bare 98)) refl; classes = omega arith; keys = omega arith }
 

@@ -1,5 +1,4 @@
 -- The laws about the entries by line number that later crates cite.
 pub mod Starts
-pub mod Fair
 pub mod SetsOk
 pub mod Numbers

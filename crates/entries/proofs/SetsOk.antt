@@ -22,10 +22,12 @@ use Rattle.wellformed.specs.WellFormed.{wellFormed}
 use Rattle.reader.proofs.HandedOut.{text-utf8}
 use Rattle.runs.specs.Runs as runs
 use Rattle.runs.proofs.Texts.{past-well}
-use Rattle.entries.specs.declared.Start as starts
-use Rattle.entries.specs.declared.Start.the-variants as start
+use Rattle.starts.specs.declared.Start as starts
+use Rattle.starts.specs.declared.Start.the-variants as start
+use Rattle.starts.specs.Starts.{begun, startAt, onStart, placeOf}
 use Rattle.blocks.specs.Blocks.{Found, nothing, found, wrapped, textIn, blockOf, lineRead}
-use Rattle.entries.specs.Entries.{begun, startAt, onStart, placeOf, parseStandalone, blockFound, wrappedFound}
+use Rattle.entries.specs.Entries.{parseStandalone}
+use Rattle.blocks.specs.ByLine.{blockFound, wrappedFound}
 use Rattle.blocks.proofs.SetsOk.{Ok, empty-fits, none-ok, found-ok, wrapped-ok, line-read-ok}
 
 -- ---- where a line of a UTF-8 text begins, the rest is UTF-8

@@ -9,8 +9,8 @@ use native.Mathlib.Numerals.{add-one}
 use native.Mathlib.Omega.{arith}
 use borrow.Author.Tests.{ne-eqb, lt-ltb, le-ltb, leb-true, leb-false, ltb-false}
 use lib.Dec.{eqb, ltb, leb}
-use lib.ListN.{length, getD, drop, set, length-set, drop-of-length-le}
-use lib.Seq.{drop-cons, sets, length-sets}
+use lib.ListN.{length, set, length-set}
+use lib.Seq.{sets, length-sets}
 use Rattle.lists.specs.Lists.{isIn}
 use Rattle.lines.specs.Trim.{trim, isBlankLine}
 pub use Rattle.lines.proofs.Trim.{core-from, core-to, core-is}
@@ -86,49 +86,18 @@ module _ (cap len : ℕ) (core : List ℕ) where
 
 -- ---- writing
 
--- the loop of `put` stands before byte i of s, which goes to place n of the buffer
-pub record Puts (buf₀ : List ℕ) (k : ℕ) (s buf : List ℕ) (n i : ℕ) : Type 0 where
-  pub long : length buf ≡ length buf₀
-  pub room : k + length s ≤ length buf₀
-  pub place : n ≡ k + i
-  pub within : i ≤ length s
-  pub rest : sets buf n (drop i s) ≡ sets buf₀ k s
-
-pub puts-start : (buf : List ℕ) (k : ℕ) (s : List ℕ) → k + length s ≤ length buf → Puts buf k s buf k 0
-puts-start buf k s h = record { long = refl; room = h; place = omega arith; within = omega arith; rest = refl }
-
-module _ {buf₀ : List ℕ} {k : ℕ} {s buf : List ℕ} {n i : ℕ} (inv : Puts buf₀ k s buf n i) where
-  pub puts-room : i < length s → n < length buf
-  puts-room h = omega (arith, inv .long, inv .room, inv .place)
-
-  pub puts-go : i < length s → Puts buf₀ k s (set buf n (getD s i 0)) (n + 1) (i + 1)
-  puts-go h =
-      record {
-        long = length-set buf n (getD s i 0) ∙ inv .long;
-        room = inv .room;
-        place = omega (arith, inv .place);
-        within = omega arith;
-        rest = rw (add-one n, add-one i) (rw (drop-cons s i 0 h) at (inv .rest));
-      }
-
-  pub puts-end : length s ≤ i → (n ≡ k + length s) × (buf ≡ sets buf₀ k s)
-  puts-end h = (omega (arith, inv .place, inv .within), rw (drop-of-length-le s h) at (inv .rest))
-
 module _ (buf : List ℕ) (len : ℕ) (core : List ℕ) where
   abbrev Put : ℕ → List ℕ → Type 0
   Put r b = (r ≡ len + length (spaced (eqb len 0) core)) × (b ≡ sets buf len (spaced (eqb len 0) core))
 
-  pub room-first : len ≡ 0 → len + length (spaced (eqb len 0) core) ≤ length buf → 0 + length core ≤ length buf
-  room-first e h = rw e at h
+  pub put-first : {b : List ℕ} → len ≡ 0 → b ≡ sets buf 0 core → Put (length core) b
+  put-first e p = rw e (sym (zero-add (length core)), p)
 
-  pub put-first : {r : ℕ} {b : List ℕ} → len ≡ 0 → (r ≡ 0 + length core) × (b ≡ sets buf 0 core) → Put r b
-  put-first e p = rw e p
+  pub room-later : (len ≡ 0 → ⊥) → len + length (spaced (eqb len 0) core) ≤ length buf → len + 1 + length core ≤ length buf
+  room-later n h = omega (arith, rw (ne-eqb len 0 n) at h)
 
-  pub room-later : (len ≡ 0 → ⊥) → len + length (spaced (eqb len 0) core) ≤ length buf → (len + 1) + length core ≤ length (set buf len 32)
-  room-later n h = omega (arith, rw (ne-eqb len 0 n) at h, length-set buf len 32)
-
-  pub put-later : {r : ℕ} {b : List ℕ} → (len ≡ 0 → ⊥) → (r ≡ (len + 1) + length core) × (b ≡ sets (set buf len 32) (len + 1) core) → Put r b
-  put-later n p = (rw (ne-eqb len 0 n) (omega (arith, p .0)), rw (ne-eqb len 0 n) (rw (add-one len) at (p .1)))
+  pub put-later : {b : List ℕ} → (len ≡ 0 → ⊥) → b ≡ sets (set buf len 32) (len + 1) core → Put (len + 1 + length core) b
+  put-later n p = (rw (ne-eqb len 0 n) (omega arith), rw (ne-eqb len 0 n) (rw (add-one len) at p))
 
   pub same-length : {b : List ℕ} → b ≡ sets (set buf len 32) (len + 1) core → length b ≡ length buf
   same-length p = rw p (length-sets (set buf len 32) (len + 1) core ∙ length-set buf len 32)

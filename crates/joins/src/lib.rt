@@ -89,22 +89,6 @@ fn lacks_room(cap: usize, len: usize, core: &[u8]) -> bool
     cap - len <= core.len()
 }
 
-// Writes s from k on, and says where it ends.
-fn put(join: &mut [u8], k: usize, s: &[u8]) -> usize
-    requires { ⌜ k + length (now s) ≤ length (now join) ⌝ }
-    ensures { λ r. ⌜ r ≡ k + length (now (s .entry)) ⌝ }
-    ensures { λ r. ⌜ now (join .exit) ≡ sets (now (join .entry)) k (now (s .entry)) ⌝ }
-{
-    let mut n = k;
-    let mut i = 0;
-    while i < s.len() {
-        join[n] = s[i];
-        n += 1;
-        i += 1;
-    }
-    n
-}
-
 // Writes the trimmed bytes behind `len` bytes, with the space before them, and says where they end.
 fn put_line(join: &mut [u8], len: usize, core: &[u8]) -> usize
     requires { ⌜ len + length (spaced (eqb len 0) (now core)) ≤ length (now join) ⌝ }
@@ -112,10 +96,12 @@ fn put_line(join: &mut [u8], len: usize, core: &[u8]) -> usize
     ensures { λ r. ⌜ now (join .exit) ≡ sets (now (join .entry)) len (spaced (eqb len 0) (now (core .entry))) ⌝ }
 {
     if len == 0 {
-        return put(join, 0, core);
+        lists::put_bytes(join, 0, core);
+        return core.len();
     }
     join[len] = b' ';
-    put(join, len + 1, core)
+    lists::put_bytes(join, len + 1, core);
+    len + 1 + core.len()
 }
 
 // The scan for an open block goes on over the trimmed bytes and the space before them.

@@ -5,3 +5,4 @@ pub mod Scan
 pub mod Same
 pub mod Parts
 pub mod More
+pub mod Sets

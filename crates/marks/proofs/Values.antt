@@ -17,13 +17,13 @@ use Rattle.escapes.specs.declared.Piece.{Piece}
 use Rattle.escapes.specs.declared.Piece.the-variants.{End, Byte}
 use Rattle.escapes.specs.Unescape.{unescape}
 use Rattle.escapes.proofs.Pieces.{byte-at, end-at, unescape-le}
-use Rattle.canon.specs.Canon.{escape}
+use Rattle.canon.specs.Canon.{marked, escape}
 use Rattle.refusals.specs.Numbers.{maxText}
 use Rattle.sets.specs.Types.{Texts, rangeBytes, textBytes, valueBytes}
 use Rattle.sets.specs.declared.Value.{Value}
 use Rattle.sets.specs.declared.Text.{Text}
 use Rattle.sets.specs.declared.Text.the-variants.{Plain, Quoted, Empty}
-use Rattle.marks.specs.Marks.{rawText, rawBytes, isQuotedText, isQuoted, bytesIn, pieceIn, marked}
+use Rattle.marks.specs.Marks.{rawText, rawBytes, isQuotedText, isQuoted, bytesIn, pieceIn}
 
 -- ---- backslashes
 
@@ -44,12 +44,8 @@ marked-short b = go (isIn (34 ∷ 92 ∷ []) b)
     go false = omega arith
 
 escape-cons : (b : ℕ) (s : List ℕ) → escape (b ∷ s) ≡ marked b ++ escape s
-unfolding escape marked
-escape-cons b s = go (isIn (34 ∷ 92 ∷ []) b)
-  where
-    go : (x : Bool) → cond x (92 ∷ (b ∷ escape s)) (b ∷ escape s) ≡ cond x (92 ∷ (b ∷ [])) (b ∷ []) ++ escape s
-    go true = refl
-    go false = refl
+unfolding escape
+escape-cons b s = refl
 
 pub escape-short : (s : List ℕ) → length (escape s) ≤ length s + length s
 unfolding escape

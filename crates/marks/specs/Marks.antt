@@ -1,10 +1,9 @@
--- A value byte by byte: its raw text, what that stands for, and the backslashes of the canonical text. No definition of the writer's own promises rests on these.
+-- A value byte by byte: its raw text, and what that stands for. No definition of the writer's own promises rests on these.
 use Prim.Native.Nat.{ℕ, _+_}
 use mathlib.Core.Bool.{Bool, true, false, cond}
-use mathlib.Core.List.{List, [], _∷_}
+use mathlib.Core.List.{List, []}
 use lib.Dec.{leb}
 use lib.ListN.{length, getD}
-use Rattle.lists.specs.Lists.{isIn}
 use Rattle.escapes.specs.Unescape.{unescape, pieceAt}
 use Rattle.escapes.specs.declared.Piece.{Piece}
 use Rattle.escapes.specs.declared.Piece.the-variants.{End, Byte}
@@ -37,7 +36,3 @@ bytesIn quoted s = cond quoted (unescape s) s
 -- its byte at i, and where the next one stands
 unfoldable pub pieceIn : Bool → List ℕ → ℕ → Piece
 pieceIn quoted s i = cond quoted (pieceAt s i) (cond (leb (length s) i) End (Byte (getD s i 0) (i + 1)))
-
--- a byte with its backslash
-unfoldable pub marked : ℕ → List ℕ
-marked b = cond (isIn (34 ∷ 92 ∷ []) b) (92 ∷ (b ∷ [])) (b ∷ [])

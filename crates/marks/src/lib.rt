@@ -8,9 +8,9 @@ ghost use Prim.Native.Nat.{_≤_};
 ghost use lib.ListN.{length};
 ghost use Rattle.lists.specs.Lists.{isIn};
 ghost use Rattle.refusals.specs.Numbers.{maxText};
-ghost use Rattle.canon.specs.Canon.{escape};
+ghost use Rattle.canon.specs.Canon.{marked, escape};
 ghost use Rattle.sets.specs.Types.{one};
-ghost use Rattle.marks.specs.Marks.{bytesIn, pieceIn, marked, rawBytes, isQuoted};
+ghost use Rattle.marks.specs.Marks.{bytesIn, pieceIn, rawBytes, isQuoted};
 
 // Whether a byte takes a backslash.
 pub fn is_marked(b: u8) -> bool

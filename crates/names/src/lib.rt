@@ -11,7 +11,7 @@ fn all_parts(s: &[u8]) -> bool
 {
     let mut i = 0;
     while i < s.len() {
-        if !ascii::is_attr_ident_part(s[i]) {
+        if !letters::is_attr_ident_part(s[i]) {
             return false;
         }
         i += 1;
@@ -26,7 +26,7 @@ pub fn is_css_identifier(s: &[u8]) -> bool
     if s.len() == 0 {
         return false;
     }
-    if !ascii::is_css_ident_start(s[0]) {
+    if !letters::is_css_ident_start(s[0]) {
         return false;
     }
     all_parts(&s[1..])
@@ -39,7 +39,7 @@ pub fn is_identifier(s: &[u8]) -> bool
     if s.len() == 0 {
         return false;
     }
-    if !ascii::is_attr_ident_start(s[0]) {
+    if !letters::is_attr_ident_start(s[0]) {
         return false;
     }
     all_parts(&s[1..])
@@ -52,7 +52,7 @@ pub fn is_boolean_attr_name(s: &[u8]) -> bool
     if s.len() == 0 {
         return false;
     }
-    if !ascii::is_letter(s[0]) {
+    if !letters::is_letter(s[0]) {
         return false;
     }
     all_parts(&s[1..])
@@ -64,7 +64,7 @@ fn subtag_len(s: &[u8]) -> usize
 {
     let mut i = 0;
     while i < s.len() {
-        if !ascii::is_alnum(s[i]) {
+        if !letters::is_alnum(s[i]) {
             return i;
         }
         i += 1;
@@ -109,7 +109,7 @@ fn is_long_tag(s: &[u8]) -> bool
     let mut k = 0;
     let mut i = 0;
     while i < s.len() {
-        if ascii::is_alnum(s[i]) {
+        if letters::is_alnum(s[i]) {
             k += 1;
             i += 1;
             continue;

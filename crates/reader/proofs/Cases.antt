@@ -13,7 +13,7 @@ use Rattle.grammar.specs.Grammar.{isValue}
 use Rattle.grammar.specs.Read.{ends, finish, shutOf, valueToken, afterName, tokenOf, text, readFrom, readPayload}
 use Rattle.grammar.specs.Meaning.{rangesFrom}
 use Rattle.grammar.specs.Close.{turned, stepOf, closeFrom, findClose}
-use Rattle.canon.specs.Canon.{escape, moreText, pairsText, pairsOf, pairs, canon}
+use Rattle.canon.specs.Canon.{marked, escape, moreText, pairsText, pairsOf, pairs, canon}
 use Rattle.canon.proofs.Cases.{cases, readings}
 use Rattle.sets.specs.Types.{rangeBytes, nameBytes, valueBytes}
 use Rattle.sets.specs.Rows.{hasKey, putRow, withPut, withPuts, slotEntry, meant, padded, tableOf, rowsIn, meaningOf}
@@ -23,5 +23,5 @@ use Rattle.reader.specs.Brace.{opensAt, finished, atBrace, readAttrsAt}
 use Rattle.reader.proofs.Agrees.{seen}
 
 pub twelve : readings (λ t. seen t (readAttrsAt Strict t 0)) cases ≡ cases
-unfolding all headed run isIn same within isLetter isDigit isAlnum isNameStart isNamePart isKeyStart isBlank isQuote isPlain isPunct isSpace isUtf8 octetsFrom leadOf afterOf numberOf isName isKey isBareName isSize tagFrom isTag isLanguage unescapeFrom unescape isValue ends finish shutOf valueToken afterName tokenOf text readFrom readPayload rangesFrom turned stepOf closeFrom findClose escape moreText pairsText pairsOf pairs canon rangeBytes nameBytes valueBytes hasKey putRow withPut withPuts slotEntry meant padded tableOf rowsIn meaningOf byName valued putsOf putsIn limited filledOf opensAt finished atBrace readAttrsAt
+unfolding all headed run isIn same within isLetter isDigit isAlnum isNameStart isNamePart isKeyStart isBlank isQuote isPlain isPunct isSpace isUtf8 octetsFrom leadOf afterOf numberOf isName isKey isBareName isSize tagFrom isTag isLanguage unescapeFrom unescape isValue ends finish shutOf valueToken afterName tokenOf text readFrom readPayload rangesFrom turned stepOf closeFrom findClose marked escape moreText pairsText pairsOf pairs canon rangeBytes nameBytes valueBytes hasKey putRow withPut withPuts slotEntry meant padded tableOf rowsIn meaningOf byName valued putsOf putsIn limited filledOf opensAt finished atBrace readAttrsAt
 twelve = refl

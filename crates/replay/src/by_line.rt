@@ -8,10 +8,10 @@ use crate::refusing;
 use crate::reply;
 use crate::reply::Reply;
 use blocks::Block;
-use blocks::Length;
-use blocks::Measure;
 use fill::Filled;
 use fill::Outcome;
+use lengths::Length;
+use lengths::Measure;
 
 // What only measures, and refused runs, by the number of the word in the list of `ask`.
 pub(crate) fn answer(q: Ask, text: &[u8], join: &mut [u8]) -> Reply {
@@ -27,9 +27,9 @@ pub(crate) fn answer(q: Ask, text: &[u8], join: &mut [u8]) -> Reply {
 fn measure(q: Ask, text: &[u8], join: &mut [u8]) -> Measure {
     let word = q.word;
     match word {
-        4 => entries::standalone_attrs_block_len(text, q.x, join),
-        5 => entries::indented_wrapped_attrs_block_len(text, q.x, join),
-        _ => entries::attrs_block_len_at(text, q.y, q.x, join),
+        4 => lengths::standalone_attrs_block_len(text, q.x, join),
+        5 => lengths::indented_wrapped_attrs_block_len(text, q.x, join),
+        _ => lengths::attrs_block_len_at(text, q.y, q.x, join),
     }
 }
 

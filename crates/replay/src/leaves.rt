@@ -109,12 +109,12 @@ fn classes(n: usize, b: &mut [u8]) -> Reply {
 
 fn classes_of_names(byte: u8) -> [u8; 6] {
     [
-        mark(ascii::is_letter(byte)),
-        mark(ascii::is_digit(byte)),
-        mark(ascii::is_alnum(byte)),
-        mark(ascii::is_css_ident_start(byte)),
-        mark(ascii::is_attr_ident_start(byte)),
-        mark(ascii::is_attr_ident_part(byte)),
+        mark(letters::is_letter(byte)),
+        mark(letters::is_digit(byte)),
+        mark(letters::is_alnum(byte)),
+        mark(letters::is_css_ident_start(byte)),
+        mark(letters::is_attr_ident_start(byte)),
+        mark(letters::is_attr_ident_part(byte)),
     ]
 }
 

@@ -19,7 +19,7 @@ use Rattle.lines.specs.Lines.{lineFrom}
 use Rattle.lines.proofs.Lines.{next-beyond}
 use Rattle.runs.specs.Runs.{over, pastLines}
 use Rattle.blocks.specs.Blocks.{Found, linesOf}
-use Rattle.entries.specs.Entries.{flushLeft}
+use Rattle.lengths.specs.Lengths.{flushLeft}
 use Rattle.sheets.specs.Sheets.{Try, triesAt, isBlock, onlyBlocks}
 use Rattle.sheets.proofs.Tries.{some-lines, tries-end, try, tries-on, tries-past}
 use Rattle.sheets.proofs.Goes.{block-bytes}

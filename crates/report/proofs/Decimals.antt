@@ -56,7 +56,7 @@ places-le n m h l = below n (places n) m (fewest n) h l
 
 -- ---- their length
 
-length-digits : (k n : ℕ) → length (digits 10 k n) ≡ k
+pub length-digits : (k n : ℕ) → length (digits 10 k n) ≡ k
 length-digits zero n = refl
 length-digits (suc k) n = length-append (digits 10 k (n / 10)) (glyph (n % 10) ∷ []) ∙ omega (arith, length-digits k (n / 10))
 

@@ -8,7 +8,7 @@ use native.Mathlib.Numerals.{add-one}
 use native.Mathlib.Omega.{arith}
 use borrow.Author.Tests.{le-leb, leb-true, leb-false, le-ltb, lt-ltb, ltb-false}
 use lib.Dec.{leb, ltb}
-use lib.ListN.{length, take, drop, set, length-append, length-set, length-drop, drop-of-length-le}
+use lib.ListN.{length, take, drop, set, length-append, length-drop, drop-of-length-le}
 use lib.Seq.{sets, length-sets, sets-eq, take-all, drop-drop, take-set-le, drop-set-lt}
 use borrow.Rule.Slice.PartMut.{putMid, postOf, put-same}
 use Rattle.io.specs.Digits.{digits, Fewest}
@@ -25,14 +25,17 @@ use Rattle.writer.specs.declared.Wrote.{Wrote}
 use Rattle.writer.specs.declared.Wrote.the-variants.{Refused, Bytes}
 use Rattle.writer.specs.Write.{hasRoom, wroteOf, contentAfter}
 use Rattle.writer.specs.Steps.{put, wroteTo}
-use Rattle.writer.proofs.Fills.{sets-append}
+use Rattle.lists.proofs.Sets.{sets-append}
 use Rattle.report.specs.Decimal.{decimal}
 use Rattle.report.specs.Report.{blockWord, refusedWord, reportLine, refusedLine, canonLine, lineBy}
 use Rattle.report.specs.Parts.{maxLine}
 use Rattle.report.specs.Steps.{Put, front, putShort}
-use Rattle.report.proofs.Decimals.{decimal-le, decimal-is}
+use Rattle.report.proofs.Decimals.{decimal-le, decimal-is, length-digits}
 
 -- ---- one part behind the other
+
+pub put-is : (buf : List ℕ) (at : ℕ) (xs : List ℕ) {b : List ℕ} → b ≡ sets buf at xs → Put buf at xs (at + length xs) b
+put-is buf at xs e = record { behind = refl; content = e }
 
 module _ {buf : List ℕ} {at : ℕ} {xs : List ℕ} {r : ℕ} {b : List ℕ} (p : Put buf at xs r b) where
   pub put-then : {ys : List ℕ} {r′ : ℕ} {b′ : List ℕ} → Put b r ys r′ b′ → Put buf at (xs ++ ys) r′ b′
@@ -54,11 +57,14 @@ module _ (buf : List ℕ) (at n : ℕ) {s : List ℕ} {k : ℕ} (f : Fewest 10 1
   is : s ≡ decimal n
   is = e ∙ decimal-is n k f
 
-  pub field-room : at + suc (length (decimal n)) ≤ length buf → at + 1 + length s ≤ length (set buf at 9)
-  field-room h = rw (is, length-set) (omega arith)
+  long : k ≡ length (decimal n)
+  long = sym (length-digits k n) ∙ ap length (sym e ∙ is)
 
-  pub field-put : {r : ℕ} {b : List ℕ} → Put (set buf at 9) (at + 1) s r b → Put buf at (9 ∷ decimal n) r b
-  field-put p = record { behind = rw is at (p .behind) ∙ omega arith; content = rw (is, add-one) at (p .content) }
+  pub field-room : at + suc (length (decimal n)) ≤ length buf → at + 1 + k ≤ length buf
+  field-room h = omega (arith, long)
+
+  pub field-put : {b : List ℕ} → b ≡ sets (set buf at 9) (at + 1) s → Put buf at (9 ∷ decimal n) (at + 1 + k) b
+  field-put p = record { behind = omega (arith, long); content = rw (is, add-one) at p }
 
 -- ---- the lengths
 

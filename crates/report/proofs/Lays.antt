@@ -6,16 +6,16 @@ use mathlib.Core.List.{List, [], _∷_, _++_, append-assoc, append-nil}
 use Prim.Native.Nat.{ℕ, _+_, _-_, _≤_, _<_}
 use native.Mathlib.Nat.{sub-zero}
 use native.Mathlib.Omega.{arith}
-use borrow.Author.Tests.{le-ltb, lt-ltb, ne-eqb}
+use borrow.Author.Tests.{le-ltb, lt-ltb}
 use lib.Dec.{eqb, eqb·suc-zero}
-use lib.ListN.{length, take, drop, length-append, length-take}
+use lib.ListN.{length, take, drop, length-append}
 use lib.Seq.{take-append-seam}
 use Rattle.lists.proofs.More.{contra}
 use Rattle.refusals.specs.Numbers.{maxText}
 use Rattle.chain.specs.Chain.{readBlocks, blocksFrom, goodLine}
 use Rattle.refusals.specs.declared.Refusal.{Refusal}
 use Rattle.canon.specs.Canon.{canon}
-use Rattle.sets.specs.Types.{one}
+use Rattle.sets.specs.Types.{one, textOver}
 use Rattle.sets.specs.Rows.{meaningOf}
 use Rattle.sets.specs.declared.Attrs.{Attrs}
 use Rattle.fill.specs.declared.Outcome as outcomes
@@ -23,7 +23,7 @@ use Rattle.fill.specs.declared.Outcome.the-variants as outcome
 use Rattle.runs.specs.Runs.{over}
 use Rattle.runs.proofs.Joining.{over-long, over-sets}
 use Rattle.blocks.specs.Blocks.{Found, joinedIn, textIn, joinHolds, blockOf}
-use Rattle.entries.specs.Entries.{flushLeft}
+use Rattle.lengths.specs.Lengths.{flushLeft}
 use Rattle.sheets.specs.declared.Next.{Next}
 use Rattle.sheets.specs.Sheets.{Try, triesAt, isBlock, onlyBlocks, joinBehind, upToBlock, nextOf, nextTries}
 use Rattle.sheets.proofs.Tries.{found-by, run-found-by, flush-by, tries-end, try, tries-on, tries-past}
@@ -34,7 +34,7 @@ use Rattle.report.specs.declared.Told.the-variants.{More, Done}
 use Rattle.report.specs.declared.Part.{Part}
 use Rattle.report.specs.Report.{refusedLine, canonLine, lineBy, blockLine}
 use Rattle.report.specs.Parts.{maxLine, Laid, ended, stopped, behind, tryLine, layFrom, shown}
-use Rattle.report.specs.Steps.{Put, textOf}
+use Rattle.report.specs.Steps.{Put}
 use Rattle.report.proofs.Laying.{line-le}
 
 -- ---- tries gone past, where the longest line has room
@@ -116,16 +116,11 @@ joined-text t cap at =
 -- ---- the line of a block, by its outcome and by the text that its set is over
 
 module _ (n k : ℕ) (t join : List ℕ) (joined : ℕ) (a : Attrs) {o : outcomes.Outcome} {at end : ℕ} {out out′ : List ℕ} where
-  pub of-refused : {why : Refusal} → o ≡ outcome.Refused why → Put out at (refusedLine n k why) end out′ → Put out at (lineBy n k (textOf t join joined) a o) end out′
+  pub of-refused : {why : Refusal} → o ≡ outcome.Refused why → Put out at (refusedLine n k why) end out′ → Put out at (lineBy n k (textOver t join joined) a o) end out′
   of-refused e p = rw e p
 
-  pub over-text : o ≡ outcome.Done → joined ≡ 0 → Put out at (canonLine n k (canon (meaningOf (one t) a))) end out′ → Put out at (lineBy n k (textOf t join joined) a o) end out′
-  unfolding textOf
-  over-text e z p = rw (e, z) p
-
-  pub over-joined : o ≡ outcome.Done → (joined ≡ 0 → ⊥) → Put out at (canonLine n k (canon (meaningOf (one (take joined join)) a))) end out′ → Put out at (lineBy n k (textOf t join joined) a o) end out′
-  unfolding textOf
-  over-joined e z p = rw (e, ne-eqb joined 0 z) p
+  pub of-done : {w : List ℕ} → o ≡ outcome.Done → w ≡ textOver t join joined → Put out at (canonLine n k (canon (meaningOf (one w) a))) end out′ → Put out at (lineBy n k (textOver t join joined) a o) end out′
+  of-done e f p = rw (e, ← f) p
 
 -- ---- the loop
 
@@ -233,23 +228,19 @@ module _ {t join₀ out₀ : List ℕ} {R : Laid} {join out : List ℕ} {at line
         front : take (length (joinedIn f)) join′ ≡ joinedIn f
         front = rw joined-so (upto-front join (triesAt t (length join₀) line at) (goes .blocks line))
 
-        pub joined-le : r .block .joined ≤ length join′
-        unfolding blockOf
-        joined-le = rw (goes .read) (omega (arith, length-take (length (joinedIn f)) join′, ap length front))
-
-        text-is : textOf t join′ (length (joinedIn f)) ≡ textIn t f
-        unfolding textOf
+        text-is : textOver t join′ (length (joinedIn f)) ≡ textIn t f
+        unfolding textOver
         text-is = rw front (joined-text t (length join₀) (r .at) (goes .is))
 
         abbrev L : List ℕ
         L = blockLine t here
 
-        line-is : lineBy (line + r .skipped) (r .block .lines) (textOf t join′ (r .block .joined)) (r .block .set) (r .block .outcome) ≡ L
+        line-is : lineBy (line + r .skipped) (r .block .lines) (textOver t join′ (r .block .joined)) (r .block .set) (r .block .outcome) ≡ L
         unfolding blockLine blockOf
         line-is = rw (goes .read, text-is)
 
         pub lays-go : {k′ : ℕ} {out′ : List ℕ}
-            → Put out k (lineBy (line + r .skipped) (r .block .lines) (textOf t join′ (r .block .joined)) (r .block .set) (r .block .outcome)) k′ out′
+            → Put out k (lineBy (line + r .skipped) (r .block .lines) (textOver t join′ (r .block .joined)) (r .block .set) (r .block .outcome)) k′ out′
             → Lays t join₀ out₀ R join′ out′ (r .block .next) (line + r .skipped + r .block .lines) k′
         lays-go {k′} {out′} p =
             record {
@@ -268,7 +259,7 @@ module _ {t join₀ out₀ : List ℕ} {R : Laid} {join out : List ℕ} {at line
             }
           where
             short : length L ≤ maxLine
-            short = rw line-is at (line-le (line + r .skipped) (r .block .lines) (textOf t join′ (r .block .joined)) (r .block .set) (r .block .outcome) (omega (arith, sum-le, next-within, inv .fits)) (omega (arith, sum-le, next-within, inv .fits)))
+            short = rw line-is at (line-le (line + r .skipped) (r .block .lines) (textOver t join′ (r .block .joined)) (r .block .set) (r .block .outcome) (omega (arith, sum-le, next-within, inv .fits)) (omega (arith, sum-le, next-within, inv .fits)))
 
             ends : k′ ≡ k + length L
             ends = rw line-is at (p .behind)

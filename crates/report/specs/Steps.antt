@@ -1,18 +1,13 @@
 -- The parts of a line, as the code's own functions promise them. No definition of a public promise rests on these.
 use Prim.Native.Nat.{ℕ, _+_}
 use mathlib.Core.Path.{_≡_}
-use mathlib.Core.Bool.{cond}
 use mathlib.Core.List.{List, _∷_, _++_}
-use lib.Dec.{eqb, leb}
-use lib.ListN.{length, take}
+use lib.Dec.{leb}
+use lib.ListN.{length}
 use lib.Seq.{sets}
 use Rattle.refusals.specs.Numbers.{maxText}
 use Rattle.writer.specs.Steps.{put}
 use Rattle.report.specs.Decimal.{decimal}
-
--- The text that a set is over: the joined one where something was joined.
-unfoldable pub textOf : List ℕ → List ℕ → ℕ → List ℕ
-textOf t join joined = cond (eqb joined 0) t (take joined join)
 
 -- xs put at `at` of buf: where it ends, and what then stands there
 pub record Put (buf : List ℕ) (at : ℕ) (xs : List ℕ) (end : ℕ) (after : List ℕ) : Type 0 where

@@ -11,7 +11,7 @@ ghost use Prim.Native.Nat.{_+_, _≤_};
 ghost use lib.ListN.{length};
 ghost use Rattle.refusals.specs.Numbers.{maxText};
 ghost use Rattle.canon.specs.Canon.{canon};
-ghost use Rattle.sets.specs.Types.{one};
+ghost use Rattle.sets.specs.Types.{one, textOver};
 ghost use Rattle.sets.specs.Rows.{meaningOf};
 ghost use Rattle.writer.specs.Steps.{wroteTo};
 ghost use Rattle.runs.specs.Runs.{over};
@@ -20,7 +20,7 @@ ghost use Rattle.report.specs.declared.Told.the-variants.{Refused, More,
 ghost use Rattle.report.specs.Decimal.{decimal};
 ghost use Rattle.report.specs.Report.{refusedLine, canonLine, lineBy};
 ghost use Rattle.report.specs.Parts.{maxLine, ended, layFrom, beginsLine, mayBegin, partOf, refusal, startOf, shown};
-ghost use Rattle.report.specs.Steps.{Put, front, putShort, textOf};
+ghost use Rattle.report.specs.Steps.{Put, front, putShort};
 
 // No line of a report is longer: a canonical text of 65,535 bytes, and 65 for the word, two numbers of at most 20 digits, three tabs and the LF.
 pub const LINE: usize = 65600;
@@ -40,21 +40,6 @@ pub struct Part {
     pub line: usize,
 }
 
-// Writes bytes as they stand.
-fn put_bytes(out: &mut [u8], at: usize, s: &[u8]) -> usize
-    requires { ⌜ at + length (now s) ≤ length (now out) ⌝ }
-    ensures { λ r. ⌜ Put (now (out .entry)) at (now (s .entry)) r (now (out .exit)) ⌝ }
-{
-    let mut k = at;
-    let mut i = 0;
-    while i < s.len() {
-        out[k] = s[i];
-        k += 1;
-        i += 1;
-    }
-    k
-}
-
 // Writes a tab and a number.
 fn put_field(out: &mut [u8], at: usize, n: usize) -> usize
     requires { ⌜ at + length (9 ∷ decimal n) ≤ length (now out) ⌝ }
@@ -63,7 +48,8 @@ fn put_field(out: &mut [u8], at: usize, n: usize) -> usize
     let mut digits = [0u8; 20];
     let k = io::decimal(n as u64, &mut digits);
     out[at] = b'\t';
-    put_bytes(out, at + 1, &digits[..k])
+    lists::put_bytes(out, at + 1, &digits[..k]);
+    at + 1 + k
 }
 
 // Writes a word, the first line and the line count.
@@ -71,8 +57,8 @@ fn put_front(out: &mut [u8], at: usize, word: &[u8], n: usize, lines: usize) -> 
     requires { ⌜ at + length (front (now word) n lines) ≤ length (now out) ⌝ }
     ensures { λ r. ⌜ Put (now (out .entry)) at (front (now (word .entry)) n lines) r (now (out .exit)) ⌝ }
 {
-    let k = put_bytes(out, at, word);
-    let e = put_field(out, k, n);
+    lists::put_bytes(out, at, word);
+    let e = put_field(out, at + word.len(), n);
     put_field(out, e, lines)
 }
 
@@ -114,19 +100,23 @@ fn lay_set(out: &mut [u8], at: usize, n: usize, lines: usize, text: &[u8], set: 
 }
 
 // Lays the line of a block, whose set is over the joined bytes if there are any.
-fn lay_block(out: &mut [u8], at: usize, n: usize, text: &[u8], join: &[u8], block: Block) -> usize
-    requires { ⌜ (at + maxLine ≤ length (now out)) × (block .joined ≤ length (now join)) ⌝ }
-    ensures { λ r. ⌜ Put (now (out .entry)) at (lineBy n (block .lines) (textOf (now (text .entry)) (now (join .entry)) (block .joined)) (block .set) (block .outcome)) r (now (out .exit)) ⌝ }
+fn lay_block<'a>(
+    out: &mut [u8],
+    at: usize,
+    n: usize,
+    text: &'a [u8],
+    join: &'a [u8],
+    block: Block,
+) -> usize
+    requires { ⌜ at + maxLine ≤ length (now out) ⌝ }
+    ensures { λ r. ⌜ Put (now (out .entry)) at (lineBy n (block .lines) (textOver (now (text .entry)) (now (join .entry)) (block .joined)) (block .set) (block .outcome)) r (now (out .exit)) ⌝ }
 {
-    let joined = block.joined;
     let outcome = block.outcome;
     match outcome {
         Outcome::Refused(why) => lay_refused(out, at, n, block.lines, why),
         Outcome::Done => {
-            if joined == 0 {
-                return lay_set(out, at, n, block.lines, text, block.set);
-            }
-            lay_set(out, at, n, block.lines, &join[..joined], block.set)
+            let over = sets::text_over(text, join, block.joined);
+            lay_set(out, at, n, block.lines, over, block.set)
         }
     }
 }

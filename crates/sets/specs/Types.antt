@@ -1,7 +1,9 @@
 -- A set's limits, its empty value, and the bytes that its names stand for.
 use Prim.Native.Nat.{ℕ}
+use mathlib.Core.Bool.{cond}
 use mathlib.Core.List.{List, []}
-use lib.ListN.{replicate}
+use lib.Dec.{eqb}
+use lib.ListN.{replicate, take}
 use lib.Seq.{slice}
 use Rattle.grammar.specs.Meaning.{langName}
 use Rattle.escapes.specs.Unescape.{unescape}
@@ -49,6 +51,10 @@ one t = record { text = t }
 -- the bytes from `from` up to `to`; what lies past the end is left out
 unfoldable pub rangeBytes : Texts → ℕ → ℕ → List ℕ
 rangeBytes t from to = slice from to (t .text)
+
+-- "the lent one or, for a wrapped run, the joined text, whose length is answered too": nothing was joined where that is 0
+unfoldable pub textOver : List ℕ → List ℕ → ℕ → List ℕ
+textOver t join joined = cond (eqb joined 0) t (take joined join)
 
 -- "A key's name is a range or the fixed name `lang`, which `:` gives"
 unfoldable pub nameBytes : Texts → Name → List ℕ

@@ -2,7 +2,7 @@
 ghost use mathlib.Core.Path.{_≡_};
 ghost use Rattle.lists.specs.Lists.{same};
 ghost use lib.ListN.{take};
-ghost use Rattle.sets.specs.Types.{emptySet, rangeBytes, nameBytes, one};
+ghost use Rattle.sets.specs.Types.{emptySet, rangeBytes, nameBytes, one, textOver};
 ghost use Rattle.sets.specs.Rows.{keyAt};
 
 // What an id, a class or a key's value is: bytes of the text as they stand, bytes of it that were quoted, or nothing from a bare name.
@@ -107,6 +107,16 @@ pub fn bytes_of(text: &[u8], from: usize, to: usize) -> &[u8]
         return &text[from..];
     }
     &text[0..0]
+}
+
+// The text that a block's set is over: the first `joined` bytes of what was joined, or the text where nothing was.
+pub fn text_over<'a>(text: &'a [u8], join: &'a [u8], joined: usize) -> &'a [u8]
+    ensures { λ r. ⌜ now r ≡ textOver (now (text .entry)) (now (join .entry)) joined ⌝ }
+{
+    if joined == 0 {
+        return text;
+    }
+    bytes_of(join, 0, joined)
 }
 
 // Whether two names are the same, byte for byte.

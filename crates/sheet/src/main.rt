@@ -1,4 +1,5 @@
-// Reads a sheet from standard input and writes its report to standard output: a line for each block.
+// Writes the reports on sheets to standard output: a line for each block. Without arguments it reads a sheet from standard input; else the
+// files that its arguments name, one after the other and each under a heading, and for `-` standard input.
 use report::Part;
 use report::Told;
 
@@ -9,8 +10,51 @@ fn main() {
     let mut text = [0u8; TEXT];
     let mut join = [0u8; refusals::MAX_TEXT];
     let mut out = [0u8; report::LINE];
-    let n = io::read_full(libc::STDIN_FILENO, &mut text);
-    write_report(&text[..n], &mut join, &mut out);
+    if os::arg_count() <= 1 {
+        report_on(libc::STDIN_FILENO, &mut text, &mut join, &mut out);
+        return;
+    }
+    report_all(&mut text, &mut join, &mut out);
+}
+
+// The first argument is the program's own name.
+fn report_all(text: &mut [u8], join: &mut [u8], out: &mut [u8]) {
+    let count = os::arg_count();
+    let mut i = 1;
+    while i < count {
+        report_named(i, text, join, out);
+        i += 1;
+    }
+}
+
+// The report on the sheet that an argument names, under its heading.
+fn report_named(i: usize, text: &mut [u8], join: &mut [u8], out: &mut [u8]) {
+    let mut name = io::buffer();
+    let n = os::arg(i, &mut name);
+    say(b"==> ");
+    say(&name[..n]);
+    say(b" <==\n");
+    if lists::same_bytes(&name[..n], b"-") {
+        report_on(libc::STDIN_FILENO, text, join, out);
+        return;
+    }
+    let fd = os::open_read(&name[..n]);
+    if fd < 0 {
+        say(b"not there\n");
+        return;
+    }
+    report_on(fd, text, join, out);
+    libc::close(fd);
+}
+
+// The report on the sheet that an open file holds.
+fn report_on(fd: i32, text: &mut [u8], join: &mut [u8], out: &mut [u8]) {
+    let n = io::read_full(fd, text);
+    write_report(&text[..n], join, out);
+}
+
+fn say(words: &[u8]) -> bool {
+    io::write_all(libc::STDOUT_FILENO, words)
 }
 
 // Writes the report part by part. A proved loop has to end, so it counts its turns down, from a number that no sheet uses up.
@@ -28,7 +72,7 @@ fn write_report(text: &[u8], join: &mut [u8], out: &mut [u8]) {
 
 // Writes what a part laid at the buffer's front, and answers whether to go on: more comes, and it could be written.
 fn write_part(part: Part, out: &[u8]) -> bool {
-    if !io::write_all(libc::STDOUT_FILENO, front(out, part.len)) {
+    if !say(sets::bytes_of(out, 0, part.len)) {
         return false;
     }
     let told = part.told;
@@ -37,12 +81,4 @@ fn write_part(part: Part, out: &[u8]) -> bool {
         Told::Done => false,
         Told::Refused(_) => false,
     }
-}
-
-// The first n bytes, none where there are fewer.
-fn front(s: &[u8], n: usize) -> &[u8] {
-    if s.len() < n {
-        return &s[..0];
-    }
-    &s[0..n]
 }

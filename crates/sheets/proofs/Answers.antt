@@ -26,7 +26,7 @@ use Rattle.fill.proofs.Slots.{Shaped, shaped-puts, shaped-none, slots}
 use Rattle.runs.specs.Runs.{runAt}
 use Rattle.runs.proofs.Bounds.{text-short}
 use Rattle.blocks.specs.Blocks.{Found, filledBy, blockOf}
-use Rattle.entries.specs.Entries.{flushLeft}
+use Rattle.lengths.specs.Lengths.{flushLeft}
 use Rattle.sheets.specs.Sheets.{isBlock}
 use Rattle.sheets.proofs.Tries.{found-by, run-found-by, flush-by}
 

@@ -17,8 +17,8 @@ use Rattle.lines.proofs.Lines.{lines-end, line-at, next-beyond}
 use Rattle.runs.specs.Runs.{asIs, pastLines, runAt}
 use Rattle.runs.proofs.Bounds.{lines-le}
 use Rattle.blocks.specs.Blocks.{Found, linesOf, joinHolds, blockOf}
-use Rattle.entries.specs.Entries.{flushLeft}
-use Rattle.blocks.proofs.Agree.{past-in}
+use Rattle.lengths.specs.Lengths.{flushLeft}
+use Rattle.blocks.proofs.Places.{past-in}
 use Rattle.sheets.specs.declared.Next.{Next}
 use Rattle.sheets.specs.Sheets.{Try, triesFrom, triesAt, isBlock, onlyBlocks, joinBehind, upToBlock, nowhere, nextOf, nextTries}
 use Rattle.sheets.proofs.Tries.{found-by, run-found-by, flush-by, some-lines, holds-long, tries-end, try, tries-on, tries-past}

@@ -14,9 +14,10 @@ use Rattle.lines.specs.Lines.{ranges, pick, lineOf}
 use Rattle.lines.specs.declared.Range.{Range}
 use Rattle.lines.specs.declared.Line.the-variants.{At}
 use Rattle.runs.specs.Runs.{pastLines}
-use Rattle.blocks.proofs.Agree.{past-in}
+use Rattle.blocks.proofs.Places.{past-in}
 use Rattle.blocks.specs.Blocks.{linesOf}
-use Rattle.entries.specs.Entries.{flushLeft, startAt, placeOf, standaloneFound}
+use Rattle.starts.specs.Starts.{startAt, placeOf}
+use Rattle.lengths.specs.Lengths.{flushLeft, standaloneFound}
 use Rattle.sheets.specs.Sheets.{Try, triesFrom, triesAt, isBlock, onlyBlocks}
 use Rattle.sheets.proofs.Goes.{block-bytes, First, Leads, leads}
 use Rattle.sheets.proofs.Tries.{some-lines, tries-end, try}

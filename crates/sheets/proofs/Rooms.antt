@@ -19,7 +19,7 @@ use Rattle.runs.specs.Runs.{Lined, asIs, So, start, Run, stopNo, ended, mayJoin
 use Rattle.runs.specs.declared.Stop.the-variants.{Closed, Refused}
 use Rattle.runs.proofs.Bounds.{never-full}
 use Rattle.blocks.specs.Blocks.{linesOf, runFound, found}
-use Rattle.entries.specs.Entries.{flushLeft}
+use Rattle.lengths.specs.Lengths.{flushLeft}
 use Rattle.sheets.specs.Sheets.{triesFrom, triesAt, onlyBlocks, blocksOf}
 use Rattle.sheets.proofs.Tries.{try}
 

@@ -18,7 +18,7 @@ use Rattle.lines.proofs.Lines.{next-beyond}
 use Rattle.runs.specs.Runs.{pastLines}
 use Rattle.fill.specs.declared.Outcome.the-variants.{Refused}
 use Rattle.blocks.specs.Blocks.{nothing, found, joinHolds, blockBy, blockOf, sized, unread}
-use Rattle.entries.specs.Entries.{flushLeft}
+use Rattle.lengths.specs.Lengths.{flushLeft}
 use Rattle.blocks.specs.declared.Block.{Block}
 use Rattle.blocks.proofs.Finds.{none-holds, sized-long, sized-is}
 use Rattle.sheets.specs.declared.Next.{Next}

@@ -33,7 +33,7 @@ use Rattle.runs.proofs.Bounds.{run-by, text-le}
 use Rattle.runs.proofs.Joining.{over-long}
 use Rattle.fronts.specs.Fronts.{lineAt, frontOf, opensAt, beginsIndented}
 use Rattle.blocks.specs.Blocks.{Found, nothing, closedRun, ended, runFound, found, joinedIn, linesOf, joinHolds}
-use Rattle.entries.specs.Entries.{flushLeft}
+use Rattle.lengths.specs.Lengths.{flushLeft}
 use Rattle.fronts.proofs.Trimmed.{line-none, indent-is}
 use Rattle.blocks.proofs.Finds.{found-none}
 use Rattle.sheets.specs.Sheets.{Try, triesFrom, triesAt, isBlock}

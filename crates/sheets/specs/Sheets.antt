@@ -11,7 +11,7 @@ use Rattle.lines.specs.Lines.{rangesFrom, ranges}
 use Rattle.lines.specs.declared.Range.{Range}
 use Rattle.fill.specs.Fill.{refusing}
 use Rattle.blocks.specs.Blocks.{Found, linesOf, joinHolds, blockOf, blockBy}
-use Rattle.entries.specs.Entries.{flushLeft}
+use Rattle.lengths.specs.Lengths.{flushLeft}
 use Rattle.sheets.specs.declared.Next.{Next}
 
 -- ---- the lines at which a block is looked for

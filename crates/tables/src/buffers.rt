@@ -4,6 +4,7 @@ use crate::good;
 use crate::good::plain;
 use crate::good::slot;
 use crate::is_kept;
+use crate::part;
 use crate::say;
 use crate::say_number;
 use crate::say_wrote;
@@ -56,14 +57,18 @@ fn class_of(n: u16) -> Attrs {
 fn longest() {
     let text = [b'a'; 65535];
     let mut out = [MARK; 65540];
+    longest_into(&text, &mut out);
+}
+
+fn longest_into(text: &[u8], out: &mut [u8]) {
     say(b"a canonical text of 65,536 bytes: ");
-    say_length(writer::write_attrs(&text, class_of(65526), &mut out));
-    if is_kept(&out) {
+    say_length(writer::write_attrs(text, class_of(65526), out));
+    if is_kept(out) {
         say(b", memory kept");
     }
     say(b"\na canonical text of 65,535 bytes: ");
-    say_length(writer::write_attrs(&text, class_of(65525), &mut out));
-    if is_kept(&out[65535..]) {
+    say_length(writer::write_attrs(text, class_of(65525), out));
+    if is_kept(part(out, 65535, 65540)) {
         say(b", rest kept");
     }
     say(b"\n");

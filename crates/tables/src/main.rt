@@ -1,6 +1,7 @@
 // Hand-made tables: every clause of 'well-formed' broken once, and what the writer and the merge answer to each.
 mod broken;
 mod buffers;
+mod changed;
 mod good;
 
 use fill::Filled;
@@ -56,7 +57,7 @@ pub(crate) fn say_wrote(wrote: Wrote, out: &[u8]) {
 }
 
 // The bytes from `from` up to `to`, none where there are no such places.
-fn part(s: &[u8], from: usize, to: usize) -> &[u8] {
+pub(crate) fn part(s: &[u8], from: usize, to: usize) -> &[u8] {
     if s.len() < to {
         return &s[..0];
     }

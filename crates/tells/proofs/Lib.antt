@@ -1,2 +1,2 @@
--- The laws that the proofs of tells cite.
-mod Laws
+-- The laws that the proofs of the crates over tells cite.
+pub mod Laws

@@ -1,2 +1,2 @@
--- The definitions that the contracts of tells cite.
+-- The definitions that the contracts of tells and of the crates over it cite.
 pub mod Tells

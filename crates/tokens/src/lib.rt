@@ -42,7 +42,7 @@ fn is_part(b: u8) -> bool
 {
     match b {
         b'a'..=b'z' => true,
-        _ => ascii::is_attr_ident_part(b),
+        _ => letters::is_attr_ident_part(b),
     }
 }
 
@@ -91,7 +91,7 @@ fn starts_name(s: &[u8], i: usize) -> bool
     if s.len() <= i {
         return false;
     }
-    ascii::is_css_ident_start(s[i])
+    letters::is_css_ident_start(s[i])
 }
 
 // Whether a byte that can begin a key stands at i.
@@ -101,7 +101,7 @@ fn starts_key(s: &[u8], i: usize) -> bool
     if s.len() <= i {
         return false;
     }
-    ascii::is_attr_ident_start(s[i])
+    letters::is_attr_ident_start(s[i])
 }
 
 // Whether a byte that can begin a bare name stands at i.
@@ -111,7 +111,7 @@ fn starts_bare(s: &[u8], i: usize) -> bool
     if s.len() <= i {
         return false;
     }
-    ascii::is_letter(s[i])
+    letters::is_letter(s[i])
 }
 
 // The token t, if it is good and a token may end before e.

@@ -11,22 +11,19 @@ use borrow.Author.Tests.{eqb-true, ne-eqb, leb-true, leb-false, le-leb}
 use Rattle.lists.proofs.Scan.{both}
 use Rattle.lists.proofs.Steady.{steady, values}
 use Rattle.ascii.specs.Bytes.{within}
-use Rattle.utf8.specs.declared.Want.{Want}
-use Rattle.utf8.specs.declared.Next.{Next}
-use Rattle.utf8.specs.declared.Next.the-variants.{Bad, Go}
 use Rattle.utf8.specs.Grammar.{Byte, Tail, Char, Octets, WellFormed, one, two, three-E0, three-E1, three-ED, three-EE, four-F0, four-F1, four-F4, none, more}
-use Rattle.utf8.specs.Utf8.{isUtf8, octetsFrom, leadOf, afterOf, fresh, want, goOn}
+use Rattle.utf8.specs.Utf8.{Want, Next, isUtf8, octetsFrom, leadOf, afterOf, fresh, want, goOn}
 use Rattle.utf8.proofs.Laws.{idle}
 
 -- where the answer is yes, the byte was taken, and v is wanted next
 record Went (n : Next) (rest : Want → Bool) : Type 0 where
   v : Want
-  is : n ≡ Go v
+  is : n ≡ Next.go v
   yes : rest v ≡ true
 
 went : (n : Next) (rest : Want → Bool) → goOn n rest ≡ true → Went n rest
-went Bad rest e = let z : _≡_ {A = ℕ} 0 1 = cc in absurd (omega arith)
-went (Go v) rest e = record { v = v; is = refl; yes = e }
+went Next.bad rest e = let z : _≡_ {A = ℕ} 0 1 = cc in absurd (omega arith)
+went (Next.go v) rest e = record { v = v; is = refl; yes = e }
 
 -- ---- well-formed text before any other
 after-text : (s t : List ℕ) (w : Want) → octetsFrom s w ≡ true → octetsFrom (s ++ t) w ≡ octetsFrom t fresh
@@ -53,9 +50,9 @@ later {n} {lo} {hi} {b} p y =
     record { yes = rw (ne-eqb (suc n) 0 (omega arith), le-leb lo b (p .low), le-leb b hi (p .high), z) (y .yes) }
 
 -- the n bytes from lo on all ask for w
-first : {lo hi a : ℕ} {w : Want} {s : List ℕ} (n : ℕ) → Byte lo hi a → hi < lo + n → values leadOf n lo ≡ replicate n (Go w) → Yes s w → Yes (a ∷ s) fresh
+first : {lo hi a : ℕ} {w : Want} {s : List ℕ} (n : ℕ) → Byte lo hi a → hi < lo + n → values leadOf n lo ≡ replicate n (Next.go w) → Yes s w → Yes (a ∷ s) fresh
 unfolding octetsFrom afterOf
-first {lo} {hi} {a} {w} n p h e y = record { yes = rw (sym (steady leadOf (Go w) lo n a e (p .low) (omega arith))) (y .yes) }
+first {lo} {hi} {a} {w} n p h e y = record { yes = rw (sym (steady leadOf (Next.go w) lo n a e (p .low) (omega arith))) (y .yes) }
 
 of-char : {k : List ℕ} → Char k → Yes k fresh
 unfolding leadOf
@@ -87,8 +84,8 @@ data Rest : ℕ → ℕ → ℕ → List ℕ → Type 0 where
   owed : {n lo hi b : ℕ} {s : List ℕ} → Byte lo hi b → Rest n 0x80 0xBF s → Rest (suc n) lo hi (b ∷ s)
 
 Comes : Next → List ℕ → Type 0
-Comes Bad s = ⊥
-Comes (Go w) s = Rest (w .owed) (w .lo) (w .hi) s
+Comes Next.bad s = ⊥
+Comes (Next.go w) s = Rest (w .owed) (w .lo) (w .hi) s
 
 -- where n is asked after the byte a, and comes, the whole is characters
 record Begins (a : ℕ) (n : Next) : Type 0 where
@@ -127,7 +124,7 @@ module _ {a lo hi : ℕ} where
       at : (s : List ℕ) → Rest 3 lo hi s → WellFormed (a ∷ s)
       at _ (owed p (owed q (owed r (done w)))) = and-then (f _ _ _ p q r) w
 
-no-char : {a : ℕ} → Begins a Bad
+no-char : {a : ℕ} → Begins a Next.bad
 unfolding Comes
 no-char = record { whole = λ s r. absurd r }
 
@@ -155,11 +152,11 @@ lead a =
     no-char))))))))))
 
 -- a byte that is owed stands in its range
-taken : (lo hi a : ℕ) (v : Want) (rest : Want → Bool) → goOn (cond (within lo hi a) (Go v) Bad) rest ≡ true → Byte lo hi a × (rest v ≡ true)
+taken : (lo hi a : ℕ) (v : Want) (rest : Want → Bool) → goOn (cond (within lo hi a) (Next.go v) Next.bad) rest ≡ true → Byte lo hi a × (rest v ≡ true)
 unfolding within
 taken lo hi a v rest e = at (within lo hi a) refl e
   where
-    at : (b : Bool) → within lo hi a ≡ b → goOn (cond b (Go v) Bad) rest ≡ true → Byte lo hi a × (rest v ≡ true)
+    at : (b : Bool) → within lo hi a ≡ b → goOn (cond b (Next.go v) Next.bad) rest ≡ true → Byte lo hi a × (rest v ≡ true)
     at true h q = let p = both (leb lo a) (leb a hi) h in (record { low = leb-true lo a (p .0); high = leb-true a hi (p .1) }, q)
     at false h q = let z : _≡_ {A = ℕ} 0 1 = cc in absurd (omega arith)
 

@@ -14,9 +14,7 @@ use borrow.Author.Tests.{leb-true, eqb-true, eqb-false, eq-eqb, ne-eqb, le-leb, 
 use Rattle.lists.proofs.Scan.{both}
 use Rattle.lists.proofs.Steady.{steady, values}
 use Rattle.ascii.specs.Bytes.{isTail, within}
-use Rattle.utf8.specs.declared.Want.{Want}
-use Rattle.utf8.specs.declared.Next.the-variants.{Bad}
-use Rattle.utf8.specs.Utf8.{isUtf8, octetsFrom, leadOf, afterOf, fresh, want, goOn, isBoundary, charCount}
+use Rattle.utf8.specs.Utf8.{Want, Next, isUtf8, octetsFrom, leadOf, afterOf, fresh, want, goOn, isBoundary, charCount}
 use Rattle.utf8.specs.Blocks.{NoneAbove, Same, Passed, Begins}
 
 -- ---- where nothing is owed, the range does not matter
@@ -82,7 +80,7 @@ unfolding octetsFrom afterOf
 short [] n lo hi h = ne-eqb n 0 (omega arith)
 short (a ∷ t) n lo hi h = rw (ne-eqb n 0 (omega arith)) (at (within lo hi a) (short t (n - 1) 0x80 0xBF (omega arith)))
   where
-    at : (b : Bool) → octetsFrom t (record { owed = n - 1; lo = 0x80; hi = 0xBF }) ≡ false → goOn (cond b (want (n - 1) 0x80 0xBF) Bad) (octetsFrom t) ≡ false
+    at : (b : Bool) → octetsFrom t (record { owed = n - 1; lo = 0x80; hi = 0xBF }) ≡ false → goOn (cond b (want (n - 1) 0x80 0xBF) Next.bad) (octetsFrom t) ≡ false
     at true e = e
     at false e = refl
 
@@ -137,9 +135,9 @@ last {s} {i} {k} {r} o l h e = at (isTail (getD s k 0)) refl
 pub begins : {s : List ℕ} {i n lo hi : ℕ} (a m : ℕ) → i < length s → values leadOf m a ≡ replicate m (want n lo hi) → a ≤ getD s i 0 → getD s i 0 < a + m → Begins s i n lo hi
 begins {s} {i} {n} {lo} {hi} a m h e l u = record { inside = h; asks = sym (steady leadOf (want n lo hi) a m (getD s i 0) e l u) }
 
-pub no-lead : {s : List ℕ} {i : ℕ} (a m : ℕ) → i < length s → values leadOf m a ≡ replicate m Bad → a ≤ getD s i 0 → getD s i 0 < a + m → Passed s i 0
+pub no-lead : {s : List ℕ} {i : ℕ} (a m : ℕ) → i < length s → values leadOf m a ≡ replicate m Next.bad → a ≤ getD s i 0 → getD s i 0 < a + m → Passed s i 0
 unfolding octetsFrom afterOf
-no-lead {s} {i} a m h e l u = not-passed (rw (drop-cons s i 0 h, sym (steady leadOf Bad a m (getD s i 0) e l u)))
+no-lead {s} {i} a m h e l u = not-passed (rw (drop-cons s i 0 h, sym (steady leadOf Next.bad a m (getD s i 0) e l u)))
 
 pub past-leads : {s : List ℕ} {i : ℕ} → i < length s → 0xF4 < getD s i 0 → Passed s i 0
 unfolding octetsFrom afterOf leadOf

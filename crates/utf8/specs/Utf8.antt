@@ -5,19 +5,26 @@ use mathlib.Core.List.{List, [], _∷_}
 use lib.Dec.{leb, eqb}
 use lib.ListN.{length, getD}
 use Rattle.ascii.specs.Bytes.{within, isTail}
-use Rattle.utf8.specs.declared.Want.{Want}
-use Rattle.utf8.specs.declared.Next.{Next}
-use Rattle.utf8.specs.declared.Next.the-variants.{Bad, Go}
 
 -- `owed` more bytes belong to the character, and the next of them is from lo to hi
+pub record Want : Type 0 where
+  pub owed : ℕ
+  pub lo : ℕ
+  pub hi : ℕ
+
+-- what comes of a byte: none such may stand there, or more is wanted
+pub data Next : Type 0 where
+  bad : Next
+  go : Want → Next
+
 abbrev pub want : ℕ → ℕ → ℕ → Next
-want owed lo hi = Go (record { owed = owed; lo = lo; hi = hi })
+want owed lo hi = Next.go (record { owed = owed; lo = lo; hi = hi })
 
 -- what the first byte of a character asks of those after it: how many, and the next one's range
 unfoldable pub leadOf : ℕ → Next
 leadOf a =
     cond (leb a 0x7F) (want 0 0x80 0xBF)
-    (cond (leb a 0xC1) Bad
+    (cond (leb a 0xC1) Next.bad
     (cond (leb a 0xDF) (want 1 0x80 0xBF)
     (cond (leb a 0xE0) (want 2 0xA0 0xBF)
     (cond (leb a 0xEC) (want 2 0x80 0xBF)
@@ -26,15 +33,15 @@ leadOf a =
     (cond (leb a 0xF0) (want 3 0x90 0xBF)
     (cond (leb a 0xF3) (want 3 0x80 0xBF)
     (cond (leb a 0xF4) (want 3 0x80 0x8F)
-    Bad)))))))))
+    Next.bad)))))))))
 
 -- what is wanted after the byte a, where w was wanted before it
 unfoldable pub afterOf : Want → ℕ → Next
-afterOf w a = cond (eqb (w .owed) 0) (leadOf a) (cond (within (w .lo) (w .hi) a) (want (w .owed - 1) 0x80 0xBF) Bad)
+afterOf w a = cond (eqb (w .owed) 0) (leadOf a) (cond (within (w .lo) (w .hi) a) (want (w .owed - 1) 0x80 0xBF) Next.bad)
 
 abbrev pub goOn : Next → (Want → Bool) → Bool
-goOn Bad rest = false
-goOn (Go v) rest = rest v
+goOn Next.bad rest = false
+goOn (Next.go v) rest = rest v
 
 -- the list is what w wants, and then characters
 unfoldable pub octetsFrom : List ℕ → Want → Bool

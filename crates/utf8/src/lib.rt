@@ -7,18 +7,6 @@ ghost use Rattle.ascii.specs.Bytes.{isTail};
 ghost use Rattle.utf8.specs.Utf8.{isUtf8, isBoundary, charCount};
 ghost use Rattle.utf8.specs.Blocks.{NoneAbove, Same, Passed, Begins};
 
-// What the definition wants next, which goes byte by byte: `owed` more of the character, the next of them from lo to hi.
-pub struct Want {
-    pub owed: u8,
-    pub lo: u8,
-    pub hi: u8,
-}
-
-pub enum Next {
-    Bad,
-    Go(Want),
-}
-
 // A byte that none from i to before e is above.
 fn greatest(s: &[u8], i: usize, e: usize) -> u8
     requires { ⌜ e ≤ length (now s) ⌝ }

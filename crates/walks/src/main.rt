@@ -17,17 +17,6 @@ pub(crate) fn say_refusal(r: Refusal) {
     say_number(refusals::number(r) as usize);
 }
 
-// The bytes from `from` up to `to`, none where there are no such places.
-pub(crate) fn part(s: &[u8], from: usize, to: usize) -> &[u8] {
-    if s.len() < to {
-        return &s[..0];
-    }
-    if to < from {
-        return &s[..0];
-    }
-    &s[from..to]
-}
-
 fn main() {
     steps::run();
     merges::run();

@@ -1,5 +1,4 @@
 // Sets merged into one that is lent, where it stands; a refusal leaves it as it was.
-use crate::part;
 use crate::say;
 use crate::say_number;
 use crate::say_refusal;
@@ -107,7 +106,7 @@ fn say_set(text: &[u8], set: Attrs) {
     say(b"  ");
     match wrote {
         Wrote::Refused(r) => say_refusal(r),
-        Wrote::Bytes(n) => say(part(&out, 0, n)),
+        Wrote::Bytes(n) => say(sets::bytes_of(&out, 0, n)),
     }
     say(b"\n");
 }

@@ -1,5 +1,4 @@
 // The tokens of payloads, step by step.
-use crate::part;
 use crate::say;
 use crate::say_number;
 use ascii::Mode;
@@ -80,7 +79,7 @@ fn say_token(text: &[u8], token: Token) {
 fn say_part<'a>(kind: &'a [u8], text: &'a [u8], from: usize, to: usize) {
     say(kind);
     say(b" `");
-    say(part(text, from, to));
+    say(sets::bytes_of(text, from, to));
     say(b"`");
 }
 
@@ -90,7 +89,7 @@ fn say_key<'a>(kind: &'a [u8], text: &'a [u8], from: usize, to: usize, end: usiz
     say(kind);
     say(b" `");
     if to < end {
-        say(part(text, to + 1, end));
+        say(sets::bytes_of(text, to + 1, end));
     }
     say(b"`");
 }

@@ -24,7 +24,7 @@ use Rattle.escapes.specs.Unescape.{unescape, unescapeFrom}
 use Rattle.grammar.specs.Close.{noLf}
 use Rattle.grammar.specs.Meaning.{Entry, idName, className}
 use Rattle.grammar.proofs.Bytes.{key-parts}
-use Rattle.canon.specs.Canon.{escape, Pair, pairText, moreText, pairsText, pairsOf, pairs, canon}
+use Rattle.canon.specs.Canon.{marked, escape, Pair, pairText, moreText, pairsText, pairsOf, pairs, canon}
 use Rattle.sets.specs.Types.{Texts, one, rangeBytes, textBytes, valueBytes, zeroRow}
 use Rattle.sets.specs.Rows.{Rows, isThere, idValues, slotEntry, meant, rowsIn, meaningOf}
 use Rattle.sets.specs.Shape.{isPresent}
@@ -89,7 +89,7 @@ high-unescape [] s e = refl
 high-unescape (a ∷ k) s e = let h = both (isHigh a) (all isHigh k) e in rw (high-other 92 a (omega arith) (h .0), high-unescape k s (h .1))
 
 high-escape : (k s : List ℕ) → all isHigh k ≡ true → escape (k ++ s) ≡ k ++ escape s
-unfolding all escape isIn
+unfolding all marked escape isIn
 high-escape [] s e = refl
 high-escape (a ∷ k) s e = let h = both (isHigh a) (all isHigh k) e in rw (high-other 34 a (omega arith) (h .0), high-other 92 a (omega arith) (h .0), high-escape k s (h .1))
 
@@ -125,14 +125,16 @@ unfolding unescape
 unescape-utf8 s e = unescaped (sound s e .octets) false
 
 escaped : {ks : List (List ℕ)} {s : List ℕ} → utf8.Octets ks s → isUtf8 (escape s) ≡ true
-unfolding escape all
+unfolding marked escape all
 escaped utf8.Octets.none = ascii [] refl
 escaped (utf8.Octets.more {k} {s} c o) = go k (kind c) (char c) (escaped o)
   where
     go : (k : List ℕ) → Kind k → isUtf8 k ≡ true → isUtf8 (escape s) ≡ true → isUtf8 (escape (k ++ s)) ≡ true
-    go (a ∷ []) (Kind.low h) u ih =
-        let z = low-utf8 a (escape s) h ih in
-        either (isIn (34 ∷ 92 ∷ []) a) (92 ∷ (a ∷ escape s)) (a ∷ escape s) (low-utf8 92 _ (omega arith) z) z
+    go (a ∷ []) (Kind.low h) u ih = also (isIn (34 ∷ 92 ∷ []) a) (low-utf8 a (escape s) h ih)
+      where
+        also : (x : Bool) → isUtf8 (a ∷ escape s) ≡ true → isUtf8 (cond x (92 ∷ (a ∷ [])) (a ∷ []) ++ escape s) ≡ true
+        also true z = low-utf8 92 _ (omega arith) z
+        also false z = z
     go (a ∷ k) (Kind.high h) u ih = rw (high-escape (a ∷ k) s h) (append-utf8 (a ∷ k) (escape s) u ih)
 
 pub escape-utf8 : (s : List ℕ) → isUtf8 s ≡ true → isUtf8 (escape s) ≡ true

@@ -2,18 +2,14 @@
 -- Assumes nothing.
 use mathlib.Core.Path.{_≡_, refl, sym, _∙_}
 use mathlib.Core.Bool.{Bool, true, false}
-use mathlib.Core.List.{List, [], _∷_, _++_}
-use Prim.Native.Nat.{ℕ, suc, _+_, _≤_, _<_}
-use native.Mathlib.Numerals.{add-one}
-use native.Mathlib.Nat.{add-zero, add-suc, suc-add}
+use mathlib.Core.List.{List, [], _++_}
+use Prim.Native.Nat.{ℕ, _+_, _≤_}
+use native.Mathlib.Nat.{add-zero}
 use native.Mathlib.Omega.{arith}
-use lib.ListN.{length, getD, drop, set, length-append, drop-of-length-le}
-use lib.Seq.{sets, length-sets, drop-cons}
+use lib.ListN.{length, length-append}
+use lib.Seq.{length-sets}
+use Rattle.lists.proofs.Sets.{sets-append}
 use Rattle.writer.specs.Steps.{put}
-
-pub sets-append : (l : List ℕ) (i : ℕ) (xs ys : List ℕ) → sets l i (xs ++ ys) ≡ sets (sets l i xs) (i + length xs) ys
-sets-append l i [] ys = rw add-zero
-sets-append l i (x ∷ xs) ys = rw (sets-append (set l i x) (suc i) xs ys, add-suc, suc-add)
 
 pub put-append : (really : Bool) (l : List ℕ) (i : ℕ) (xs ys : List ℕ) → put really l i (xs ++ ys) ≡ put really (put really l i xs) (i + length xs) ys
 unfolding put
@@ -61,25 +57,3 @@ module _ {really : Bool} {buf₀ : List ℕ} {at : ℕ} {whole buf : List ℕ} {
           left = omega (arith, rw (e, length-append xs more) at (inv .left), p);
           same = rw (q, p) (sym (put-append really buf k xs more)) ∙ (rw e at (inv .same));
         }
-
--- ---- bytes as they stand
-pub record Copies (buf₀ : List ℕ) (at : ℕ) (s buf : List ℕ) (k i : ℕ) : Type 0 where
-  pub fills : Fills true buf₀ at s buf k (drop i s)
-
-pub copies-start : (buf : List ℕ) (at : ℕ) (s : List ℕ) → at + length s ≤ length buf → Copies buf at s buf at 0
-copies-start buf at s h = record { fills = fills-start true buf at s (λ e. h) }
-
-module _ {buf₀ : List ℕ} {at : ℕ} {s buf : List ℕ} {k i : ℕ} (inv : Copies buf₀ at s buf k i) where
-  step : i < length s → drop i s ≡ (getD s i 0 ∷ []) ++ drop (i + 1) s
-  step h = rw (add-one i) (drop-cons s i 0 h)
-
-  pub copies-room : i < length s → k + 1 ≤ length buf
-  copies-room h = fills-room (inv .fills) (getD s i 0 ∷ []) (drop (i + 1) s) (step h) refl
-
-  pub copies-go : i < length s → Copies buf₀ at s (set buf k (getD s i 0)) (k + 1) (i + 1)
-  unfolding put
-  copies-go h = record { fills = fills-go (inv .fills) (getD s i 0 ∷ []) (drop (i + 1) s) (step h) refl refl }
-
-  pub copies-end : length s ≤ i → (k ≡ at + length s) × (buf ≡ sets buf₀ at s)
-  unfolding put
-  copies-end h = fills-end (inv .fills) (drop-of-length-le s h)

@@ -14,7 +14,7 @@ use lib.Seq.{sets}
 use Rattle.grammar.specs.Meaning.{Entry}
 use Rattle.canon.specs.Canon.{Pair, escape, pairText, moreText, pairsText, pairs, canon}
 use Rattle.refusals.specs.Numbers.{maxText}
-use Rattle.writer.proofs.Fills.{sets-append}
+use Rattle.lists.proofs.Sets.{sets-append}
 use Rattle.marks.proofs.Values.{escape-short, bytes-short, raw-value}
 use Rattle.sets.specs.Types.{Texts, valueBytes}
 use Rattle.sets.specs.declared.Value.{Value}

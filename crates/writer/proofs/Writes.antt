@@ -6,8 +6,8 @@ use mathlib.Core.List.{List}
 use Prim.Native.Nat.{ℕ, _+_, _≤_}
 use lib.ListN.{length, drop}
 use lib.Seq.{sets}
-use Rattle.canon.specs.Canon.{escape}
-use Rattle.marks.specs.Marks.{bytesIn, marked}
+use Rattle.canon.specs.Canon.{marked, escape}
+use Rattle.marks.specs.Marks.{bytesIn}
 use Rattle.marks.proofs.Values.{Stands, Ends}
 use Rattle.writer.specs.Steps.{put}
 use Rattle.writer.proofs.Fills.{Fills, fills-start, fills-end, fills-room, fills-go}

@@ -16,11 +16,11 @@ ghost use Prim.Native.Nat.{_+_, _≤_, min};
 ghost use lib.ListN.{length};
 ghost use lib.Seq.{sets};
 ghost use Rattle.refusals.specs.Numbers.{maxText};
-ghost use Rattle.canon.specs.Canon.{escape, canon};
+ghost use Rattle.canon.specs.Canon.{marked, escape, canon};
 ghost use Rattle.sets.specs.Types.{one, valueBytes, zeroRow};
 ghost use Rattle.sets.specs.Rows.{meaningOf};
 ghost use Rattle.writer.specs.Write.{wroteOf, contentAfter, attrsWrote, attrsContent};
-ghost use Rattle.marks.specs.Marks.{bytesIn, marked};
+ghost use Rattle.marks.specs.Marks.{bytesIn};
 ghost use Rattle.writer.specs.Steps.{leadOf, itemText, itemsText, closing, put, wroteTo, maxItem, maxItems, idPairs, keyPairs, classPairs};
 
 // How many bytes were written, or why none were.
@@ -74,22 +74,6 @@ fn put_escaped(out: &mut [u8], at: usize, s: &[u8], quoted: bool) -> usize
     }
 }
 
-// Writes bytes as they stand.
-fn put_bytes(out: &mut [u8], at: usize, s: &[u8]) -> usize
-    requires { ⌜ at + length (now s) ≤ length (now out) ⌝ }
-    ensures { λ r. ⌜ r ≡ at + length (now (s .entry)) ⌝ }
-    ensures { λ r. ⌜ now (out .exit) ≡ sets (now (out .entry)) at (now (s .entry)) ⌝ }
-{
-    let mut k = at;
-    let mut i = 0;
-    while i < s.len() {
-        out[k] = s[i];
-        k += 1;
-        i += 1;
-    }
-    k
-}
-
 // The byte before an item: a brace before the first, else a space.
 fn lead(at: usize) -> u8
     ensures { λ r. ⌜ r ≡ leadOf at ⌝ }
@@ -107,7 +91,8 @@ fn put_item(out: &mut [u8], at: usize, name: &[u8], s: &[u8], quoted: bool) -> u
     ensures { λ r. ⌜ now (out .exit) ≡ sets (now (out .entry)) at (itemText at (now (name .entry)) (bytesIn quoted (now (s .entry)))) ⌝ }
 {
     out[at] = lead(at);
-    let k = put_bytes(out, at + 1, name);
+    lists::put_bytes(out, at + 1, name);
+    let k = at + 1 + name.len();
     out[k] = b'=';
     out[k + 1] = b'"';
     let e = put_escaped(out, k + 2, s, quoted);

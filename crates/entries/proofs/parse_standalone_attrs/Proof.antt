@@ -1,3 +1,4 @@
+use mathlib.Core.Path.{sym, _∙_}
 use Rattle.entries.proofs.Starts as laws
 use borrow.Author.Needs.{needs}
 use Rattle.entries.proofs.parse_standalone_attrs.Statement.{statement}
@@ -19,10 +20,10 @@ read-line-requires : tie.Need-read-line-requires
 read-line-requires c κs = search needs
 
 returns : tie.Need-returns
-returns c = laws.alone-none _ _ (c .before .before .before .before .line-start .ensures) (c .before .before .r .given .1) (c .refusing .ensures)
+returns c = laws.alone-none _ _ (sym (c .before .before .before .before .line-start .ensures) ∙ (c .before .before .r .given .1)) (c .refusing .ensures)
 
 returns-2 : tie.Need-returns-2
-returns-2 c = laws.alone-at _ _ (c .before .before .before .before .line-start .ensures) (c .before .before .at .given .1) (c .read-line .ensures)
+returns-2 c = laws.alone-at _ _ (sym (c .before .before .before .before .line-start .ensures) ∙ (c .before .before .at .given .1)) (c .read-line .ensures)
 
 pub parse-standalone-attrs-spec : {M : Type 1} → statement M
 parse-standalone-attrs-spec =

@@ -1,5 +1,5 @@
 use mathlib.Core.Path.{sym, _∙_}
-use Rattle.blocks.proofs.Finds.{sized-is}
+use Rattle.blocks.proofs.ByLine.{block-none, block-at}
 use Rattle.entries.proofs.Starts as laws
 use borrow.Author.Needs.{needs}
 use Rattle.entries.proofs.parse_standalone_attrs_block.Statement.{statement}
@@ -21,13 +21,13 @@ read-at-requires : tie.Need-read-at-requires
 read-at-requires c κs = search needs
 
 returns : tie.Need-returns
-returns c = laws.read-none _ _ (c .before .before .before .before .line-start .ensures) (c .before .before .r .given .1) _ (laws.block-none _ _ (c .before .before .before .before .line-start .ensures) (c .before .before .r .given .1) _ _) (c .no-block .ensures)
+returns c = let e = sym (c .before .before .before .before .line-start .ensures) ∙ (c .before .before .r .given .1) in laws.read-none _ _ e _ (block-none _ _ _ _ e) (c .no-block .ensures)
 
 same-length : tie.Need-same-length
 same-length c = search needs
 
 returns-2 : tie.Need-returns-2
-returns-2 c = laws.read-at _ _ (c .before .before .before .before .before .before .before .line-start .ensures) (c .before .before .before .before .before .at .given .1) _ (laws.block-at _ _ (c .before .before .before .before .before .before .before .line-start .ensures) (c .before .before .before .before .before .at .given .1) _ _ ∙ sym (sized-is _ _ (laws.text-fits _ _ (c .before .before .before .before .before .before .before .line-start .ensures) (c .before .before .before .before .before .at .given .1)))) (c .before .before .read-at .ensures .0) (c .before .before .read-at .ensures .1)
+returns-2 c = let e = sym (c .before .before .before .before .before .before .before .line-start .ensures) ∙ (c .before .before .before .before .before .at .given .1) in laws.read-at _ _ e _ (block-at _ _ _ _ e) (c .before .before .read-at .ensures .0) (c .before .before .read-at .ensures .1)
 
 pub parse-standalone-attrs-block-spec : {M : Type 1} → statement M
 parse-standalone-attrs-block-spec =

@@ -1,5 +1,5 @@
 use mathlib.Core.Path.{sym, _∙_}
-use Rattle.blocks.proofs.Finds.{sized-is}
+use Rattle.blocks.proofs.ByLine.{wraps-none, wraps-at}
 use Rattle.entries.proofs.Starts as laws
 use borrow.Author.Needs.{needs}
 use Rattle.entries.proofs.wrapped_attrs_run_at.Statement.{statement}
@@ -21,13 +21,13 @@ wrapped-at-requires : tie.Need-wrapped-at-requires
 wrapped-at-requires c κs = search needs
 
 returns : tie.Need-returns
-returns c = laws.read-none _ _ (c .before .before .before .before .line-start .ensures) (c .before .before .r .given .1) _ (laws.wrapped-none _ _ (c .before .before .before .before .line-start .ensures) (c .before .before .r .given .1) _ _) (c .no-block .ensures)
+returns c = let e = sym (c .before .before .before .before .line-start .ensures) ∙ (c .before .before .r .given .1) in laws.read-none _ _ e _ (wraps-none _ _ _ _ e) (c .no-block .ensures)
 
 same-length : tie.Need-same-length
 same-length c = search needs
 
 returns-2 : tie.Need-returns-2
-returns-2 c = laws.read-at _ _ (c .before .before .before .before .before .before .before .line-start .ensures) (c .before .before .before .before .before .at .given .1) _ (laws.wrapped-at _ _ (c .before .before .before .before .before .before .before .line-start .ensures) (c .before .before .before .before .before .at .given .1) _ _ ∙ sym (sized-is _ _ (laws.text-fits _ _ (c .before .before .before .before .before .before .before .line-start .ensures) (c .before .before .before .before .before .at .given .1)))) (c .before .before .wrapped-at .ensures .0) (c .before .before .wrapped-at .ensures .1)
+returns-2 c = let e = sym (c .before .before .before .before .before .before .before .line-start .ensures) ∙ (c .before .before .before .before .before .at .given .1) in laws.read-at _ _ e _ (wraps-at _ _ _ _ e) (c .before .before .wrapped-at .ensures .0) (c .before .before .wrapped-at .ensures .1)
 
 pub wrapped-attrs-run-at-spec : {M : Type 1} → statement M
 wrapped-attrs-run-at-spec =

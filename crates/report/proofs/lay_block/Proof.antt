@@ -1,6 +1,3 @@
-use mathlib.Core.Path.{sym}
-use native.Mathlib.Omega.{arith}
-use lib.Seq.{length-take-le}
 use Rattle.report.proofs.Lays as lays
 use borrow.Author.Needs.{needs}
 use Rattle.report.proofs.lay_block.Statement.{statement}
@@ -15,6 +12,9 @@ lay-refused-requires c κs = search needs
 enum-told : tie.Need-enum-told
 enum-told c = search needs
 
+text-over-requires : tie.Need-text-over-requires
+text-over-requires c κs = search needs
+
 lay-set-requires : tie.Need-lay-set-requires
 lay-set-requires c κs = search needs
 
@@ -22,25 +22,13 @@ same-length : tie.Need-same-length
 same-length c = search needs
 
 returns : tie.Need-returns
-returns c = lays.over-text (c .before .before .before .before .before .before .before .before .before .before .args .n) (c .before .before .before .before .before .before .before .before .before .before .args .block .lines) (c .before .before .before .before .before .before .before .before .before .before .args .text .now) (c .before .before .before .before .before .before .before .before .before .before .args .join .now) (c .before .before .before .before .before .before .before .before .before .before .args .block .joined) (c .before .before .before .before .before .before .before .before .before .before .args .block .set) (c .before .before .before .before .before .enum-told .given .1) (c .before .before .before .before .if1 .taken) (c .before .before .lay-set .ensures)
-
-slice-aggregate-lay-set : tie.Need-slice-aggregate-lay-set
-slice-aggregate-lay-set c = sym (length-take-le _ _ (omega (arith, (c .before .before .before .before .before .before .before .before .pre .1))))
-
-lay-set-requires-2 : tie.Need-lay-set-requires-2
-lay-set-requires-2 c κs = search needs
+returns c = lays.of-refused (c .before .before .before .before .before .before .before .before .before .before .args .n) (c .before .before .before .before .before .before .before .before .before .before .args .block .lines) (c .before .before .before .before .before .before .before .before .before .before .args .text .now) (c .before .before .before .before .before .before .before .before .before .before .args .join .now) (c .before .before .before .before .before .before .before .before .before .before .args .block .joined) (c .before .before .before .before .before .before .before .before .before .before .args .block .set) (c .before .before .before .before .before .outcome .given .1) (c .before .before .lay-refused .ensures)
 
 same-length-2 : tie.Need-same-length-2
 same-length-2 c = search needs
 
 returns-2 : tie.Need-returns-2
-returns-2 c = lays.of-refused (c .before .before .before .before .before .before .before .before .before .before .args .n) (c .before .before .before .before .before .before .before .before .before .before .args .block .lines) (c .before .before .before .before .before .before .before .before .before .before .args .text .now) (c .before .before .before .before .before .before .before .before .before .before .args .join .now) (c .before .before .before .before .before .before .before .before .before .before .args .block .joined) (c .before .before .before .before .before .before .before .before .before .before .args .block .set) (c .before .before .before .before .before .outcome .given .1) (c .before .before .lay-refused .ensures)
-
-same-length-3 : tie.Need-same-length-3
-same-length-3 c = search needs
-
-returns-3 : tie.Need-returns-3
-returns-3 c = lays.over-joined (c .before .before .before .before .before .before .before .before .before .before .before .args .n) (c .before .before .before .before .before .before .before .before .before .before .before .args .block .lines) (c .before .before .before .before .before .before .before .before .before .before .before .args .text .now) (c .before .before .before .before .before .before .before .before .before .before .before .args .join .now) (c .before .before .before .before .before .before .before .before .before .before .before .args .block .joined) (c .before .before .before .before .before .before .before .before .before .before .before .args .block .set) (c .before .before .before .before .before .before .enum-told .given .1) (c .before .before .before .before .before .if1 .left) (c .before .before .lay-set2 .ensures)
+returns-2 c = lays.of-done (c .before .before .before .before .before .before .before .before .before .before .args .n) (c .before .before .before .before .before .before .before .before .before .before .args .block .lines) (c .before .before .before .before .before .before .before .before .before .before .args .text .now) (c .before .before .before .before .before .before .before .before .before .before .args .join .now) (c .before .before .before .before .before .before .before .before .before .before .args .block .joined) (c .before .before .before .before .before .before .before .before .before .before .args .block .set) (c .before .before .before .before .before .enum-told .given .1) (c .before .before .before .before .text-over .ensures) (c .before .before .lay-set .ensures)
 
 pub lay-block-spec : {M : Type 1} → statement M
 lay-block-spec =
@@ -49,12 +37,9 @@ lay-block-spec =
     enum-known-outcome
     lay-refused-requires
     enum-told
+    text-over-requires
     lay-set-requires
     same-length
     returns
-    slice-aggregate-lay-set
-    lay-set-requires-2
     same-length-2
-    returns-2
-    same-length-3
-    returns-3)
+    returns-2)

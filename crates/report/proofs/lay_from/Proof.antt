@@ -64,7 +64,7 @@ add-n : tie.Need-add-n Inv-sheet μ-sheet
 add-n c = omega (arith, lays.sum-le (c .before .before .before .before .before .before .before .before .before .before .sheet .inv) (omega (arith, (c .before .before .before .before .before .before .before .before .before .if1 .left))) (omega (arith, (c .before .before .before .before .before .before .before .before .if2 .left))) (c .before .before .before .before .before .before .next-block .ensures .0) (c .before .before .before .before .before .before .next-block .ensures .1) (c .before .if3 .left), lays.next-within (c .before .before .before .before .before .before .before .before .before .before .sheet .inv) (omega (arith, (c .before .before .before .before .before .before .before .before .before .if1 .left))) (omega (arith, (c .before .before .before .before .before .before .before .before .if2 .left))) (c .before .before .before .before .before .before .next-block .ensures .0) (c .before .before .before .before .before .before .next-block .ensures .1) (c .before .if3 .left), (c .before .before .before .before .before .before .before .before .before .before .sheet .inv .fits))
 
 lay-block-requires : tie.Need-lay-block-requires Inv-sheet μ-sheet
-lay-block-requires c κs = (omega (arith, (c .before .before .before .before .before .before .before .before .before .before .if2 .left), (c .before .before .before .before .before .before .before .before .before .before .before .before .sheet .inv .room), lays.lays-long (c .before .before .before .before .before .before .before .before .before .before .before .before .sheet .inv)), lays.joined-le (c .before .before .before .before .before .before .before .before .before .before .before .before .sheet .inv) (omega (arith, (c .before .before .before .before .before .before .before .before .before .before .before .if1 .left))) (omega (arith, (c .before .before .before .before .before .before .before .before .before .before .if2 .left))) (c .before .before .before .before .before .before .before .before .next-block .ensures .0) (c .before .before .before .before .before .before .before .before .next-block .ensures .1) (c .before .before .before .if3 .left))
+lay-block-requires c κs = omega (arith, (c .before .before .before .before .before .before .before .before .before .before .if2 .left), (c .before .before .before .before .before .before .before .before .before .before .before .before .sheet .inv .room), lays.lays-long (c .before .before .before .before .before .before .before .before .before .before .before .before .sheet .inv))
 
 add-line : tie.Need-add-line Inv-sheet μ-sheet
 add-line c = omega (arith, lays.sum-le (c .before .before .before .before .before .before .before .before .before .before .before .before .before .before .before .before .sheet .inv) (omega (arith, (c .before .before .before .before .before .before .before .before .before .before .before .before .before .before .before .if1 .left))) (omega (arith, (c .before .before .before .before .before .before .before .before .before .before .before .before .before .before .if2 .left))) (c .before .before .before .before .before .before .before .before .before .before .before .before .next-block .ensures .0) (c .before .before .before .before .before .before .before .before .before .before .before .before .next-block .ensures .1) (c .before .before .before .before .before .before .before .if3 .left), lays.next-within (c .before .before .before .before .before .before .before .before .before .before .before .before .before .before .before .before .sheet .inv) (omega (arith, (c .before .before .before .before .before .before .before .before .before .before .before .before .before .before .before .if1 .left))) (omega (arith, (c .before .before .before .before .before .before .before .before .before .before .before .before .before .before .if2 .left))) (c .before .before .before .before .before .before .before .before .before .before .before .before .next-block .ensures .0) (c .before .before .before .before .before .before .before .before .before .before .before .before .next-block .ensures .1) (c .before .before .before .before .before .before .before .if3 .left), (c .before .before .before .before .before .before .before .before .before .before .before .before .before .before .before .before .sheet .inv .fits))

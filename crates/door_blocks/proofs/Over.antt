@@ -1,0 +1,96 @@
+-- What a block's set is over: a run that is found has joined bytes.
+-- Assumes nothing.
+use mathlib.Core.Path.{_≡_, refl, ap, _∙_}
+use mathlib.Core.Bool.{Bool, true, false, cond}
+use mathlib.Core.List.{List, [], _∷_, _++_}
+use Prim.Native.Nat.{ℕ}
+use lib.Dec.{ltb, eqb·suc-zero}
+use lib.ListN.{length, drop}
+use lib.Seq.{take-at}
+use Rattle.lists.proofs.More.{contra}
+use Rattle.refusals.specs.Numbers.{maxText}
+use Rattle.refusals.specs.declared.Refusal.{Refusal}
+use Rattle.lines.specs.Trim.{trim}
+use Rattle.payloads.specs.Payloads.{endsInClose}
+use Rattle.chain.specs.Chain.{blocksFrom, readBlocks, goodLine}
+use Rattle.lists.specs.Lists.{isSome}
+use Rattle.runs.specs.Runs.{Run, runAt}
+use Rattle.runs.specs.declared.Stop as stops
+use Rattle.runs.specs.declared.Stop.the-variants as stop
+use Rattle.fronts.specs.Fronts.{lineAt, frontOf, opensAt}
+use Rattle.blocks.specs.Blocks.{Found, nothing, closedRun, ended, runFound, found, wrapped, sized, joinHolds, blockOf}
+use Rattle.starts.specs.Starts.{startAt, onStart}
+use Rattle.blocks.specs.ByLine.{blockFound, wrappedFound}
+use Rattle.blocks.specs.declared.Block.{Block}
+use Rattle.starts.specs.declared.Start as starts
+use Rattle.starts.specs.declared.Start.the-variants as start
+use Rattle.tells.specs.Tells.{toldIn}
+use Rattle.door_blocks.specs.Blocks.{blockBy, blockSaid}
+use Rattle.sets.specs.Types.{textOver}
+
+-- ---- a run has joined bytes
+
+pub data Solid : Found → Type 0 where
+  line : Solid Found.line
+  run : {r : Run} → isSome (r .text) ≡ true → Solid (Found.run r)
+  none : {q : Refusal} {x : List ℕ} {n : ℕ} → Solid (Found.none q x n)
+
+by-test : (b : Bool) {x y : Found} → Solid x → Solid y → Solid (cond b x y)
+by-test true p q = p
+by-test false p q = q
+
+closed : (r : Run) (x : List ℕ) → r .text ≡ x → Solid (closedRun r (goodLine x 0 (length x)))
+unfolding goodLine readBlocks blocksFrom
+closed r [] e = Solid.none
+closed r (b ∷ s) e = by-test (goodLine (b ∷ s) 0 (length (b ∷ s))) (Solid.run (ap isSome e)) Solid.none
+
+ended-solid : (r : Run) (s : stops.Stop) → Solid (ended r s)
+ended-solid r stop.Closed = closed r (r .text) refl
+ended-solid r (stop.Refused q) = Solid.none
+
+run-solid : (t : List ℕ) (at base cap : ℕ) → Solid (runFound t at base cap)
+unfolding runFound
+run-solid t at base cap = ended-solid (runAt cap base t at) (runAt cap base t at .stop)
+
+found-solid : (t : List ℕ) (at base cap : ℕ) → Solid (found t at base cap)
+unfolding found
+found-solid t at base cap = by-test (opensAt t at) (by-test (goodLine t (frontOf t at .from) (frontOf t at .to)) Solid.line (by-test (endsInClose (trim (lineAt t at))) Solid.none (run-solid t at base cap))) Solid.none
+
+wrapped-solid : (t : List ℕ) (at base cap : ℕ) → Solid (wrapped t at base cap)
+unfolding wrapped
+wrapped-solid t at base cap = by-test (opensAt t at) (run-solid t at base cap) Solid.none
+
+from-start : (g : ℕ → Found) → ((at : ℕ) → Solid (g at)) → (s : starts.Start) → Solid (onStart nothing g s)
+from-start g h (start.Refused r) = Solid.none
+from-start g h (start.At at) = h at
+
+pub block-solid : (t : List ℕ) (n base cap : ℕ) → Solid (blockFound t n base cap)
+unfolding blockFound
+block-solid t n base cap = from-start (λ at. found t at base cap) (λ at. found-solid t at base cap) (startAt t n)
+
+pub wraps-solid : (t : List ℕ) (n base cap : ℕ) → Solid (wrappedFound t n base cap)
+unfolding wrappedFound
+wraps-solid t n base cap = from-start (λ at. wrapped t at base cap) (λ at. wrapped-solid t at base cap) (startAt t n)
+
+pub sized-solid : (t : List ℕ) (at base cap : ℕ) → Solid (sized t (found t at base cap))
+unfolding sized
+sized-solid t at base cap = by-test (ltb maxText (length t)) Solid.none (found-solid t at base cap)
+
+-- ---- so its set is over what the join buffer holds at its front
+
+joined-over : (t x j : List ℕ) → isSome x ≡ true → textOver t (x ++ drop (length x) j) (length x) ≡ x
+unfolding textOver
+joined-over t [] j h = contra false h refl
+joined-over t (b ∷ s) j h = rw (eqb·suc-zero (length s)) (take-at (b ∷ s) (drop (length (b ∷ s)) j) (length (b ∷ s)) refl)
+
+over-found : (t : List ℕ) (at : ℕ) (f : Found) (j buf : List ℕ) → Solid f → blockBy (blockOf t at f) (textOver t (joinHolds j f) (blockOf t at f .joined)) buf ≡ blockSaid t at f buf
+unfolding blockSaid blockOf joinHolds textOver
+over-found t at Found.line j buf h = refl
+over-found t at (Found.run r) j buf (Solid.run h) = ap (λ u. blockBy (blockOf t at (Found.run r)) u buf) (joined-over t (r .text) j h)
+over-found t at (Found.none q x n) j buf h = refl
+
+pub block-says : (t j told : List ℕ) (at : ℕ) (f : Found) (buf : List ℕ) {b : Block} {i o v : List ℕ} {r : ℕ} → Solid f → b ≡ blockOf t at f → i ≡ joinHolds j f → r ≡ blockBy b (textOver t i (b .joined)) buf .number → o ≡ blockBy b (textOver t i (b .joined)) buf .out → v ≡ toldIn told (blockBy b (textOver t i (b .joined)) buf .told) → (r ≡ blockSaid t at f buf .number) × ((i ≡ joinHolds j f) × ((o ≡ blockSaid t at f buf .out) × (v ≡ toldIn told (blockSaid t at f buf .told))))
+block-says t j told at f buf {b} {i} {o} {v} {r} h p q x y z = (x ∙ ap (λ s. s .number) e, (q, (y ∙ ap (λ s. s .out) e, z ∙ ap (λ s. toldIn told (s .told)) e)))
+  where
+    e : blockBy b (textOver t i (b .joined)) buf ≡ blockSaid t at f buf
+    e = rw (p, q) (over-found t at f j buf h)

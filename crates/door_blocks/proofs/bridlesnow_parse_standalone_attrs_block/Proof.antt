@@ -1,0 +1,33 @@
+use Rattle.door_blocks.proofs.Over as laws
+use borrow.Author.Needs.{needs}
+use Rattle.door_blocks.proofs.bridlesnow_parse_standalone_attrs_block.Statement.{statement}
+use Rattle.door_blocks.proofs.bridlesnow_parse_standalone_attrs_block.Tie as tie
+
+parse-standalone-attrs-block-requires : tie.Need-parse-standalone-attrs-block-requires
+parse-standalone-attrs-block-requires c κs = search needs
+
+say-block-requires : tie.Need-say-block-requires
+say-block-requires c κs = search needs
+
+same-length : tie.Need-same-length
+same-length c = search needs
+
+same-length-2 : tie.Need-same-length-2
+same-length-2 c = search needs
+
+same-length-3 : tie.Need-same-length-3
+same-length-3 c = search needs
+
+returns : tie.Need-returns
+returns c = laws.block-says _ _ _ _ _ _ (laws.block-solid _ _ _ _) ((c .before .before .before .before .before .before .before .before .before .before .parse-standalone-attrs-block .ensures .0)) ((c .before .before .before .before .before .before .before .before .before .before .parse-standalone-attrs-block .ensures .1)) ((c .before .before .before .before .say-block .ensures .0)) ((c .before .before .before .before .say-block .ensures .1 .0)) ((c .before .before .before .before .say-block .ensures .1 .1))
+
+pub bridlesnow-parse-standalone-attrs-block-spec : {M : Type 1} → statement M
+bridlesnow-parse-standalone-attrs-block-spec =
+    tie.close
+    (tie.spec
+    parse-standalone-attrs-block-requires
+    say-block-requires
+    same-length
+    same-length-2
+    same-length-3
+    returns)

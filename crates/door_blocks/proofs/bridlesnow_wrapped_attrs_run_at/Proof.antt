@@ -1,0 +1,33 @@
+use Rattle.door_blocks.proofs.Over as laws
+use borrow.Author.Needs.{needs}
+use Rattle.door_blocks.proofs.bridlesnow_wrapped_attrs_run_at.Statement.{statement}
+use Rattle.door_blocks.proofs.bridlesnow_wrapped_attrs_run_at.Tie as tie
+
+wrapped-attrs-run-at-requires : tie.Need-wrapped-attrs-run-at-requires
+wrapped-attrs-run-at-requires c κs = search needs
+
+say-block-requires : tie.Need-say-block-requires
+say-block-requires c κs = search needs
+
+same-length : tie.Need-same-length
+same-length c = search needs
+
+same-length-2 : tie.Need-same-length-2
+same-length-2 c = search needs
+
+same-length-3 : tie.Need-same-length-3
+same-length-3 c = search needs
+
+returns : tie.Need-returns
+returns c = laws.block-says _ _ _ _ _ _ (laws.wraps-solid _ _ _ _) ((c .before .before .before .before .before .before .before .before .before .before .wrapped-attrs-run-at .ensures .0)) ((c .before .before .before .before .before .before .before .before .before .before .wrapped-attrs-run-at .ensures .1)) ((c .before .before .before .before .say-block .ensures .0)) ((c .before .before .before .before .say-block .ensures .1 .0)) ((c .before .before .before .before .say-block .ensures .1 .1))
+
+pub bridlesnow-wrapped-attrs-run-at-spec : {M : Type 1} → statement M
+bridlesnow-wrapped-attrs-run-at-spec =
+    tie.close
+    (tie.spec
+    wrapped-attrs-run-at-requires
+    say-block-requires
+    same-length
+    same-length-2
+    same-length-3
+    returns)

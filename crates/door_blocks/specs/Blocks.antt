@@ -1,0 +1,13 @@
+-- What a caller from C or Rust is answered of a block.
+use Prim.Native.Nat.{ℕ}
+use mathlib.Core.List.{List, [], _∷_}
+use Rattle.blocks.specs.Blocks.{Found, blockOf, textIn}
+use Rattle.blocks.specs.declared.Block.{Block}
+use Rattle.tells.specs.Tells.{checkOut, Said, setSaid}
+
+-- a block, and then 10: "A set has ranges of one text: the lent one or, for a wrapped run, the joined text, whose length is answered too."
+abbrev pub blockBy : Block → List ℕ → List ℕ → Said
+blockBy b t buf = setSaid (checkOut (b .outcome)) t (b .set) buf (λ n. b .lines ∷ b .next ∷ b .lookahead ∷ b .joined ∷ n ∷ [])
+
+unfoldable pub blockSaid : List ℕ → ℕ → Found → List ℕ → Said
+blockSaid t at f buf = blockBy (blockOf t at f) (textIn t f) buf

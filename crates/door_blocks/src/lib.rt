@@ -1,0 +1,89 @@
+// What C and Rust call to read a block of one or more lines: the number of its refusal, 0 where nothing is refused; its set as canonical text in lent memory.
+use blocks::Block;
+ghost use mathlib.Core.Path.{_≡_};
+ghost use lib.ListN.{length};
+ghost use Rattle.sets.specs.Types.{textOver};
+ghost use Rattle.blocks.specs.Blocks.{found, sized, joinHolds};
+ghost use Rattle.starts.specs.Starts.{placeOf};
+ghost use Rattle.blocks.specs.ByLine.{blockFound, wrappedFound};
+ghost use Rattle.tells.specs.Tells.{toldIn};
+ghost use Rattle.door_blocks.specs.Blocks.{blockBy, blockSaid};
+
+// Writes and tells what a block reads.
+fn say_block<'a>(
+    text: &'a [u8],
+    block: Block,
+    join: &'a [u8],
+    out: &mut [u8],
+    told: &mut [usize],
+) -> u8
+    ensures { λ r. ⌜ r ≡ blockBy block (textOver (now (text .entry)) (now (join .entry)) (block .joined)) (now (out .entry)) .number ⌝ }
+    ensures { λ r. ⌜ now (out .exit) ≡ blockBy block (textOver (now (text .entry)) (now (join .entry)) (block .joined)) (now (out .entry)) .out ⌝ }
+    ensures { λ r. ⌜ now (told .exit) ≡ toldIn (now (told .entry)) (blockBy block (textOver (now (text .entry)) (now (join .entry)) (block .joined)) (now (out .entry)) .told) ⌝ }
+{
+    let outcome = block.outcome;
+    let over = sets::text_over(text, join, block.joined);
+    let w = tells::write_out(tells::check_out(outcome), over, block.set, out);
+    tells::tell(told, 0, block.lines);
+    tells::tell(told, 1, block.next);
+    tells::tell(told, 2, block.lookahead);
+    tells::tell(told, 3, block.joined);
+    tells::tell(told, 4, tells::wrote_len(w));
+    tells::wrote_number(w)
+}
+
+// Reads the block of one or more lines at a line. Tells its lines, the place behind it, the lookahead, how many bytes were joined, and the
+// length of its canonical text.
+#[no_mangle]
+pub extern "C" fn bridlesnow_parse_standalone_attrs_block(
+    text: &[u8],
+    line: usize,
+    join: &mut [u8],
+    out: &mut [u8],
+    told: &mut [usize],
+) -> u8
+    ensures { λ r. ⌜ r ≡ blockSaid (now (text .entry)) (placeOf (now (text .entry)) line) (blockFound (now (text .entry)) line 0 (length (now (join .entry)))) (now (out .entry)) .number ⌝ }
+    ensures { λ r. ⌜ now (join .exit) ≡ joinHolds (now (join .entry)) (blockFound (now (text .entry)) line 0 (length (now (join .entry)))) ⌝ }
+    ensures { λ r. ⌜ now (out .exit) ≡ blockSaid (now (text .entry)) (placeOf (now (text .entry)) line) (blockFound (now (text .entry)) line 0 (length (now (join .entry)))) (now (out .entry)) .out ⌝ }
+    ensures { λ r. ⌜ now (told .exit) ≡ toldIn (now (told .entry)) (blockSaid (now (text .entry)) (placeOf (now (text .entry)) line) (blockFound (now (text .entry)) line 0 (length (now (join .entry)))) (now (out .entry)) .told) ⌝ }
+{
+    let block = entries::parse_standalone_attrs_block(text, line, join);
+    say_block(text, block, join, out, told)
+}
+
+// Reads the wrapped run at a line; `base` is added to its first line's brace column. Tells as a block does.
+#[no_mangle]
+pub extern "C" fn bridlesnow_wrapped_attrs_run_at(
+    text: &[u8],
+    line: usize,
+    base: usize,
+    join: &mut [u8],
+    out: &mut [u8],
+    told: &mut [usize],
+) -> u8
+    ensures { λ r. ⌜ r ≡ blockSaid (now (text .entry)) (placeOf (now (text .entry)) line) (wrappedFound (now (text .entry)) line base (length (now (join .entry)))) (now (out .entry)) .number ⌝ }
+    ensures { λ r. ⌜ now (join .exit) ≡ joinHolds (now (join .entry)) (wrappedFound (now (text .entry)) line base (length (now (join .entry)))) ⌝ }
+    ensures { λ r. ⌜ now (out .exit) ≡ blockSaid (now (text .entry)) (placeOf (now (text .entry)) line) (wrappedFound (now (text .entry)) line base (length (now (join .entry)))) (now (out .entry)) .out ⌝ }
+    ensures { λ r. ⌜ now (told .exit) ≡ toldIn (now (told .entry)) (blockSaid (now (text .entry)) (placeOf (now (text .entry)) line) (wrappedFound (now (text .entry)) line base (length (now (join .entry)))) (now (out .entry)) .told) ⌝ }
+{
+    let block = entries::wrapped_attrs_run_at(text, line, base, join);
+    say_block(text, block, join, out, told)
+}
+
+// Reads the block whose first line begins at the place `at` of a text that was checked before. Tells as a block by its line does.
+#[no_mangle]
+pub extern "C" fn bridlesnow_read_block_at(
+    text: &[u8],
+    at: usize,
+    join: &mut [u8],
+    out: &mut [u8],
+    told: &mut [usize],
+) -> u8
+    ensures { λ r. ⌜ r ≡ blockSaid (now (text .entry)) at (sized (now (text .entry)) (found (now (text .entry)) at 0 (length (now (join .entry))))) (now (out .entry)) .number ⌝ }
+    ensures { λ r. ⌜ now (join .exit) ≡ joinHolds (now (join .entry)) (sized (now (text .entry)) (found (now (text .entry)) at 0 (length (now (join .entry))))) ⌝ }
+    ensures { λ r. ⌜ now (out .exit) ≡ blockSaid (now (text .entry)) at (sized (now (text .entry)) (found (now (text .entry)) at 0 (length (now (join .entry))))) (now (out .entry)) .out ⌝ }
+    ensures { λ r. ⌜ now (told .exit) ≡ toldIn (now (told .entry)) (blockSaid (now (text .entry)) at (sized (now (text .entry)) (found (now (text .entry)) at 0 (length (now (join .entry))))) (now (out .entry)) .told) ⌝ }
+{
+    let block = blocks::read_at(text, at, join);
+    say_block(text, block, join, out, told)
+}

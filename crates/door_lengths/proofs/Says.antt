@@ -1,0 +1,14 @@
+-- An answer about a block's length, made of what the parts promise.
+-- Assumes nothing.
+use mathlib.Core.Path.{_≡_, ap, _∙_}
+use mathlib.Core.List.{List}
+use Prim.Native.Nat.{ℕ}
+use Rattle.blocks.specs.Blocks.{Found, joinHolds}
+use Rattle.lengths.specs.Lengths.{lengthOf, lengthNo, measured}
+use Rattle.lengths.specs.declared.Measure.{Measure}
+use Rattle.tells.specs.Tells.{toldIn}
+use Rattle.door_lengths.specs.Lengths.{toldBy, lengthTold}
+
+pub length-says : (t j told : List ℕ) (at : ℕ) (f : Found) {m : Measure} {i v : List ℕ} {r : ℕ} → m ≡ measured t at f → i ≡ joinHolds j f → r ≡ lengthNo (m .length) → v ≡ toldIn told (toldBy m) → (r ≡ lengthNo (lengthOf f)) × ((i ≡ joinHolds j f) × (v ≡ toldIn told (lengthTold t at f)))
+unfolding lengthTold measured
+length-says t j told at f {m} {i} {v} {r} p q x z = (x ∙ ap (λ s. lengthNo (s .length)) p, (q, z ∙ ap (λ s. toldIn told (toldBy s)) p))

@@ -1,0 +1,13 @@
+-- What a caller from C or Rust is told of a block that is measured.
+use Prim.Native.Nat.{ℕ}
+use mathlib.Core.List.{List, [], _∷_}
+use Rattle.blocks.specs.Blocks.{Found}
+use Rattle.lengths.specs.Lengths.{measured, linesIn}
+use Rattle.lengths.specs.declared.Measure.{Measure}
+
+-- measuring: "Measuring never gives 6 to 8"
+abbrev pub toldBy : Measure → List ℕ
+toldBy m = linesIn (m .length) ∷ m .next ∷ m .lookahead ∷ m .joined ∷ []
+
+unfoldable pub lengthTold : List ℕ → ℕ → Found → List ℕ
+lengthTold t at f = toldBy (measured t at f)

@@ -1,0 +1,12 @@
+-- An answer about a part of a report, made of what the parts promise.
+-- Assumes nothing.
+use mathlib.Core.Path.{_≡_, ap, _∙_}
+use mathlib.Core.List.{List}
+use Prim.Native.Nat.{ℕ}
+use Rattle.report.specs.Parts.{Laid, toldNo, shown}
+use Rattle.report.specs.declared.Part.{Part}
+use Rattle.tells.specs.Tells.{toldIn}
+use Rattle.door_reports.specs.Reports.{partTold}
+
+pub part-told : (told : List ℕ) (R : Laid) {x : Part} {v : List ℕ} {r : ℕ} {i j o w : List ℕ} → x ≡ shown R → i ≡ j → o ≡ w → r ≡ toldNo (x .told) → v ≡ toldIn told (partTold x) → (r ≡ toldNo (R .told)) × ((i ≡ j) × ((o ≡ w) × (v ≡ toldIn told (partTold (shown R)))))
+part-told told R {x} {v} {r} e b c n s = (n ∙ ap (λ y. toldNo (y .told)) e, (b, (c, s ∙ ap (λ y. toldIn told (partTold y)) e)))

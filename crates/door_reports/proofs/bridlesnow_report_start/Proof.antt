@@ -1,0 +1,35 @@
+use lib.ListN.{length}
+use Rattle.report.specs.Parts.{startOf}
+use Rattle.door_reports.proofs.Says as laws
+use borrow.Author.Needs.{needs}
+use Rattle.door_reports.proofs.bridlesnow_report_start.Statement.{statement}
+use Rattle.door_reports.proofs.bridlesnow_report_start.Tie as tie
+
+report-start-requires : tie.Need-report-start-requires
+report-start-requires c κs = search needs
+
+say-part-requires : tie.Need-say-part-requires
+say-part-requires c κs = search needs
+
+same-length : tie.Need-same-length
+same-length c = search needs
+
+same-length-2 : tie.Need-same-length-2
+same-length-2 c = search needs
+
+same-length-3 : tie.Need-same-length-3
+same-length-3 c = search needs
+
+returns : tie.Need-returns
+returns c = laws.part-told _ (startOf (c .before .before .before .before .before .before .before .before .before .before .before .before .before .before .before .args .text .now) (length (c .before .before .before .before .before .before .before .before .before .before .before .before .before .before .before .args .join .now)) (length (c .before .before .before .before .before .before .before .before .before .before .before .before .before .before .before .args .out .now))) ((c .before .before .before .before .before .before .before .before .report-start .ensures .0)) ((c .before .before .before .before .before .before .before .before .report-start .ensures .1 .0)) ((c .before .before .before .before .before .before .before .before .report-start .ensures .1 .1)) ((c .before .before .say-part .ensures .0)) ((c .before .before .say-part .ensures .1))
+
+pub bridlesnow-report-start-spec : {M : Type 1} → statement M
+bridlesnow-report-start-spec =
+    tie.close
+    (tie.spec
+    report-start-requires
+    say-part-requires
+    same-length
+    same-length-2
+    same-length-3
+    returns)

@@ -1,0 +1,68 @@
+// What C and Rust call for a report, part by part, into lent memory: the number of its refusal, 0 where nothing is refused.
+use report::Part;
+use report::Told;
+ghost use mathlib.Core.Path.{_≡_};
+ghost use lib.ListN.{length};
+ghost use Rattle.runs.specs.Runs.{over};
+ghost use Rattle.sheets.specs.Sheets.{joinBehind};
+ghost use Rattle.report.specs.Parts.{toldNo, startOf, partOf, shown};
+ghost use Rattle.tells.specs.Tells.{toldIn};
+ghost use Rattle.door_reports.specs.Reports.{partTold};
+
+// The number of a part of a report.
+fn told_number(t: Told) -> u8
+    ensures { λ r. ⌜ r ≡ toldNo t ⌝ }
+{
+    match t {
+        Told::Refused(r) => refusals::number(r),
+        Told::More => 0,
+        Told::Done => 0,
+    }
+}
+
+// Tells how far a report was laid.
+fn say_part(part: Part, told: &mut [usize]) -> u8
+    ensures { λ r. ⌜ r ≡ toldNo (part .told) ⌝ }
+    ensures { λ r. ⌜ now (told .exit) ≡ toldIn (now (told .entry)) (partTold part) ⌝ }
+{
+    let answer = part.told;
+    tells::tell(told, 0, part.len);
+    tells::tell(told, 1, part.at);
+    tells::tell(told, 2, part.line);
+    told_number(answer)
+}
+
+// Lays the report on a sheet from its first line on. Tells how many bytes are laid, and the place and the line at which it goes on; the line is 0
+// where the report is whole.
+#[no_mangle]
+pub extern "C" fn bridlesnow_report_start(
+    text: &[u8],
+    join: &mut [u8],
+    out: &mut [u8],
+    told: &mut [usize],
+) -> u8
+    ensures { λ r. ⌜ r ≡ toldNo (startOf (now (text .entry)) (length (now (join .entry))) (length (now (out .entry))) .told) ⌝ }
+    ensures { λ r. ⌜ now (join .exit) ≡ joinBehind (now (join .entry)) (startOf (now (text .entry)) (length (now (join .entry))) (length (now (out .entry))) .past) ⌝ }
+    ensures { λ r. ⌜ now (out .exit) ≡ over (startOf (now (text .entry)) (length (now (join .entry))) (length (now (out .entry))) .text) (now (out .entry)) ⌝ }
+    ensures { λ r. ⌜ now (told .exit) ≡ toldIn (now (told .entry)) (partTold (shown (startOf (now (text .entry)) (length (now (join .entry))) (length (now (out .entry)))))) ⌝ }
+{
+    say_part(report::report_start(text, join, out), told)
+}
+
+// Goes on with a report at a place and a line that the call before has told. Tells as above.
+#[no_mangle]
+pub extern "C" fn bridlesnow_report_part(
+    text: &[u8],
+    at: usize,
+    line: usize,
+    join: &mut [u8],
+    out: &mut [u8],
+    told: &mut [usize],
+) -> u8
+    ensures { λ r. ⌜ r ≡ toldNo (partOf (now (text .entry)) at line (length (now (join .entry))) (length (now (out .entry))) .told) ⌝ }
+    ensures { λ r. ⌜ now (join .exit) ≡ joinBehind (now (join .entry)) (partOf (now (text .entry)) at line (length (now (join .entry))) (length (now (out .entry))) .past) ⌝ }
+    ensures { λ r. ⌜ now (out .exit) ≡ over (partOf (now (text .entry)) at line (length (now (join .entry))) (length (now (out .entry))) .text) (now (out .entry)) ⌝ }
+    ensures { λ r. ⌜ now (told .exit) ≡ toldIn (now (told .entry)) (partTold (shown (partOf (now (text .entry)) at line (length (now (join .entry))) (length (now (out .entry)))))) ⌝ }
+{
+    say_part(report::report_part(text, at, line, join, out), told)
+}

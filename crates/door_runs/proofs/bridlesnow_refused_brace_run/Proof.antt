@@ -1,0 +1,56 @@
+use lib.ListN.{length}
+use Rattle.refused.specs.Refused.{refusedRun}
+use Rattle.tells.proofs.Laws.{told-4}
+use Rattle.door_runs.proofs.Says as laws
+use borrow.Author.Needs.{needs}
+use Rattle.door_runs.proofs.bridlesnow_refused_brace_run.Statement.{statement}
+use Rattle.door_runs.proofs.bridlesnow_refused_brace_run.Tie as tie
+
+refused-brace-run-requires : tie.Need-refused-brace-run-requires
+refused-brace-run-requires c κs = search needs
+
+kind-of-requires : tie.Need-kind-of-requires
+kind-of-requires c κs = search needs
+
+tell-requires : tie.Need-tell-requires
+tell-requires c κs = search needs
+
+lines-of-requires : tie.Need-lines-of-requires
+lines-of-requires c κs = search needs
+
+tell-requires-2 : tie.Need-tell-requires-2
+tell-requires-2 c κs = search needs
+
+tell-requires-3 : tie.Need-tell-requires-3
+tell-requires-3 c κs = search needs
+
+tell-requires-4 : tie.Need-tell-requires-4
+tell-requires-4 c κs = search needs
+
+answer-number-requires : tie.Need-answer-number-requires
+answer-number-requires c κs = search needs
+
+same-length : tie.Need-same-length
+same-length c = search needs
+
+same-length-2 : tie.Need-same-length-2
+same-length-2 c = search needs
+
+returns : tie.Need-returns
+returns c = laws.run-told _ (refusedRun (length (c .before .before .before .before .before .before .before .before .before .before .before .before .before .before .before .before .before .before .before .before .before .before .before .before .before .before .args .join .now)) (c .before .before .before .before .before .before .before .before .before .before .before .before .before .before .before .before .before .before .before .before .before .before .before .before .before .before .args .text .now) (c .before .before .before .before .before .before .before .before .before .before .before .before .before .before .before .before .before .before .before .before .before .before .before .before .before .before .args .line)) (c .before .before .before .before .before .before .before .before .before .before .before .before .before .before .before .before .before .before .before .before .before .refused-brace-run .ensures .0) (c .before .before .before .before .before .before .before .before .before .before .before .before .before .before .before .before .before .before .before .before .before .refused-brace-run .ensures .1) (c .before .before .before .before .before .before .before .before .before .before .before .before .before .before .before .before .before .kind-of .ensures) (c .before .before .before .before .before .before .before .before .before .before .before .before .lines-of .ensures) (told-4 _ _ _ _ _ (c .before .before .before .before .before .before .before .before .before .before .before .before .before .before .before .before .tell .ensures) (c .before .before .before .before .before .before .before .before .before .before .before .tell2 .ensures) (c .before .before .before .before .before .before .before .tell3 .ensures) (c .before .before .before .tell4 .ensures)) (c .answer-number .ensures)
+
+pub bridlesnow-refused-brace-run-spec : {M : Type 1} → statement M
+bridlesnow-refused-brace-run-spec =
+    tie.close
+    (tie.spec
+    refused-brace-run-requires
+    kind-of-requires
+    tell-requires
+    lines-of-requires
+    tell-requires-2
+    tell-requires-3
+    tell-requires-4
+    answer-number-requires
+    same-length
+    same-length-2
+    returns)

@@ -1,0 +1,29 @@
+-- What a caller from C or Rust is told of refused runs.
+use Prim.Native.Nat.{ℕ}
+use mathlib.Core.List.{List, [], _∷_}
+use lib.ListN.{length}
+use Rattle.refused.specs.Refused.{answerLines, Told}
+use Rattle.refused.specs.declared.Answer as runs
+use Rattle.refused.specs.declared.Answer.the-variants as run
+use Rattle.endings.specs.Endings.{Ended}
+use Rattle.endings.specs.declared.Ends as ends
+use Rattle.endings.specs.declared.Ends.the-variants as end
+
+-- "`refused_brace_run` answers Lines, No with a count, or No to the end": 1 for Lines, else 0
+abbrev pub kindOf : runs.Answer → ℕ
+kindOf (run.No n) = 0
+kindOf (run.Lines n) = 1
+kindOf run.NoEnd = 0
+kindOf (run.Refused r) = 0
+
+abbrev pub runTold : Told → List ℕ
+runTold r = kindOf (r .answer) ∷ answerLines (r .answer) ∷ r .lookahead ∷ length (r .text) ∷ []
+
+-- "`ends_in_refused_brace_run` says yes or no": 1 and 0
+abbrev pub endsKind : ends.Ends → ℕ
+endsKind end.No = 0
+endsKind end.Yes = 1
+endsKind (end.Refused r) = 0
+
+abbrev pub endsTold : Ended → List ℕ
+endsTold e = endsKind (e .answer) ∷ e .lookahead ∷ []

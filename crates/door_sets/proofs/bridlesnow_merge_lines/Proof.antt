@@ -1,0 +1,78 @@
+use Rattle.tells.proofs.Laws.{told-2}
+use Rattle.door_sets.proofs.Said as laws
+use borrow.Author.Needs.{needs}
+use Rattle.door_sets.proofs.bridlesnow_merge_lines.Statement.{statement}
+use Rattle.door_sets.proofs.bridlesnow_merge_lines.Tie as tie
+
+parse-standalone-attrs-requires : tie.Need-parse-standalone-attrs-requires
+parse-standalone-attrs-requires c κs = search needs
+
+parse-standalone-attrs-requires-2 : tie.Need-parse-standalone-attrs-requires-2
+parse-standalone-attrs-requires-2 c κs = search needs
+
+merge-attrs-requires : tie.Need-merge-attrs-requires
+merge-attrs-requires c κs = search needs
+
+check-out-requires : tie.Need-check-out-requires
+check-out-requires c κs = search needs
+
+check-out-requires-2 : tie.Need-check-out-requires-2
+check-out-requires-2 c κs = search needs
+
+check-out-requires-3 : tie.Need-check-out-requires-3
+check-out-requires-3 c κs = search needs
+
+first-of-requires : tie.Need-first-of-requires
+first-of-requires c κs = search needs
+
+first-of-requires-2 : tie.Need-first-of-requires-2
+first-of-requires-2 c κs = search needs
+
+write-out-requires : tie.Need-write-out-requires
+write-out-requires c κs = search needs
+
+step-of-requires : tie.Need-step-of-requires
+step-of-requires c κs = search needs
+
+tell-requires : tie.Need-tell-requires
+tell-requires c κs = search needs
+
+wrote-len-requires : tie.Need-wrote-len-requires
+wrote-len-requires c κs = search needs
+
+tell-requires-2 : tie.Need-tell-requires-2
+tell-requires-2 c κs = search needs
+
+wrote-number-requires : tie.Need-wrote-number-requires
+wrote-number-requires c κs = search needs
+
+same-length : tie.Need-same-length
+same-length c = search needs
+
+same-length-2 : tie.Need-same-length-2
+same-length-2 c = search needs
+
+returns : tie.Need-returns
+returns c = laws.merge-said _ _ _ _ _ (c .before .before .before .before .before .before .before .before .before .before .before .before .before .before .before .before .before .before .before .before .before .before .parse-standalone-attrs .ensures) (c .before .before .before .before .before .before .before .before .before .before .before .before .before .before .before .before .before .before .before .before .before .parse-standalone-attrs2 .ensures) (c .before .before .before .before .before .before .before .before .before .before .before .before .before .before .before .before .before .before .before .before .merge-attrs .ensures) (c .before .before .before .before .before .before .before .before .before .before .before .before .before .before .before .before .before .before .before .check-out .ensures) (c .before .before .before .before .before .before .before .before .before .before .before .before .before .before .before .before .before .before .check-out2 .ensures) (c .before .before .before .before .before .before .before .before .before .before .before .before .before .before .before .before .before .check-out3 .ensures) (c .before .before .before .before .before .before .before .before .before .before .before .before .before .before .before .before .first-of .ensures) (c .before .before .before .before .before .before .before .before .before .before .before .before .before .before .before .first-of2 .ensures) (c .before .before .before .before .before .before .before .before .before .before .before .before .before .write-out .ensures .0) (c .before .before .before .before .before .before .before .before .before .before .before .before .before .write-out .ensures .1) (c .before .before .before .before .before .before .before .before .before .step-of .ensures) (c .before .before .before .before .wrote-len .ensures) (told-2 _ _ _ (c .before .before .before .before .before .before .before .before .tell .ensures) (c .before .before .before .tell2 .ensures)) (c .wrote-number .ensures)
+
+pub bridlesnow-merge-lines-spec : {M : Type 1} → statement M
+bridlesnow-merge-lines-spec =
+    tie.close
+    (tie.spec
+    parse-standalone-attrs-requires
+    parse-standalone-attrs-requires-2
+    merge-attrs-requires
+    check-out-requires
+    check-out-requires-2
+    check-out-requires-3
+    first-of-requires
+    first-of-requires-2
+    write-out-requires
+    step-of-requires
+    tell-requires
+    wrote-len-requires
+    tell-requires-2
+    wrote-number-requires
+    same-length
+    same-length-2
+    returns)

@@ -1,0 +1,18 @@
+use borrow.Author.Needs.{needs}
+use Rattle.door_sets.proofs.first_of.Statement.{statement}
+use Rattle.door_sets.proofs.first_of.Tie as tie
+
+enum-known-a : tie.Need-enum-known-a
+enum-known-a c = search needs
+
+enum-told : tie.Need-enum-told
+enum-told c = search needs
+
+returns : tie.Need-returns
+returns c = rw ((c .before .a .given .1))
+
+returns-2 : tie.Need-returns-2
+returns-2 c = search needs
+
+pub first-of-spec : {M : Type 1} → statement M
+first-of-spec = tie.close (tie.spec enum-known-a enum-told returns returns-2)

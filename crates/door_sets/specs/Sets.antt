@@ -1,0 +1,58 @@
+-- What a caller from C or Rust is answered of a set that is read or merged.
+use Prim.Native.Nat.{ℕ, zero, suc}
+use mathlib.Core.List.{List, [], _∷_}
+use Rattle.ascii.specs.declared.Mode.{Mode}
+use Rattle.ascii.specs.declared.Mode.the-variants.{Strict, Loose}
+use Rattle.checks.specs.Check.{checkOf}
+use Rattle.checks.specs.declared.Check.{Check}
+use Rattle.checks.specs.declared.Check.the-variants.{Passed, Refused}
+use Rattle.sets.specs.declared.Attrs.{Attrs}
+use Rattle.reader.specs.Brace.{readAttrsAt}
+use Rattle.reader.specs.declared.Read.{Read}
+use Rattle.reader.specs.declared.Answer as answers
+use Rattle.reader.specs.declared.Answer.the-variants as answer
+use Rattle.entries.specs.Entries.{parseStandalone}
+use Rattle.merge.specs.Merge.{mergeOf}
+use Rattle.writer.specs.Write.{orElse}
+use Rattle.tells.specs.Tells.{checkOut, Said, setSaid}
+
+-- "`read_attrs_at` is strict (spaces only), lines are loose": 0 is strict, any other number loose
+abbrev pub modeOf : ℕ → Mode
+modeOf zero = Strict
+modeOf (suc n) = Loose
+
+-- why no set was read, and the place behind what was
+abbrev pub checkBy : answers.Answer → Check
+checkBy (answer.Refused r) = Refused r
+checkBy (answer.Next n) = Passed
+
+abbrev pub nextOf : answers.Answer → ℕ
+nextOf (answer.Refused r) = 0
+nextOf (answer.Next n) = n
+
+-- "Order: at a brace 1, 3, 4, 2, 5, 6, 7, 8", and then the writer's 2, of the whole text, and 10
+abbrev pub braceBy : List ℕ → List ℕ → Read → Said
+braceBy t buf r = setSaid (orElse (checkBy (r .answer)) (checkOf t)) t (r .set) buf (λ n. nextOf (r .answer) ∷ n ∷ [])
+
+unfoldable pub braceSaid : Mode → List ℕ → ℕ → List ℕ → Said
+braceSaid m t i buf = braceBy t buf (readAttrsAt m t i)
+
+-- `parse_standalone_attrs`, and then 10
+unfoldable pub lineSaid : List ℕ → ℕ → List ℕ → Said
+lineSaid t n buf = setSaid (checkOut (parseStandalone t n .outcome)) t (parseStandalone t n .set) buf (λ k. k ∷ [])
+
+-- which of three steps is the first that refuses, counted from 1; 0 where none does
+abbrev pub stepOf : Check → Check → Check → ℕ
+stepOf (Refused r) b c = 1
+stepOf Passed (Refused r) c = 2
+stepOf Passed Passed (Refused r) = 3
+stepOf Passed Passed Passed = 0
+
+-- two lines of one text, "Both sets of a merge are over the same text.": the first line's refusal, else the second's, else the merge's, else 10
+abbrev pub mergeBy : List ℕ → List ℕ → Check → Attrs → Check → Attrs → Said
+mergeBy t buf a x b y =
+    setSaid (orElse a (orElse b (checkOut (mergeOf t x y .outcome)))) t (mergeOf t x y .set) buf (λ n. stepOf a b (checkOut (mergeOf t x y .outcome)) ∷ n ∷ [])
+
+unfoldable pub mergeSaid : List ℕ → ℕ → ℕ → List ℕ → Said
+mergeSaid t m n buf =
+    mergeBy t buf (checkOut (parseStandalone t m .outcome)) (parseStandalone t m .set) (checkOut (parseStandalone t n .outcome)) (parseStandalone t n .set)

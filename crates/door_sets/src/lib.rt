@@ -1,0 +1,145 @@
+// What C and Rust call to read or merge a set within a line: the number of its refusal, 0 where nothing is refused; the set as canonical text in lent memory.
+use ascii::Mode;
+use checks::Check;
+use reader::Answer;
+ghost use mathlib.Core.Path.{_≡_};
+ghost use Rattle.checks.specs.Check.{checkOf};
+ghost use Rattle.writer.specs.Write.{orElse};
+ghost use Rattle.tells.specs.Tells.{toldIn};
+ghost use Rattle.door_sets.specs.Sets.{modeOf, checkBy, nextOf, stepOf, braceSaid, lineSaid, mergeSaid};
+
+// 0 is strict, any other number loose.
+fn mode_of(loose: u8) -> Mode
+    ensures { λ r. ⌜ r ≡ modeOf loose ⌝ }
+{
+    if loose == 0 {
+        return Mode::Strict;
+    }
+    Mode::Loose
+}
+
+// Why nothing was read at a brace.
+fn check_by(a: Answer) -> Check
+    ensures { λ r. ⌜ r ≡ checkBy a ⌝ }
+{
+    match a {
+        Answer::Refused(r) => Check::Refused(r),
+        Answer::Next(_) => Check::Passed,
+    }
+}
+
+// The place behind what was read at a brace.
+fn next_of(a: Answer) -> usize
+    ensures { λ r. ⌜ r ≡ nextOf a ⌝ }
+{
+    match a {
+        Answer::Refused(_) => 0,
+        Answer::Next(n) => n,
+    }
+}
+
+// A refusal, or else what the whole text gives.
+fn or_text(c: Check, text: &[u8]) -> Check
+    ensures { λ r. ⌜ r ≡ orElse c (checkOf (now (text .entry))) ⌝ }
+{
+    match c {
+        Check::Refused(r) => Check::Refused(r),
+        Check::Passed => checks::check_text(text),
+    }
+}
+
+// Reads the block at a brace; `loose` is 0 for an inline block. Tells the place behind it and the length of its canonical text.
+#[no_mangle]
+pub extern "C" fn bridlesnow_read_attrs_at(
+    text: &[u8],
+    place: usize,
+    loose: u8,
+    out: &mut [u8],
+    told: &mut [usize],
+) -> u8
+    ensures { λ r. ⌜ r ≡ braceSaid (modeOf loose) (now (text .entry)) place (now (out .entry)) .number ⌝ }
+    ensures { λ r. ⌜ now (out .exit) ≡ braceSaid (modeOf loose) (now (text .entry)) place (now (out .entry)) .out ⌝ }
+    ensures { λ r. ⌜ now (told .exit) ≡ toldIn (now (told .entry)) (braceSaid (modeOf loose) (now (text .entry)) place (now (out .entry)) .told) ⌝ }
+{
+    let read = reader::read_attrs_at_with(text, place, mode_of(loose));
+    let answer = read.answer;
+    let c = or_text(check_by(answer), text);
+    let w = tells::write_out(c, text, read.set, out);
+    tells::tell(told, 0, next_of(answer));
+    tells::tell(told, 1, tells::wrote_len(w));
+    tells::wrote_number(w)
+}
+
+// Reads one line of blocks. Tells the length of its canonical text.
+#[no_mangle]
+pub extern "C" fn bridlesnow_parse_standalone_attrs(
+    text: &[u8],
+    line: usize,
+    out: &mut [u8],
+    told: &mut [usize],
+) -> u8
+    ensures { λ r. ⌜ r ≡ lineSaid (now (text .entry)) line (now (out .entry)) .number ⌝ }
+    ensures { λ r. ⌜ now (out .exit) ≡ lineSaid (now (text .entry)) line (now (out .entry)) .out ⌝ }
+    ensures { λ r. ⌜ now (told .exit) ≡ toldIn (now (told .entry)) (lineSaid (now (text .entry)) line (now (out .entry)) .told) ⌝ }
+{
+    let filled = entries::parse_standalone_attrs(text, line);
+    let outcome = filled.outcome;
+    let w = tells::write_out(tells::check_out(outcome), text, filled.set, out);
+    tells::tell(told, 0, tells::wrote_len(w));
+    tells::wrote_number(w)
+}
+
+// The first of two refusals.
+fn first_of(a: Check, b: Check) -> Check
+    ensures { λ r. ⌜ r ≡ orElse a b ⌝ }
+{
+    match a {
+        Check::Refused(r) => Check::Refused(r),
+        Check::Passed => b,
+    }
+}
+
+// Which of three steps is the first that refuses, counted from 1.
+fn step_of(a: Check, b: Check, c: Check) -> usize
+    ensures { λ r. ⌜ r ≡ stepOf a b c ⌝ }
+{
+    match a {
+        Check::Refused(_) => 1,
+        Check::Passed => match b {
+            Check::Refused(_) => 2,
+            Check::Passed => match c {
+                Check::Refused(_) => 3,
+                Check::Passed => 0,
+            },
+        },
+    }
+}
+
+// Merges the sets of two lines of blocks: what the variant's line says wins over the common line. Tells which step refuses, 1 or 2 for a line
+// and 3 for the merge, and the length of the canonical text.
+#[no_mangle]
+pub extern "C" fn bridlesnow_merge_lines(
+    text: &[u8],
+    common: usize,
+    variant: usize,
+    out: &mut [u8],
+    told: &mut [usize],
+) -> u8
+    ensures { λ r. ⌜ r ≡ mergeSaid (now (text .entry)) common variant (now (out .entry)) .number ⌝ }
+    ensures { λ r. ⌜ now (out .exit) ≡ mergeSaid (now (text .entry)) common variant (now (out .entry)) .out ⌝ }
+    ensures { λ r. ⌜ now (told .exit) ≡ toldIn (now (told .entry)) (mergeSaid (now (text .entry)) common variant (now (out .entry)) .told) ⌝ }
+{
+    let first = entries::parse_standalone_attrs(text, common);
+    let second = entries::parse_standalone_attrs(text, variant);
+    let merged = merge::merge_attrs(text, first.set, second.set);
+    let x = first.outcome;
+    let y = second.outcome;
+    let z = merged.outcome;
+    let a = tells::check_out(x);
+    let b = tells::check_out(y);
+    let c = tells::check_out(z);
+    let w = tells::write_out(first_of(a, first_of(b, c)), text, merged.set, out);
+    tells::tell(told, 0, step_of(a, b, c));
+    tells::tell(told, 1, tells::wrote_len(w));
+    tells::wrote_number(w)
+}

@@ -1,0 +1,57 @@
+// What C and Rust call with a text alone: yes or no, or the number of a refusal.
+use checks::Check;
+ghost use mathlib.Core.Path.{_≡_};
+ghost use Rattle.ascii.specs.declared.Mode.the-variants.{Strict, Loose};
+ghost use Rattle.utf8.specs.Utf8.{isUtf8};
+ghost use Rattle.checks.specs.Check.{checkNo, checkOf};
+ghost use Rattle.payloads.specs.Payloads.{isPayload, isContinuation};
+
+// Whether the bytes are UTF-8.
+#[no_mangle]
+pub extern "C" fn bridlesnow_is_utf8(text: &[u8]) -> bool
+    ensures { λ r. ⌜ r ≡ isUtf8 (now (text .entry)) ⌝ }
+{
+    utf8::is_utf8(text)
+}
+
+// The number of a check.
+fn check_number(c: Check) -> u8
+    ensures { λ r. ⌜ r ≡ checkNo c ⌝ }
+{
+    match c {
+        Check::Passed => 0,
+        Check::Refused(r) => refusals::number(r),
+    }
+}
+
+// 1 or 2 where the text is refused as a whole.
+#[no_mangle]
+pub extern "C" fn bridlesnow_check_text(text: &[u8]) -> u8
+    ensures { λ r. ⌜ r ≡ checkNo (checkOf (now (text .entry))) ⌝ }
+{
+    check_number(checks::check_text(text))
+}
+
+// Whether the bytes are a payload of an inline block.
+#[no_mangle]
+pub extern "C" fn bridlesnow_parse_attrs(payload: &[u8]) -> bool
+    ensures { λ r. ⌜ r ≡ isPayload Strict (now (payload .entry)) ⌝ }
+{
+    payloads::parse_attrs(payload)
+}
+
+// Whether the bytes are a payload of a block on lines of its own.
+#[no_mangle]
+pub extern "C" fn bridlesnow_is_valid_attr_payload(payload: &[u8]) -> bool
+    ensures { λ r. ⌜ r ≡ isPayload Loose (now (payload .entry)) ⌝ }
+{
+    payloads::is_valid_attr_payload(payload)
+}
+
+// Whether a wrapped run can go on with the line.
+#[no_mangle]
+pub extern "C" fn bridlesnow_valid_wrapped_attr_continuation(line: &[u8]) -> bool
+    ensures { λ r. ⌜ r ≡ isContinuation (now (line .entry)) ⌝ }
+{
+    payloads::valid_wrapped_attr_continuation(line)
+}

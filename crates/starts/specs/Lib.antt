@@ -1,0 +1,2 @@
+-- The definitions that the contract of starts cites.
+pub mod Starts
