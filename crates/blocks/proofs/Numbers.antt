@@ -17,14 +17,14 @@ use Rattle.lines.specs.Trim.{trim}
 use Rattle.payloads.specs.Payloads.{endsInClose}
 use Rattle.chain.specs.Chain.{readBlocks, goodLine}
 use Rattle.sets.specs.Types.{one}
-use Rattle.fill.specs.Fill.{outcomeNo, refusing, chainAt}
+use Rattle.fill.specs.Fill.{outcomeNo, chainAt}
 use Rattle.fill.proofs.Numbers.{readingNo, chain-no}
 use Rattle.runs.specs.Runs as runs
 use Rattle.runs.specs.declared.Stop as stops
 use Rattle.runs.specs.declared.Stop.the-variants as stop
 use Rattle.runs.proofs.Bounds.{text-short}
 use Rattle.fronts.specs.Fronts.{lineAt, frontOf, opensAt}
-use Rattle.blocks.specs.Blocks.{Found, nothing, closedRun, ended, runFound, found, wrapped, blockOf, sized, lineRead}
+use Rattle.blocks.specs.Blocks.{Found, nothing, closedRun, ended, runFound, found, wrapped, blockOf, sized}
 
 -- ---- the line at a place, where g is the number of a good line from a place up to one
 
@@ -88,21 +88,22 @@ module _ (g : List ℕ → ℕ → ℕ → ℕ) (t : List ℕ) (at base cap : �
       go true false false = by-run
       go false b c = none NothingThere _ _
 
+-- blocks, where the text has the size
+pub part-no : (s : List ℕ) (from to : ℕ) → length s ≤ maxText → outcomeNo (chainAt Loose s from to .outcome) ≡ reading s from to
+part-no s from to h = chain-no Loose s from to ∙ (rw (le-ltb maxText (length s) h))
+
 module _ (t : List ℕ) (at base cap : ℕ) where
   module _ (k : length t ≤ maxText) where
-    part-no : (s : List ℕ) (from to : ℕ) → length s ≤ length t → outcomeNo (chainAt Loose s from to .outcome) ≡ reading s from to
-    part-no s from to h = chain-no Loose s from to ∙ (rw (le-ltb maxText (length s) (omega (arith, h, k))))
-
     pub read-no : outcomeNo (blockOf t at (found t at base cap) .outcome) ≡ foundNo reading t at base cap
     unfolding blockOf
     read-no =
-        by-found reading t at base cap (λ f. outcomeNo (blockOf t at f .outcome)) (λ q x n. refl) (λ r h. part-no (r .text) 0 (length (r .text)) h)
-        (part-no t (frontOf t at .from) (frontOf t at .to) (omega arith))
+        by-found reading t at base cap (λ f. outcomeNo (blockOf t at f .outcome)) (λ q x n. refl) (λ r h. part-no (r .text) 0 (length (r .text)) (omega (arith, h, k)))
+        (part-no t (frontOf t at .from) (frontOf t at .to) k)
 
     pub wrapped-read-no : outcomeNo (blockOf t at (wrapped t at base cap) .outcome) ≡ wrappedNo reading t at base cap
     unfolding blockOf
     wrapped-read-no =
-        by-wrapped reading t at base cap (λ f. outcomeNo (blockOf t at f .outcome)) (λ q x n. refl) (λ r h. part-no (r .text) 0 (length (r .text)) h)
+        by-wrapped reading t at base cap (λ f. outcomeNo (blockOf t at f .outcome)) (λ q x n. refl) (λ r h. part-no (r .text) 0 (length (r .text)) (omega (arith, h, k)))
 
   -- `read_at` and `wrapped_at`
   by-size : (f : Found) {n : ℕ} → (length t ≤ maxText → outcomeNo (blockOf t at f .outcome) ≡ n)
@@ -119,13 +120,3 @@ module _ (t : List ℕ) (at base cap : ℕ) where
 
   pub sized-wrapped-no : outcomeNo (blockOf t at (sized t (wrapped t at base cap)) .outcome) ≡ cond (ltb maxText (length t)) 1 (wrappedNo reading t at base cap)
   sized-wrapped-no = by-size (wrapped t at base cap) wrapped-read-no
-
--- `read_line`
-pub line-read-no : (t : List ℕ) (at : ℕ) → length t ≤ maxText → outcomeNo (lineRead t at .outcome) ≡ cond (opensAt t at) (reading t (frontOf t at .from) (frontOf t at .to)) 3
-unfolding lineRead numberOf
-line-read-no t at k = go (opensAt t at)
-  where
-    go : (o : Bool)
-        → outcomeNo (cond o (chainAt Loose t (frontOf t at .from) (frontOf t at .to)) (refusing NothingThere) .outcome) ≡ cond o (reading t (frontOf t at .from) (frontOf t at .to)) 3
-    go true = part-no t at 0 0 k t (frontOf t at .from) (frontOf t at .to) (omega arith)
-    go false = refl

@@ -18,7 +18,6 @@ use Rattle.lines.specs.Trim.{trim}
 use Rattle.payloads.specs.Payloads.{endsInClose}
 use Rattle.chain.specs.Chain.{goodLine}
 use Rattle.sets.specs.Types.{one, emptySet}
-use Rattle.fill.specs.Fill.{refusing, chainAt}
 use Rattle.wellformed.specs.WellFormed.{wellFormed}
 use Rattle.reader.proofs.HandedOut.{empty-ok}
 use Rattle.reader.proofs.ChainsOut.{chain-out-ok}
@@ -28,7 +27,7 @@ use Rattle.runs.specs.declared.Stop.the-variants as stop
 use Rattle.runs.proofs.Bounds.{text-short}
 use Rattle.runs.proofs.Texts.{text-well}
 use Rattle.fronts.specs.Fronts.{lineAt, frontOf, opensAt}
-use Rattle.blocks.specs.Blocks.{Found, nothing, closedRun, ended, runFound, found, wrapped, textIn, blockOf, lineRead}
+use Rattle.blocks.specs.Blocks.{Found, nothing, closedRun, ended, runFound, found, wrapped, textIn, blockOf}
 
 -- ---- the sets
 
@@ -91,11 +90,3 @@ module _ (t : List ℕ) (h : isText t ≡ true) where
         go : (o : Bool) → Ok t at (cond o (runFound t at base cap) (nothing NothingThere))
         go true = run-ok
         go false = none-ok at NothingThere [] 0
-
-  pub line-read-ok : (at : ℕ) → wellFormed t (lineRead t at .set) ≡ true
-  unfolding lineRead
-  line-read-ok at = go (opensAt t at)
-    where
-      go : (o : Bool) → wellFormed t (cond o (chainAt Loose t (frontOf t at .from) (frontOf t at .to)) (refusing NothingThere) .set) ≡ true
-      go true = chain-out-ok Loose t (frontOf t at .from) (frontOf t at .to) h
-      go false = empty-fits

@@ -100,7 +100,3 @@ blockOf t at f = blockBy (filledBy t at f) (linesOf f) (lookaheadOf f) (length (
 -- a text above the size is refused before anything is read (by `read_at` and `wrapped_at`, since a set's places are 16-bit numbers)
 unfoldable pub sized : List ℕ → Found → Found
 sized t f = cond (ltb maxText (length t)) (nothing TextTooLong) f
-
--- `parse_standalone_attrs`: the line alone, no run
-unfoldable pub lineRead : List ℕ → ℕ → Filled
-lineRead t at = cond (opensAt t at) (chainAt Loose t (frontOf t at .from) (frontOf t at .to)) (refusing NothingThere)

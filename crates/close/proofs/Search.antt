@@ -15,7 +15,7 @@ use Rattle.lists.specs.Lists.{all, isIn}
 use Rattle.lists.proofs.Steady.{met}
 use Rattle.lists.proofs.More.{contra, among-not}
 use Rattle.ascii.specs.Bytes.{isQuote}
-use Rattle.grammar.specs.Close.{turned, stepOf, closeFrom, fresh, findClose}
+use Rattle.grammar.specs.Close.{uncovered, turned, stepOf, closeFrom, fresh, findClose}
 use Rattle.grammar.specs.declared.Quote.{Quote}
 use Rattle.grammar.specs.declared.Quote.the-variants.{In}
 use Rattle.grammar.specs.declared.Scan.{Scan}
@@ -24,7 +24,7 @@ use Rattle.grammar.specs.declared.Place.the-variants.{Nothing, At}
 use Rattle.grammar.proofs.Close as close
 use Rattle.grammar.proofs.Close.{Scans, quote-lf}
 use Rattle.grammar.proofs.Tokens.{quote-not}
-use Rattle.close.specs.Steps.{goesOn, bare, closeBehind, Shuts}
+use Rattle.close.specs.Steps.{goesOn, closeBehind, Shuts}
 
 -- a byte that is no LF stands at k
 pub record On (s : List ℕ) (k : ℕ) : Type 0 where
@@ -62,7 +62,7 @@ ended {s} {r} {k} {st} inv e = go (leb (length s) k) refl
     go false p = let h = leb-false (length s) k p in close.broken inv h (rw (not-false (eqb (getD s k 0) 10) (byte-on s k h ∙ e)))
 
 -- a backslash, in a quote or outside, and the byte that it covers
-module _ {s : List ℕ} {r : Place} {k : ℕ} {q : Quote} (inv : Scans s r k (bare q)) (on : On s k) (e : getD s k 0 ≡ 92) where
+module _ {s : List ℕ} {r : Place} {k : ℕ} {q : Quote} (inv : Scans s r k (uncovered q)) (on : On s k) (e : getD s k 0 ≡ 92) where
   backslash : Scans s r (k + 1) (record { quote = q; escaped = true })
   unfolding stepOf
   backslash = close.go inv (on .there) (rw e)
@@ -70,22 +70,22 @@ module _ {s : List ℕ} {r : Place} {k : ℕ} {q : Quote} (inv : Scans s r k (ba
   pub cut : goesOn (drop (k + 1) s) ≡ false → Nothing ≡ r
   cut h = ended backslash h
 
-  pub pair : On s (k + 1) → Scans s r (k + 2) (bare q)
+  pub pair : On s (k + 1) → Scans s r (k + 2) (uncovered q)
   unfolding stepOf
   pair o =
       let two : k + 1 + 1 ≡ k + 2 = omega arith in
-      rw two at (close.go backslash (o .there) {v = bare q} (rw (o .flat)))
+      rw two at (close.go backslash (o .there) {v = uncovered q} (rw (o .flat)))
 
 -- ---- in the quote q: the loop stands before byte k, and began at i
 pub record Quoted (s : List ℕ) (q i k : ℕ) : Type 0 where
-  pub scan : Scans s (closeFrom (drop i s) (bare (In q)) i) k (bare (In q))
+  pub scan : Scans s (closeFrom (drop i s) (uncovered (In q)) i) k (uncovered (In q))
   pub from : i ≤ k
 
 pub opened : (s : List ℕ) (q i : ℕ) → Quoted s q i i
 opened s q i = record { scan = record { rest = refl }; from = omega arith }
 
 -- no close
-nowhere : {s : List ℕ} {q i : ℕ} → Nothing ≡ closeFrom (drop i s) (bare (In q)) i → Shuts s q i Nothing
+nowhere : {s : List ℕ} {q i : ℕ} → Nothing ≡ closeFrom (drop i s) (uncovered (In q)) i → Shuts s q i Nothing
 nowhere e = record { same = e; within = λ e h. contra true refl (cc) }
 
 module _ {s : List ℕ} {q i k : ℕ} (inv : Quoted s q i k) where
@@ -102,7 +102,7 @@ module _ {s : List ℕ} {q i k : ℕ} (inv : Quoted s q i k) where
     pub quote-byte : (getD s k 0 ≡ q → ⊥) → (getD s k 0 ≡ 92 → ⊥) → Quoted s q i (k + 1)
     unfolding stepOf turned
     quote-byte n w = record {
-      scan = close.go (inv .scan) (on .there) {v = bare (In q)} (rw (on .flat, ne-eqb (getD s k 0) 92 w, ne-eqb (getD s k 0) q n));
+      scan = close.go (inv .scan) (on .there) {v = uncovered (In q)} (rw (on .flat, ne-eqb (getD s k 0) 92 w, ne-eqb (getD s k 0) q n));
       from = omega (arith, inv .from);
     }
 
@@ -137,7 +137,7 @@ module _ {s : List ℕ} {r : Place} {k : ℕ} (inv : Scans s r k fresh) (on : On
     behind =
         let b = getD s k 0 in
         let x = quoting h in
-        (q .same) ∙ (close.go inv (on .there) {v = bare (In b)} (rw (on .flat, ne-eqb b 92 (quote-not b x), quote-brace b x, x)) .rest)
+        (q .same) ∙ (close.go inv (on .there) {v = uncovered (In b)} (rw (on .flat, ne-eqb b 92 (quote-not b x), quote-brace b x, x)) .rest)
 
     pub unshut : p ≡ Nothing → Nothing ≡ r
     unshut e = rw e at behind

@@ -5,9 +5,8 @@ use mathlib.Core.List.{List, [], _∷_}
 use Prim.Native.Nat.{ℕ, _+_, _<_, _≤_}
 use lib.Dec.{eqb}
 use lib.ListN.{length, drop}
-use Rattle.grammar.specs.Close.{closeFrom, findClose}
+use Rattle.grammar.specs.Close.{uncovered, closeFrom, findClose}
 use Rattle.grammar.specs.declared.Quote.{Quote}
-use Rattle.grammar.specs.declared.Scan.{Scan}
 use Rattle.grammar.specs.declared.Place.{Place}
 use Rattle.grammar.specs.declared.Place.the-variants.{Nothing, At}
 
@@ -16,10 +15,6 @@ abbrev pub goesOn : List ℕ → Bool
 goesOn [] = false
 goesOn (b ∷ s) = not (eqb b 10)
 
--- a state in which no backslash covers the next byte
-abbrev pub bare : Quote → Scan
-bare q = record { quote = q; escaped = false }
-
 -- the block's close, by the place where a quote closes
 abbrev pub closeBehind : List ℕ → Place → Place
 closeBehind s Nothing = Nothing
@@ -27,5 +22,5 @@ closeBehind s (At e) = findClose s (e + 1)
 
 -- r, where the quote q closes from i on: the search in the quote finds what the search behind r does
 pub record Shuts (s : List ℕ) (q i : ℕ) (r : Place) : Type 0 where
-  pub same : closeBehind s r ≡ closeFrom (drop i s) (bare (Quote.In q)) i
+  pub same : closeBehind s r ≡ closeFrom (drop i s) (uncovered (Quote.In q)) i
   pub within : (e : ℕ) → r ≡ At e → (i ≤ e) × (e < length s)

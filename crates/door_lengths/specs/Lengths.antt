@@ -5,7 +5,7 @@ use Rattle.blocks.specs.Blocks.{Found}
 use Rattle.lengths.specs.Lengths.{measured, linesIn}
 use Rattle.lengths.specs.declared.Measure.{Measure}
 
--- measuring: "Measuring never gives 6 to 8"
+-- what measuring told: its lines, the place behind them, the lookahead and the bytes joined
 abbrev pub toldBy : Measure → List ℕ
 toldBy m = linesIn (m .length) ∷ m .next ∷ m .lookahead ∷ m .joined ∷ []
 

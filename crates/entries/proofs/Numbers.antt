@@ -1,17 +1,31 @@
 -- The numbers of the entries by line: "elsewhere 1, 2, 3, 9 or 5 as the run meets them, 6, 7, 8".
 -- Assumes nothing.
 use mathlib.Core.Path.{_≡_, refl}
-use mathlib.Core.Bool.{cond}
+use mathlib.Core.Bool.{Bool, true, false, cond}
 use mathlib.Core.List.{List}
-use Prim.Native.Nat.{ℕ}
-use Rattle.fill.specs.Fill.{outcomeNo, refusing}
+use Prim.Native.Nat.{ℕ, _≤_}
+use lib.ListN.{length}
+use Rattle.ascii.specs.declared.Mode.the-variants.{Loose}
+use Rattle.refusals.specs.Numbers.{maxText, numberOf}
+use Rattle.refusals.specs.declared.Refusal.the-variants.{NothingThere}
+use Rattle.fill.specs.Fill.{outcomeNo, refusing, chainAt}
 use Rattle.fronts.specs.Fronts.{frontOf, opensAt}
 use Rattle.starts.specs.Starts.{onStart, placeOf}
 use Rattle.starts.proofs.Numbers.{entryNo, by-start}
-use Rattle.blocks.specs.Blocks.{nothing, found, wrapped, blockOf, lineRead}
+use Rattle.blocks.specs.Blocks.{nothing, found, wrapped, blockOf}
 use Rattle.blocks.specs.ByLine.{blockFound, wrappedFound}
-use Rattle.blocks.proofs.Numbers.{reading, foundNo, wrappedNo, read-no, wrapped-read-no, line-read-no}
-use Rattle.entries.specs.Entries.{parseStandalone}
+use Rattle.blocks.proofs.Numbers.{reading, foundNo, wrappedNo, read-no, wrapped-read-no, part-no}
+use Rattle.entries.specs.Entries.{lineRead, parseStandalone}
+
+-- the line at a place
+line-read-no : (t : List ℕ) (at : ℕ) → length t ≤ maxText → outcomeNo (lineRead t at .outcome) ≡ cond (opensAt t at) (reading t (frontOf t at .from) (frontOf t at .to)) 3
+unfolding lineRead numberOf
+line-read-no t at k = go (opensAt t at)
+  where
+    go : (o : Bool)
+        → outcomeNo (cond o (chainAt Loose t (frontOf t at .from) (frontOf t at .to)) (refusing NothingThere) .outcome) ≡ cond o (reading t (frontOf t at .from) (frontOf t at .to)) 3
+    go true = part-no t (frontOf t at .from) (frontOf t at .to) k
+    go false = refl
 
 module _ (t : List ℕ) (n : ℕ) where
   -- `parse_standalone_attrs`

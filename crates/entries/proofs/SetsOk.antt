@@ -1,14 +1,16 @@
 -- "it is well-formed if its text gives neither 1 nor 2": every set that an entry by line number hands out.
 -- Assumes nothing.
 use mathlib.Core.Path.{_≡_, refl}
-use mathlib.Core.Bool.{Bool, true, false}
+use mathlib.Core.Bool.{Bool, true, false, cond}
 use mathlib.Core.List.{List, [], _∷_}
 use Prim.Native.Nat.{ℕ, zero, suc, _<_}
 use native.Mathlib.Omega.{arith}
 use borrow.Author.Tests.{ltb-true, ltb-false}
 use lib.Dec.{ltb, eqb·suc-zero}
 use lib.ListN.{length, drop}
+use Rattle.ascii.specs.declared.Mode.the-variants.{Loose}
 use Rattle.utf8.specs.Utf8.{isUtf8}
+use Rattle.refusals.specs.declared.Refusal.the-variants.{NothingThere}
 use Rattle.checks.specs.Check.{checkOf, isText}
 use Rattle.checks.specs.declared.Check as checks
 use Rattle.checks.specs.declared.Check.the-variants as check
@@ -17,18 +19,20 @@ use Rattle.lines.specs.declared.Range.{Range}
 use Rattle.lines.specs.declared.Line as places
 use Rattle.lines.specs.declared.Line.the-variants as place
 use Rattle.lines.proofs.Lines.{ranges-at, ranges-end}
-use Rattle.fill.specs.Fill.{refusing}
+use Rattle.fill.specs.Fill.{refusing, chainAt}
 use Rattle.wellformed.specs.WellFormed.{wellFormed}
+use Rattle.reader.proofs.ChainsOut.{chain-out-ok}
 use Rattle.reader.proofs.HandedOut.{text-utf8}
 use Rattle.runs.specs.Runs as runs
 use Rattle.runs.proofs.Texts.{past-well}
+use Rattle.fronts.specs.Fronts.{frontOf, opensAt}
 use Rattle.starts.specs.declared.Start as starts
 use Rattle.starts.specs.declared.Start.the-variants as start
 use Rattle.starts.specs.Starts.{begun, startAt, onStart, placeOf}
-use Rattle.blocks.specs.Blocks.{Found, nothing, found, wrapped, textIn, blockOf, lineRead}
-use Rattle.entries.specs.Entries.{parseStandalone}
+use Rattle.blocks.specs.Blocks.{Found, nothing, found, wrapped, textIn, blockOf}
+use Rattle.entries.specs.Entries.{lineRead, parseStandalone}
 use Rattle.blocks.specs.ByLine.{blockFound, wrappedFound}
-use Rattle.blocks.proofs.SetsOk.{Ok, empty-fits, none-ok, found-ok, wrapped-ok, line-read-ok}
+use Rattle.blocks.proofs.SetsOk.{Ok, empty-fits, none-ok, found-ok, wrapped-ok}
 
 -- ---- where a line of a UTF-8 text begins, the rest is UTF-8
 
@@ -91,10 +95,18 @@ module _ (t : List ℕ) (h : isText t ≡ true) where
   unfolding wrappedFound
   run-set-ok n base cap = start-ok n (λ at. wrapped t at base cap) (λ at u. wrapped-ok t h at base cap u)
 
+  line-read-ok : (at : ℕ) → wellFormed t (lineRead t at .set) ≡ true
+  unfolding lineRead
+  line-read-ok at = go (opensAt t at)
+    where
+      go : (o : Bool) → wellFormed t (cond o (chainAt Loose t (frontOf t at .from) (frontOf t at .to)) (refusing NothingThere) .set) ≡ true
+      go true = chain-out-ok Loose t (frontOf t at .from) (frontOf t at .to) h
+      go false = empty-fits t h
+
   pub line-set-ok : (n : ℕ) → wellFormed t (parseStandalone t n .set) ≡ true
   unfolding parseStandalone
   line-set-ok n = go (startAt t n)
     where
       go : (s : starts.Start) → wellFormed t (onStart refusing (lineRead t) s .set) ≡ true
       go (start.Refused r) = empty-fits t h
-      go (start.At at) = line-read-ok t h at
+      go (start.At at) = line-read-ok at

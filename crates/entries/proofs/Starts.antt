@@ -10,9 +10,9 @@ use Rattle.starts.specs.declared.Start.the-variants as start
 use Rattle.starts.specs.Starts.{startAt, placeOf}
 use Rattle.starts.proofs.Starts.{text-fits}
 use Rattle.blocks.specs.declared.Block.{Block}
-use Rattle.blocks.specs.Blocks.{Found, nothing, joinHolds, unread, blockOf, sized, lineRead}
+use Rattle.blocks.specs.Blocks.{Found, nothing, joinHolds, unread, blockOf, sized}
 use Rattle.blocks.proofs.Finds.{none-holds, none-read, sized-is}
-use Rattle.entries.specs.Entries.{parseStandalone}
+use Rattle.entries.specs.Entries.{lineRead, parseStandalone}
 
 module _ (t : List ℕ) (n : ℕ) where
   -- ---- where there is no line

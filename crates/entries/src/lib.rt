@@ -6,9 +6,9 @@ use starts::Start;
 ghost use mathlib.Core.Path.{_≡_};
 ghost use lib.ListN.{length};
 ghost use Rattle.starts.specs.Starts.{placeOf};
-ghost use Rattle.blocks.specs.Blocks.{joinHolds, blockOf, lineRead};
+ghost use Rattle.blocks.specs.Blocks.{joinHolds, blockOf};
 ghost use Rattle.blocks.specs.ByLine.{blockFound, wrappedFound};
-ghost use Rattle.entries.specs.Entries.{parseStandalone};
+ghost use Rattle.entries.specs.Entries.{lineRead, parseStandalone};
 
 // The line at the place alone, read.
 fn read_line(text: &[u8], at: usize) -> Filled

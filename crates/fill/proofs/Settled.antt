@@ -8,7 +8,6 @@ use lib.ListN.{length}
 use lib.Seq.{slice}
 use Rattle.ascii.specs.declared.Mode.{Mode}
 use Rattle.grammar.specs.Read.{Reading, readPayload}
-use Rattle.chain.specs.Chain.{readBlocks}
 use Rattle.refusals.specs.Numbers.{maxText}
 use Rattle.refusals.specs.declared.Refusal.{Refusal}
 use Rattle.refusals.specs.declared.Refusal.the-variants.{TextTooLong, NoReading, TooManyClasses, TooManyKeys, TooManySlots}
@@ -18,7 +17,7 @@ use Rattle.sets.specs.Puts.{putsIn}
 use Rattle.sets.specs.declared.Attrs.{Attrs}
 use Rattle.fill.specs.declared.Outcome.the-variants.{Done}
 use Rattle.fill.specs.declared.Filled.{Filled}
-use Rattle.fill.specs.Fill.{refusing, limited, filledBy, filledOf, fillAt, chainAt}
+use Rattle.fill.specs.Fill.{refusing, limited, filledBy, filledOf, fillAt}
 
 pub data Settled : Filled → Type 0 where
   refused : (r : Refusal) → Settled (refusing r)

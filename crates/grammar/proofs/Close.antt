@@ -22,7 +22,7 @@ use Rattle.grammar.specs.declared.Scan.{Scan}
 use Rattle.grammar.specs.declared.Step.the-variants.{Closed, Broken, Go}
 use Rattle.grammar.specs.declared.Place.{Place}
 use Rattle.grammar.specs.declared.Place.the-variants.{Nothing, At}
-use Rattle.grammar.specs.Close.{going, turned, bareStep, stepOf, goOn, closeFrom, fresh, findClose, Covered, noLf, Closes, lastFrom, lastClose, isBefore}
+use Rattle.grammar.specs.Close.{uncovered, going, turned, bareStep, stepOf, goOn, closeFrom, fresh, findClose, Covered, noLf, Closes, lastFrom, lastClose, isBefore}
 use Rattle.grammar.proofs.Tokens.{covering, quote-not}
 
 -- ======== what is found is a close
@@ -127,11 +127,8 @@ byte-pass b t i h n = rw n (go (eqb b 34) (eqb b 39) (eqb b 92) (eqb b 125) h)
     go false false false true h = contra true refl h
     go false false false false h = refl
 
-abbrev quoting : ℕ → Scan
-quoting q = record { quote = In q; escaped = false }
-
 -- the text in a quote, and the quote's end
-inside-pass : {q : ℕ} {v : List ℕ} → Inside q v → (q ≡ 92 → ⊥) → eqb q 10 ≡ false → noLf v ≡ true → (t : List ℕ) (i : ℕ) → closeFrom (v ++ (q ∷ t)) (quoting q) i ≡ closeFrom t fresh (suc (i + length v))
+inside-pass : {q : ℕ} {v : List ℕ} → Inside q v → (q ≡ 92 → ⊥) → eqb q 10 ≡ false → noLf v ≡ true → (t : List ℕ) (i : ℕ) → closeFrom (v ++ (q ∷ t)) (uncovered (In q)) i ≡ closeFrom t fresh (suc (i + length v))
 unfolding noLf all closeFrom stepOf turned
 inside-pass {q} Inside.end w n h t i = rw (n, ne-eqb q 92 w, eq-eqb q q refl, add-zero)
 inside-pass {q} (Inside.byte {b = b} {s = s} p r g) w n h t i =
@@ -141,7 +138,7 @@ inside-pass {q} (Inside.pair {b = b} {s = s} g) w n h t i =
     let k = both (not (eqb b 10)) (all (λ b. not (eqb b 10)) s) h in
     rw (not-true (eqb b 10) (k .0), inside-pass g w n (k .1) t (suc (suc i)), add-suc, add-suc, suc-add, suc-add)
 
-quote-pass : (q : ℕ) (t : List ℕ) (i : ℕ) → isQuote q ≡ true → closeFrom (q ∷ t) fresh i ≡ closeFrom t (quoting q) (suc i)
+quote-pass : (q : ℕ) (t : List ℕ) (i : ℕ) → isQuote q ≡ true → closeFrom (q ∷ t) fresh i ≡ closeFrom t (uncovered (In q)) (suc i)
 unfolding closeFrom stepOf turned
 quote-pass q t i h = rw (quote-lf q h, ne-eqb q 92 (quote-not q h), quote-close q h, h)
 

@@ -18,6 +18,10 @@ use Rattle.grammar.specs.declared.Place.the-variants.{Nothing, At}
 
 -- ---- by computing
 
+-- in a quote or outside, where no backslash covers the next byte
+abbrev pub uncovered : Quote → Scan
+uncovered q = record { quote = q; escaped = false }
+
 abbrev pub going : Quote → Bool → Step
 going q e = Go (record { quote = q; escaped = e })
 
@@ -50,7 +54,7 @@ closeFrom [] st i = Nothing
 closeFrom (b ∷ s) st i = goOn (stepOf st b) i (λ v. closeFrom s v (suc i))
 
 abbrev pub fresh : Scan
-fresh = record { quote = Out; escaped = false }
+fresh = uncovered Out
 
 -- the search from `at` on
 unfoldable pub findClose : List ℕ → ℕ → Place

@@ -1,2 +1,3 @@
 -- The laws of loans.
 pub mod Local
+pub mod Calls

@@ -19,9 +19,9 @@ use Rattle.sets.specs.Types.{rangeBytes, nameBytes, valueBytes}
 use Rattle.sets.specs.Rows.{hasKey, putRow, withPut, withPuts, slotEntry, meant, padded, tableOf, rowsIn, meaningOf}
 use Rattle.sets.specs.Puts.{byName, valued, putsOf, putsIn}
 use Rattle.fill.specs.Fill.{limited, filledOf}
-use Rattle.reader.specs.Brace.{opensAt, finished, atBrace, readAttrsAt}
+use Rattle.reader.specs.Brace.{braceAt, finished, atBrace, readAttrsAt}
 use Rattle.reader.proofs.Agrees.{seen}
 
 pub twelve : readings (λ t. seen t (readAttrsAt Strict t 0)) cases ≡ cases
-unfolding all headed run isIn same within isLetter isDigit isAlnum isNameStart isNamePart isKeyStart isBlank isQuote isPlain isPunct isSpace isUtf8 octetsFrom leadOf afterOf numberOf isName isKey isBareName isSize tagFrom isTag isLanguage unescapeFrom unescape isValue ends finish shutOf valueToken afterName tokenOf text readFrom readPayload rangesFrom turned stepOf closeFrom findClose marked escape moreText pairsText pairsOf pairs canon rangeBytes nameBytes valueBytes hasKey putRow withPut withPuts slotEntry meant padded tableOf rowsIn meaningOf byName valued putsOf putsIn limited filledOf opensAt finished atBrace readAttrsAt
+unfolding all headed run isIn same within isLetter isDigit isAlnum isNameStart isNamePart isKeyStart isBlank isQuote isPlain isPunct isSpace isUtf8 octetsFrom leadOf afterOf numberOf isName isKey isBareName isSize tagFrom isTag isLanguage unescapeFrom unescape isValue ends finish shutOf valueToken afterName tokenOf text readFrom readPayload rangesFrom turned stepOf closeFrom findClose marked escape moreText pairsText pairsOf pairs canon rangeBytes nameBytes valueBytes hasKey putRow withPut withPuts slotEntry meant padded tableOf rowsIn meaningOf byName valued putsOf putsIn limited filledOf braceAt finished atBrace readAttrsAt
 twelve = refl

@@ -32,7 +32,7 @@ use Rattle.fill.specs.Fill as fills
 use Rattle.fill.specs.declared.Outcome as outcomes
 use Rattle.fill.specs.declared.Outcome.the-variants as outcome
 use Rattle.fill.specs.declared.Filled.{Filled}
-use Rattle.reader.specs.Brace.{refusing, opensAt, payloadOf, handedOut, finished, readTo, atBrace, readAttrsAt}
+use Rattle.reader.specs.Brace.{refusing, braceAt, payloadOf, handedOut, finished, readTo, atBrace, readAttrsAt}
 
 -- ---- sets that were filled
 pub empty-ok : (t : Texts) → tableOk t emptySet ≡ true
@@ -72,15 +72,15 @@ text-utf8 t = go (ltb maxText (length t))
     go false e = e
 
 pub handed-out-ok : (m : Mode) (t : List ℕ) (i : ℕ) → isText t ≡ true → wellFormed t (readAttrsAt m t i .set) ≡ true
-unfolding wellFormed readAttrsAt atBrace opensAt fills.filledOf
-handed-out-ok m t i h = rw h (go (ltb maxText (length t)) (opensAt t i) refl)
+unfolding wellFormed readAttrsAt atBrace braceAt fills.filledOf
+handed-out-ok m t i h = rw h (go (ltb maxText (length t)) (braceAt t i) refl)
   where
-    payload : (e : ℕ) → opensAt t i ≡ true → findClose t (suc i) ≡ At e → (is : List Placed) → readPayload m (suc i) (payloadOf t i e) ≡ Reading.items is → all (putOk (one t)) (putsIn is) ≡ true
+    payload : (e : ℕ) → braceAt t i ≡ true → findClose t (suc i) ≡ At e → (is : List Placed) → readPayload m (suc i) (payloadOf t i e) ≡ Reading.items is → all (putOk (one t)) (putsIn is) ≡ true
     payload e o c is r =
         let z = both (ltb i (length t)) (eqb (getD t i 0) 123) o in
         read-ok t m is (brace-part t i e (text-utf8 t h) (ltb-true i (length t) (z .0)) (eqb-true (getD t i 0) 123 (z .1)) c) (brace-flat t i e c) r
 
-    closed : (p : Place) → opensAt t i ≡ true → findClose t (suc i) ≡ p → tableOk (one t) (readTo m t i p .set) ≡ true
+    closed : (p : Place) → braceAt t i ≡ true → findClose t (suc i) ≡ p → tableOk (one t) (readTo m t i p .set) ≡ true
     closed Nothing o c = empty-ok (one t)
     closed (At e) o c = cut (isUtf8 (payloadOf t i e))
       where
@@ -88,7 +88,7 @@ handed-out-ok m t i h = rw h (go (ltb maxText (length t)) (opensAt t i) refl)
         cut true = finished-ok (one t) (fills.filledOf m (one t) (suc i) (payloadOf t i e)) (suc e) (filled-ok (one t) (readPayload m (suc i) (payloadOf t i e)) (payload e o c))
         cut false = empty-ok (one t)
 
-    go : (a b : Bool) → opensAt t i ≡ b → tableOk (one t) (cond a (refusing TextTooLong) (cond b (readTo m t i (findClose t (suc i))) (refusing NothingThere)) .set) ≡ true
+    go : (a b : Bool) → braceAt t i ≡ b → tableOk (one t) (cond a (refusing TextTooLong) (cond b (readTo m t i (findClose t (suc i))) (refusing NothingThere)) .set) ≡ true
     go true b o = empty-ok (one t)
     go false true o = closed (findClose t (suc i)) o refl
     go false false o = empty-ok (one t)

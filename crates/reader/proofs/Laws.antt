@@ -28,7 +28,7 @@ use Rattle.fill.specs.Fill as fills
 use Rattle.fill.specs.declared.Filled.{Filled}
 use Rattle.fill.proofs.Settled.{Settled, fill-settled}
 use Rattle.lines.specs.declared.Range.{Range}
-use Rattle.reader.specs.Brace.{refusing, opensAt, payloadOf, finished, readTo, atBrace, front, partTo, payloadAt}
+use Rattle.reader.specs.Brace.{refusing, braceAt, payloadOf, finished, readTo, atBrace, front, partTo, payloadAt}
 use Rattle.reader.specs.Steps.{answerBy}
 
 -- ---- 1, 3, and then the close: one law for whatever is answered
@@ -37,16 +37,16 @@ module _ {A : Type 0} (long none : A) (to : Place → A) (t : List ℕ) (i : ℕ
   unfolding atBrace
   too-long h = rw (lt-ltb maxText (length t) h)
 
-  pub no-brace : length t ≤ maxText → opensAt t i ≡ false → none ≡ atBrace long none to t i
+  pub no-brace : length t ≤ maxText → braceAt t i ≡ false → none ≡ atBrace long none to t i
   unfolding atBrace
   no-brace h e = rw (le-ltb maxText (length t) h, e)
 
-  pub at-close : {p q : Place} {r : A} → length t ≤ maxText → opensAt t i ≡ true → p ≡ findClose t (i + 1) → p ≡ q → r ≡ to q → r ≡ atBrace long none to t i
+  pub at-close : {p q : Place} {r : A} → length t ≤ maxText → braceAt t i ≡ true → p ≡ findClose t (i + 1) → p ≡ q → r ≡ to q → r ≡ atBrace long none to t i
   unfolding atBrace
   at-close h e f g k = rw (le-ltb maxText (length t) h, e) (k ∙ ap to (sym g ∙ f ∙ ap (findClose t) (add-one i)))
 
-pub opens-in : (t : List ℕ) (i : ℕ) → opensAt t i ≡ true → i < length t
-unfolding opensAt
+pub opens-in : (t : List ℕ) (i : ℕ) → braceAt t i ≡ true → i < length t
+unfolding braceAt
 opens-in t i e = ltb-true i (length t) (both (ltb i (length t)) (eqb (getD t i 0) 123) e .0)
 
 -- where the close was found
@@ -105,7 +105,7 @@ pub record Inside (t : List ℕ) (r : Range) : Type 0 where
 
 pub range-in : (t : List ℕ) (i : ℕ) → Inside t (payloadAt t i)
 unfolding payloadAt atBrace
-range-in t i = go (ltb maxText (length t)) (opensAt t i) (findClose t (suc i)) refl
+range-in t i = go (ltb maxText (length t)) (braceAt t i) (findClose t (suc i)) refl
   where
     at-front : Inside t front
     at-front = record { ordered = omega arith; within = omega arith }

@@ -40,7 +40,7 @@ use Rattle.fill.specs.Fill as fills
 use Rattle.reader.specs.declared.Answer.{Answer}
 use Rattle.reader.specs.declared.Answer.the-variants.{Refused, Next}
 use Rattle.reader.specs.declared.Read.{Read}
-use Rattle.reader.specs.Brace.{answerNo, refusing, opensAt, payloadOf, finished, readTo, atBrace, readAttrsAt}
+use Rattle.reader.specs.Brace.{answerNo, refusing, braceAt, payloadOf, finished, readTo, atBrace, readAttrsAt}
 use Rattle.reader.specs.Table.{classCount, keyCount, Opens, Block, Reads, Given}
 use Rattle.reader.proofs.Counts.{class-fill, key-fill}
 
@@ -50,14 +50,14 @@ meantAt m t i = meaningOf (one t) (readAttrsAt m t i .set)
 
 -- ======== the parts
 
-opens : (t : List ℕ) (i : ℕ) → opensAt t i ≡ true → Opens t i
-unfolding opensAt
+opens : (t : List ℕ) (i : ℕ) → braceAt t i ≡ true → Opens t i
+unfolding braceAt
 opens t i e =
     let z = both (ltb i (length t)) (eqb (getD t i 0) 123) e in
     record { there = ltb-true i (length t) (z .0); brace = eqb-true (getD t i 0) 123 (z .1) }
 
-opened : {t : List ℕ} {i : ℕ} → Opens t i → opensAt t i ≡ true
-unfolding opensAt
+opened : {t : List ℕ} {i : ℕ} → Opens t i → braceAt t i ≡ true
+unfolding braceAt
 opened {t} {i} o = rw (lt-ltb i (length t) (o .there), eq-eqb (getD t i 0) 123 (o .brace))
 
 not-utf8 : (s : List ℕ) → (WellFormed s → ⊥) → isUtf8 s ≡ false
@@ -148,11 +148,11 @@ module _ (m : Mode) (t : List ℕ) (i : ℕ) where
 
   pub given : Given m t i (readAttrsAt m t i .answer) (meantAt m t i)
   unfolding readAttrsAt atBrace
-  given = go (ltb maxText (length t)) refl (opensAt t i) refl (findClose t (suc i)) refl
+  given = go (ltb maxText (length t)) refl (braceAt t i) refl (findClose t (suc i)) refl
     where
-      go : (x : Bool) → ltb maxText (length t) ≡ x → (y : Bool) → opensAt t i ≡ y → (p : Place) → findClose t (suc i) ≡ p → Right m t i (readAttrsAt m t i)
+      go : (x : Bool) → ltb maxText (length t) ≡ x → (y : Bool) → braceAt t i ≡ y → (p : Place) → findClose t (suc i) ≡ p → Right m t i (readAttrsAt m t i)
       go true a y b p c = without (Given.long (omega (arith, ltb-true maxText (length t) a))) (rw a)
-      go false a false b p c = without (Given.none (ltb-false maxText (length t) a) (λ o. contra (opensAt t i) (opened o) b)) (rw (a, b))
+      go false a false b p c = without (Given.none (ltb-false maxText (length t) a) (λ o. contra (braceAt t i) (opened o) b)) (rw (a, b))
       go false a true b Nothing c = without (Given.unclosed (ltb-false maxText (length t) a) (opens t i b) (never-closes t i c)) (rw (a, b, c))
       go false a true b (At e) c = with-block (record { short = ltb-false maxText (length t) a; opens = opens t i b; closes = found t (suc i) e c .closes })
 
@@ -170,9 +170,9 @@ module _ {m : Mode} {t : List ℕ} {i : ℕ} where
   exact : {a : Answer} {s : List Entry} → Given m t i a s → Out m t i a s (readAttrsAt m t i)
   unfolding readAttrsAt atBrace finished fills.filledOf
   exact (Given.long l) = nothing (rw (lt-ltb maxText (length t) (omega (arith, l))))
-  exact (Given.none l n) = nothing (rw (le-ltb maxText (length t) l) (go (opensAt t i) refl))
+  exact (Given.none l n) = nothing (rw (le-ltb maxText (length t) l) (go (braceAt t i) refl))
     where
-      go : (x : Bool) → opensAt t i ≡ x → cond x (readTo m t i (findClose t (suc i))) (refusing NothingThere) ≡ refusing NothingThere
+      go : (x : Bool) → braceAt t i ≡ x → cond x (readTo m t i (findClose t (suc i))) (refusing NothingThere) ≡ refusing NothingThere
       go true e = absurd (n (opens t i e))
       go false e = refl
   exact (Given.unclosed l o n) = nothing (rw (le-ltb maxText (length t) l, opened o) (go (findClose t (suc i)) refl))

@@ -34,8 +34,8 @@ abbrev pub refusing : Refusal → Read
 refusing r = record { answer = Refused r; set = emptySet }
 
 -- "no `{` at the place"
-unfoldable pub opensAt : List ℕ → ℕ → Bool
-opensAt t i = ltb i (length t) && eqb (getD t i 0) 123
+unfoldable pub braceAt : List ℕ → ℕ → Bool
+braceAt t i = ltb i (length t) && eqb (getD t i 0) 123
 
 -- the bytes between the brace at i and the close at e
 abbrev pub payloadOf : List ℕ → ℕ → ℕ → List ℕ
@@ -59,7 +59,7 @@ readTo m t i (At e) =
 
 -- 1, then 3, then what the search for the close leads to
 unfoldable pub atBrace : {A : Type 0} → A → A → (Place → A) → List ℕ → ℕ → A
-atBrace long none to t i = cond (ltb maxText (length t)) long (cond (opensAt t i) (to (findClose t (suc i))) none)
+atBrace long none to t i = cond (ltb maxText (length t)) long (cond (braceAt t i) (to (findClose t (suc i))) none)
 
 unfoldable pub readAttrsAt : Mode → List ℕ → ℕ → Read
 readAttrsAt m t i = atBrace (refusing TextTooLong) (refusing NothingThere) (readTo m t i) t i

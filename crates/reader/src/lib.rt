@@ -14,7 +14,7 @@ ghost use Rattle.ascii.specs.declared.Mode.the-variants.{Strict};
 ghost use Rattle.refusals.specs.Numbers.{maxText};
 ghost use Rattle.grammar.specs.Close.{findClose};
 ghost use Rattle.grammar.specs.declared.Place.the-variants.{At};
-ghost use Rattle.reader.specs.Brace.{refusing, opensAt, readTo, readAttrsAt, partTo, payloadAt};
+ghost use Rattle.reader.specs.Brace.{refusing, braceAt, readTo, readAttrsAt, partTo, payloadAt};
 ghost use Rattle.reader.specs.Steps.{answerBy};
 
 // A refusal, or the place behind the block.
@@ -43,7 +43,7 @@ fn refused(r: Refusal) -> Read
 
 // Whether a brace opens at the place.
 fn opens_at(text: &[u8], place: usize) -> bool
-    ensures { λ r. ⌜ r ≡ opensAt (now (text .entry)) place ⌝ }
+    ensures { λ r. ⌜ r ≡ braceAt (now (text .entry)) place ⌝ }
 {
     if text.len() <= place {
         return false;

@@ -33,7 +33,7 @@ use Rattle.joins.specs.Joins.{added, stepOf, laid, joinAfter}
 use Rattle.runs.proofs.Joining.{Shows, Meets, meets, over-long, over-sets}
 use Rattle.spots.specs.declared.Spot.{Spot}
 use Rattle.refused.specs.declared.Ran.{Ran}
-use Rattle.spots.specs.Spots.{isStray, opensAt, spotAfter}
+use Rattle.spots.specs.Spots.{isStray, opensBy, spotAfter}
 use Rattle.refused.specs.Refused.{Found, onto, walkLine, On, halts, padOf, padded, enteredAt, onAfter, behind, walkFrom}
 use Rattle.refused.specs.Shown.{spotsFrom, walkAt, isBlock, linesIn, paddedRun, ranOf}
 use Rattle.refused.proofs.Leaves.{spot-column}
@@ -87,7 +87,7 @@ module _ (opener : ℕ) (w : On) (l : List ℕ) (ls : List (List ℕ)) where
 spots-low : (p : Spot) (s : List ℕ) (k : ℕ) → p .column + 4 * length s ≤ k → p .brace ≤ k → spotsFrom p s .brace ≤ k
 unfolding spotsFrom spotAfter
 spots-low p [] k h q = q
-spots-low p (b ∷ s) k h q = spots-low (spotAfter p b) s k (omega (arith, spot-column p b)) (go (opensAt p b))
+spots-low p (b ∷ s) k h q = spots-low (spotAfter p b) s k (omega (arith, spot-column p b)) (go (opensBy p b))
   where
     go : (x : Bool) → cond x (p .column) (p .brace) ≤ k
     go true = omega arith

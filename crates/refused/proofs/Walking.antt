@@ -24,7 +24,7 @@ use Rattle.runs.specs.Runs.{Lined}
 use Rattle.spots.specs.declared.Spot.{Spot}
 use Rattle.refused.specs.declared.Walk.{Walk}
 use Rattle.refused.specs.declared.Walk.the-variants.{No, Block}
-use Rattle.spots.specs.Spots.{isStray, opensAt, spotAfter, shallowOr}
+use Rattle.spots.specs.Spots.{isStray, opensBy, spotAfter, shallowOr}
 use Rattle.refused.specs.Refused.{Found, onto, walkLine, On, halts, padded, enteredAt, onAfter, behind, walkFrom, onFirst}
 use Rattle.refused.specs.Shown.{walkAt, shownWalk}
 use Rattle.spots.proofs.Leaves.{front}
@@ -134,7 +134,7 @@ module _ {t : List ℕ} {r : Walk} {opener n e next : ℕ} {sh : Bool} {p : Spot
           upto = omega arith;
           within = inv .within;
           column = omega (arith, ap (λ z. z .column) s, spot-column p (getD t i 0), inv .column);
-          low = spot-low v (opensAt p (getD t i 0)) (ap (λ z. z .brace) s) k;
+          low = spot-low v (opensBy p (getD t i 0)) (ap (λ z. z .brace) s) k;
           K = inv .K;
           after = inv .after;
           rest = rw (s, add-one) (rw (slice-cons i e t 0 h (inv .within), ← q) at (inv .rest));

@@ -22,7 +22,7 @@ toldNo (Refused r) = numberOf r
 toldNo More = 0
 toldNo Done = 0
 
--- No line of a report is longer (proofs/Said.antt): where so many bytes are free, the next line has room, whatever it says. It is `maxText` for the canonical text and
+-- No line of a report is longer (`line-le` of proofs/Laying.antt): where so many bytes are free, the next line has room, whatever it says. It is `maxText` for the canonical text and
 -- 65 for the rest: the word (5 bytes), two numbers of at most 20 digits, three tabs and the LF take 49 of them. The line of a refusal is far shorter.
 abbrev pub maxLine : ℕ
 maxLine = 65600

@@ -16,14 +16,14 @@ use Rattle.columns.specs.Columns.{columnAfter, columnsFrom, expandFrom, most}
 use Rattle.columns.proofs.Laws.{capped-id, columns-ge, columns-le}
 use Rattle.columns.proofs.Tabs.{columns-count}
 use Rattle.utf8.specs.Utf8.{charCount}
-use Rattle.grammar.specs.Close.{fresh, turned}
+use Rattle.grammar.specs.Close.{uncovered, fresh, turned}
 use Rattle.grammar.specs.declared.Quote.{Quote}
 use Rattle.grammar.specs.declared.Quote.the-variants.{Out}
 use Rattle.grammar.specs.declared.Scan.{Scan}
 use Rattle.grammar.specs.declared.Place.{Place}
 use Rattle.grammar.specs.declared.Place.the-variants.{Nothing, At}
 use Rattle.scanners.specs.declared.Seek.{Seek}
-use Rattle.scanners.specs.Scanners.{passed, ignored, scanFrom, isBare, seekStep, seekFrom, startIn, seekStart, lastOpenBrace, cappedAt}
+use Rattle.scanners.specs.Scanners.{passed, ignored, scanFrom, isBare, seekStep, seekFrom, seekStart, lastOpenBrace, cappedAt}
 use Rattle.scanners.specs.Rules.{noneBare, spaced, LastBrace}
 use Rattle.scanners.proofs.Laws.{seek-append}
 use Rattle.scanners.proofs.Quotes.{bare-is, brace-stays}
@@ -115,27 +115,27 @@ moved e l = record { before = l .before; behind = l .behind; whole = l .whole; o
 
 -- the computed answer is the rules' answer, and there is one only
 module _ (q : Quote) (c : ℕ) (s : List ℕ) where
-  pub brace-complete : {n : ℕ} → LastBrace (startIn q) c s n → lastOpenBrace q c s ≡ At n
+  pub brace-complete : {n : ℕ} → LastBrace (uncovered q) c s n → lastOpenBrace q c s ≡ At n
   unfolding lastOpenBrace
   brace-complete l = brace-found (seekStart q c) s l
 
-  pub brace-sound : {n : ℕ} → lastOpenBrace q c s ≡ At n → LastBrace (startIn q) c s n
+  pub brace-sound : {n : ℕ} → lastOpenBrace q c s ≡ At n → LastBrace (uncovered q) c s n
   unfolding lastOpenBrace
-  brace-sound {n} e = go (seen (startIn q) c s)
+  brace-sound {n} e = go (seen (uncovered q) c s)
     where
-      go : Seen (startIn q) c s → LastBrace (startIn q) c s n
+      go : Seen (uncovered q) c s → LastBrace (uncovered q) c s n
       go (Seen.none h) = contra (isAt (At n)) refl (ap isAt (sym e ∙ seek-none (seekStart q c) s h))
       go (Seen.some m l) = moved (ap valueOf (sym (brace-found (seekStart q c) s l) ∙ e)) l
 
-  pub no-brace : noneBare 123 (startIn q) s ≡ true → lastOpenBrace q c s ≡ Nothing
+  pub no-brace : noneBare 123 (uncovered q) s ≡ true → lastOpenBrace q c s ≡ Nothing
   unfolding lastOpenBrace
   no-brace h = seek-none (seekStart q c) s h
 
-  pub none-there : lastOpenBrace q c s ≡ Nothing → noneBare 123 (startIn q) s ≡ true
+  pub none-there : lastOpenBrace q c s ≡ Nothing → noneBare 123 (uncovered q) s ≡ true
   unfolding lastOpenBrace
-  none-there e = go (seen (startIn q) c s)
+  none-there e = go (seen (uncovered q) c s)
     where
-      go : Seen (startIn q) c s → noneBare 123 (startIn q) s ≡ true
+      go : Seen (uncovered q) c s → noneBare 123 (uncovered q) s ≡ true
       go (Seen.none h) = h
       go (Seen.some m l) = contra (isAt (At m)) refl (ap isAt (sym (brace-found (seekStart q c) s l) ∙ e))
 

@@ -14,7 +14,7 @@ use Rattle.ascii.specs.Bytes.{within, isQuote, isTail}
 use Rattle.columns.specs.Columns.{columnAfter}
 use Rattle.utf8.specs.Grammar.{Char, one, two, three-E0, three-E1, three-ED, three-EE, four-F0, four-F1, four-F4, Octets, none, more}
 use Rattle.utf8.proofs.Shape.{starts, shape}
-use Rattle.grammar.specs.Close.{fresh, turned}
+use Rattle.grammar.specs.Close.{uncovered, fresh, turned}
 use Rattle.grammar.specs.declared.Quote.{Quote}
 use Rattle.grammar.specs.declared.Quote.the-variants.{Out, In}
 use Rattle.grammar.specs.declared.Scan.{Scan}
@@ -22,7 +22,7 @@ use Rattle.scanners.specs.declared.Seek.{Seek}
 use Rattle.scanners.specs.declared.Held.{Held}
 use Rattle.scanners.specs.declared.Hold.{Hold}
 use Rattle.scanners.specs.declared.Hold.the-variants.{Dead, Live}
-use Rattle.scanners.specs.Scanners.{isQuoted, takes, passed, honoured, ignored, scanFrom, isBare, startIn, openQuoteAtEnd, seekStep, seekFrom, seekStart, lastOpenBrace, live, heldStep, holdStep, holdFrom, holdStart, isHeld, holdsOpen}
+use Rattle.scanners.specs.Scanners.{isQuoted, takes, passed, honoured, ignored, scanFrom, isBare, openQuoteAtEnd, seekStep, seekFrom, seekStart, lastOpenBrace, live, heldStep, holdStep, holdFrom, holdStart, isHeld, holdsOpen}
 use Rattle.scanners.specs.Rules.{leads, isSound}
 
 -- ---- a byte above 127 is no byte that the scanners look for
@@ -122,21 +122,21 @@ module _ (o : Bool) where
   unfolding passed
   sound-passed st b f = go (st .escaped) (takes o (st .quote) b)
     where
-      go : (x y : Bool) → isSound (cond x (startIn (st .quote)) (cond y (record { quote = st .quote; escaped = true }) (startIn (turned (st .quote) b))) .quote) ≡ true
+      go : (x y : Bool) → isSound (cond x (uncovered (st .quote)) (cond y (record { quote = st .quote; escaped = true }) (uncovered (turned (st .quote) b))) .quote) ≡ true
       go true y = f
       go false true = f
       go false false = sound-turned (st .quote) b f
 
   -- behind a byte above 127 no byte is covered
-  high-passed : (st : Scan) (b : ℕ) → 128 ≤ b → passed o st b ≡ startIn (passed o st b .quote)
+  high-passed : (st : Scan) (b : ℕ) → 128 ≤ b → passed o st b ≡ uncovered (passed o st b .quote)
   unfolding passed
   high-passed st b h = rw (high-takes b h o (st .quote)) (go (st .escaped))
     where
-      go : (x : Bool) → cond x (startIn (st .quote)) (startIn (turned (st .quote) b)) ≡ startIn (cond x (startIn (st .quote)) (startIn (turned (st .quote) b)) .quote)
+      go : (x : Bool) → cond x (uncovered (st .quote)) (uncovered (turned (st .quote) b)) ≡ uncovered (cond x (uncovered (st .quote)) (uncovered (turned (st .quote) b)) .quote)
       go true = refl
       go false = refl
 
-  quiet : (q : Quote) (t : ℕ) → isSound q ≡ true → isTail t ≡ true → passed o (startIn q) t ≡ startIn q
+  quiet : (q : Quote) (t : ℕ) → isSound q ≡ true → isTail t ≡ true → passed o (uncovered q) t ≡ uncovered q
   unfolding passed turned
   quiet Out t f e = rw (high-takes t (tail-high t e) o Out, high-quote t (tail-high t e))
   quiet (In k) t f e = rw (high-takes t (tail-high t e) o (In k), apart isTail t k e (not-true (isTail k) f))

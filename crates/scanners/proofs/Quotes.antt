@@ -10,7 +10,7 @@ use Rattle.lists.specs.Lists.{isIn}
 use Rattle.lists.proofs.Scan.{both}
 use Rattle.lists.proofs.More.{contra}
 use Rattle.ascii.specs.Bytes.{isQuote}
-use Rattle.grammar.specs.Close.{fresh, turned}
+use Rattle.grammar.specs.Close.{uncovered, fresh, turned}
 use Rattle.grammar.specs.declared.Quote.{Quote}
 use Rattle.grammar.specs.declared.Quote.the-variants.{Out, In}
 use Rattle.grammar.specs.declared.Scan.{Scan}
@@ -47,8 +47,8 @@ unfolding passed
 step-agree st b e = go (st .escaped) (st .quote) e
   where
     go : (x : Bool) (q : Quote) → cond x false (not (isQuoted q) && eqb b 92) ≡ false
-        → _≡_ {A = Scan} (cond x (record { quote = q; escaped = false }) (cond ((isQuoted q || true) && eqb b 92) (record { quote = q; escaped = true }) (record { quote = turned q b; escaped = false })))
-        (cond x (record { quote = q; escaped = false }) (cond ((isQuoted q || false) && eqb b 92) (record { quote = q; escaped = true }) (record { quote = turned q b; escaped = false })))
+        → _≡_ {A = Scan} (cond x (uncovered q) (cond ((isQuoted q || true) && eqb b 92) (record { quote = q; escaped = true }) (uncovered (turned q b))))
+        (cond x (uncovered q) (cond ((isQuoted q || false) && eqb b 92) (record { quote = q; escaped = true }) (uncovered (turned q b))))
     go true q e = refl
     go false (In k) e = refl
     go false Out e = rw e

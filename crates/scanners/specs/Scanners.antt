@@ -5,7 +5,7 @@ use mathlib.Core.List.{List, [], _∷_}
 use Prim.Native.Nat.{ℕ}
 use lib.Dec.{eqb}
 use Rattle.columns.specs.Columns.{columnAfter, capped}
-use Rattle.grammar.specs.Close.{fresh, turned}
+use Rattle.grammar.specs.Close.{uncovered, fresh, turned}
 use Rattle.grammar.specs.declared.Quote.{Quote}
 use Rattle.grammar.specs.declared.Quote.the-variants.{Out, In}
 use Rattle.grammar.specs.declared.Scan.{Scan}
@@ -28,9 +28,9 @@ takes outside q b = (isQuoted q || outside) && eqb b 92
 
 unfoldable pub passed : Bool → Scan → ℕ → Scan
 passed outside st b =
-    cond (st .escaped) (record { quote = st .quote; escaped = false })
+    cond (st .escaped) (uncovered (st .quote))
     (cond (takes outside (st .quote) b) (record { quote = st .quote; escaped = true })
-    (record { quote = turned (st .quote) b; escaped = false }))
+    (uncovered (turned (st .quote) b)))
 
 -- a text, byte by byte
 unfoldable pub scanFrom : Bool → Scan → List ℕ → Scan
@@ -72,11 +72,8 @@ seekFrom k [] = k
 seekFrom k (b ∷ s) = seekFrom (seekStep k b) s
 
 -- the first byte stands in the quote q and in column `start`
-abbrev pub startIn : Quote → Scan
-startIn q = record { quote = q; escaped = false }
-
 abbrev pub seekStart : Quote → ℕ → Seek
-seekStart q start = record { scan = startIn q; column = start; found = Nothing }
+seekStart q start = record { scan = uncovered q; column = start; found = Nothing }
 
 unfoldable pub lastOpenBrace : Quote → ℕ → List ℕ → Place
 lastOpenBrace q start s = seekFrom (seekStart q start) s .found

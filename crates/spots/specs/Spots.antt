@@ -15,8 +15,8 @@ abbrev pub isStray : Spot → ℕ → Bool
 isStray p b = not (p .inside) && isBare (p .scan) b 125
 
 -- a `{` opens a block where none is open
-abbrev pub opensAt : Spot → ℕ → Bool
-opensAt p b = not (p .inside) && isBare (p .scan) b 123
+abbrev pub opensBy : Spot → ℕ → Bool
+opensBy p b = not (p .inside) && isBare (p .scan) b 123
 
 abbrev pub insideAfter : Spot → ℕ → Bool
 insideAfter p b = cond (p .inside) (not (isBare (p .scan) b 125)) (isBare (p .scan) b 123)
@@ -27,7 +27,7 @@ spotAfter p b =
       scan = passed ignored (p .scan) b;
       column = columnBehind (p .scan .escaped) (p .column) b;
       inside = insideAfter p b;
-      brace = cond (opensAt p b) (p .column) (p .brace);
+      brace = cond (opensBy p b) (p .column) (p .brace);
     }
 
 -- ---- a line

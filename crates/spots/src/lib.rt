@@ -5,7 +5,7 @@ ghost use Prim.Native.Nat.{_≤_};
 ghost use lib.Dec.{eqb};
 ghost use lib.ListN.{length, drop};
 ghost use Rattle.lines.specs.Trim.{trimStart};
-ghost use Rattle.spots.specs.Spots.{isStray, insideAfter, opensAt, spotAfter, opens, beginsPair, closesComment, shallowOr};
+ghost use Rattle.spots.specs.Spots.{isStray, insideAfter, opensBy, spotAfter, opens, beginsPair, closesComment, shallowOr};
 
 // Where a walk stands in a line: the column of the next byte, whether a block is open, and the column of the last brace that opened one.
 pub struct Spot {
@@ -39,7 +39,7 @@ pub fn inside_after(p: Spot, b: u8) -> bool
 
 // Whether the byte opens a block.
 fn opens_at(p: Spot, b: u8) -> bool
-    ensures { λ r. ⌜ r ≡ opensAt p b ⌝ }
+    ensures { λ r. ⌜ r ≡ opensBy p b ⌝ }
 {
     let st = p.scan;
     if p.inside {

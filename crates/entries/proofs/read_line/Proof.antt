@@ -1,7 +1,7 @@
 use borrow.Author.Tests.{not-true, not-false}
 use Rattle.fronts.proofs.Trimmed.{opens-by}
-use Rattle.blocks.specs.Blocks.{lineRead}
 use borrow.Author.Needs.{needs}
+use Rattle.entries.specs.Entries.{lineRead}
 use Rattle.entries.proofs.read_line.Statement.{statement}
 use Rattle.entries.proofs.read_line.Tie as tie
 

@@ -21,120 +21,60 @@ is-tag-at t = and 1 is-tag-kinds.ps (is 1 is-tag-kinds.ps μ-is-tag t) is-tag.Pr
 abbrev is-tag-below : ℕ → In 1 is-tag-kinds.ps
 is-tag-below t = and 1 is-tag-kinds.ps (falls 1 is-tag-kinds.ps _<_ μ-is-tag t) is-tag.Pre
 
-is-tag-subtag-len-requires : (t : ℕ) → is-tag-lts.Need-subtag-len-requires (
-  subtag-len-reads.Asked,
-  subtag-len-reads.Learnt,
-  is-tag-below t,
-  is-tag.Post,
-) (is-tag-at t) is-tag.Post
-is-tag-subtag-len-requires t c κs = tt
+-- what is known of `subtag_len`, and of the call of `is_tag` on less than t bytes
+abbrev known : ℕ → is-tag-lts.Claims
+known t = (subtag-len-reads.Asked, subtag-len-reads.Learnt, is-tag-below t, is-tag.Post)
 
-is-tag-returns : (t : ℕ) → is-tag-lts.Need-returns (
-  subtag-len-reads.Asked,
-  subtag-len-reads.Learnt,
-  is-tag-below t,
-  is-tag.Post,
-) (is-tag-at t) is-tag.Post
-is-tag-returns t c = tag.short _ (c .before .subtag-len .ensures) (c .if1 .taken)
+module _ (t : ℕ) where
+  subtag-len-requires : is-tag-lts.Need-subtag-len-requires (known t) (is-tag-at t) is-tag.Post
+  subtag-len-requires c κs = tt
 
-is-tag-returns-2 : (t : ℕ) → is-tag-lts.Need-returns-2 (
-  subtag-len-reads.Asked,
-  subtag-len-reads.Learnt,
-  is-tag-below t,
-  is-tag.Post,
-) (is-tag-at t) is-tag.Post
-is-tag-returns-2 t c = tag.long _ (c .before .before .subtag-len .ensures) (c .if2 .taken)
+  returns : is-tag-lts.Need-returns (known t) (is-tag-at t) is-tag.Post
+  returns c = tag.short _ (c .before .subtag-len .ensures) (c .if1 .taken)
 
-is-tag-returns-3 : (t : ℕ) → is-tag-lts.Need-returns-3 (
-  subtag-len-reads.Asked,
-  subtag-len-reads.Learnt,
-  is-tag-below t,
-  is-tag.Post,
-) (is-tag-at t) is-tag.Post
-is-tag-returns-3 t c = tag.one _ (c .before .before .before .subtag-len .ensures) (omega arith) (omega arith) (c .if3 .taken)
+  returns-2 : is-tag-lts.Need-returns-2 (known t) (is-tag-at t) is-tag.Post
+  returns-2 c = tag.long _ (c .before .before .subtag-len .ensures) (c .if2 .taken)
 
-is-tag-shared-slice-read-if4 : (t : ℕ) → is-tag-lts.Need-shared-slice-read-if4 (
-  subtag-len-reads.Asked,
-  subtag-len-reads.Learnt,
-  is-tag-below t,
-  is-tag.Post,
-) (is-tag-at t) is-tag.Post
-is-tag-shared-slice-read-if4 t c = omega (arith, tag.fits _ (c .before .before .before .before .subtag-len .ensures))
+  returns-3 : is-tag-lts.Need-returns-3 (known t) (is-tag-at t) is-tag.Post
+  returns-3 c = tag.one _ (c .before .before .before .subtag-len .ensures) (omega arith) (omega arith) (c .if3 .taken)
 
-is-tag-returns-4 : (t : ℕ) → is-tag-lts.Need-returns-4 (
-  subtag-len-reads.Asked,
-  subtag-len-reads.Learnt,
-  is-tag-below t,
-  is-tag.Post,
-) (is-tag-at t) is-tag.Post
-is-tag-returns-4 t c = tag.no-hyphen _ (c .before .before .before .before .before .subtag-len .ensures) (omega arith) (omega arith) (omega (arith, tag.fits _ (c .before .before .before .before .before .subtag-len .ensures))) (c .if4 .taken)
+  shared-slice-read-if4 : is-tag-lts.Need-shared-slice-read-if4 (known t) (is-tag-at t) is-tag.Post
+  shared-slice-read-if4 c = omega (arith, tag.fits _ (c .before .before .before .before .subtag-len .ensures))
 
-is-tag-add-is-tag : (t : ℕ) → is-tag-lts.Need-add-is-tag (
-  subtag-len-reads.Asked,
-  subtag-len-reads.Learnt,
-  is-tag-below t,
-  is-tag.Post,
-) (is-tag-at t) is-tag.Post
-is-tag-add-is-tag t c = omega (arith, tag.fits _ (c .before .before .before .before .before .subtag-len .ensures))
+  returns-4 : is-tag-lts.Need-returns-4 (known t) (is-tag-at t) is-tag.Post
+  returns-4 c = tag.no-hyphen _ (c .before .before .before .before .before .subtag-len .ensures) (omega arith) (omega arith) (omega (arith, tag.fits _ (c .before .before .before .before .before .subtag-len .ensures))) (c .if4 .taken)
 
-is-tag-sub-is-tag : (t : ℕ) → is-tag-lts.Need-sub-is-tag (
-  subtag-len-reads.Asked,
-  subtag-len-reads.Learnt,
-  is-tag-below t,
-  is-tag.Post,
-) (is-tag-at t) is-tag.Post
-is-tag-sub-is-tag t c = omega (arith, tag.fits _ (c .before .before .before .before .before .subtag-len .ensures))
+  add-is-tag : is-tag-lts.Need-add-is-tag (known t) (is-tag-at t) is-tag.Post
+  add-is-tag c = omega (arith, tag.fits _ (c .before .before .before .before .before .subtag-len .ensures))
 
-is-tag-part-is-tag-start : (t : ℕ) → is-tag-lts.Need-part-is-tag-start (
-  subtag-len-reads.Asked,
-  subtag-len-reads.Learnt,
-  is-tag-below t,
-  is-tag.Post,
-) (is-tag-at t) is-tag.Post
-is-tag-part-is-tag-start t c = omega (arith, tag.fits _ (c .before .before .before .before .before .subtag-len .ensures))
+  sub-is-tag : is-tag-lts.Need-sub-is-tag (known t) (is-tag-at t) is-tag.Post
+  sub-is-tag c = omega (arith, tag.fits _ (c .before .before .before .before .before .subtag-len .ensures))
 
-is-tag-part-is-tag-end : (t : ℕ) → is-tag-lts.Need-part-is-tag-end (
-  subtag-len-reads.Asked,
-  subtag-len-reads.Learnt,
-  is-tag-below t,
-  is-tag.Post,
-) (is-tag-at t) is-tag.Post
-is-tag-part-is-tag-end t c = omega (arith, tag.fits _ (c .before .before .before .before .before .subtag-len .ensures))
+  part-is-tag-start : is-tag-lts.Need-part-is-tag-start (known t) (is-tag-at t) is-tag.Post
+  part-is-tag-start c = omega (arith, tag.fits _ (c .before .before .before .before .before .subtag-len .ensures))
 
-is-tag-is-tag-requires : (t : ℕ) → is-tag-lts.Need-is-tag-requires (
-  subtag-len-reads.Asked,
-  subtag-len-reads.Learnt,
-  is-tag-below t,
-  is-tag.Post,
-) (is-tag-at t) is-tag.Post
-is-tag-is-tag-requires t c κs = (tag.less _ (c .before .before .before .before .before .before .subtag-len .ensures) (c .before .before .before .before .before .before .before .before .pre .0) (omega (arith, tag.fits _ (c .before .before .before .before .before .before .subtag-len .ensures))), tt)
+  part-is-tag-end : is-tag-lts.Need-part-is-tag-end (known t) (is-tag-at t) is-tag.Post
+  part-is-tag-end c = omega (arith, tag.fits _ (c .before .before .before .before .before .subtag-len .ensures))
 
-is-tag-returns-5 : (t : ℕ) → is-tag-lts.Need-returns-5 (
-  subtag-len-reads.Asked,
-  subtag-len-reads.Learnt,
-  is-tag-below t,
-  is-tag.Post,
-) (is-tag-at t) is-tag.Post
-is-tag-returns-5 t c = c .is-tag .ensures ∙ tag.next _ (c .before .before .before .before .before .before .before .subtag-len .ensures) (omega arith) (omega arith) (omega (arith, tag.fits _ (c .before .before .before .before .before .before .before .subtag-len .ensures))) (c .before .before .if4 .left)
+  is-tag-requires : is-tag-lts.Need-is-tag-requires (known t) (is-tag-at t) is-tag.Post
+  is-tag-requires c κs = (tag.less _ (c .before .before .before .before .before .before .subtag-len .ensures) (c .before .before .before .before .before .before .before .before .pre .0) (omega (arith, tag.fits _ (c .before .before .before .before .before .before .subtag-len .ensures))), tt)
+
+  returns-5 : is-tag-lts.Need-returns-5 (known t) (is-tag-at t) is-tag.Post
+  returns-5 c = c .is-tag .ensures ∙ tag.next _ (c .before .before .before .before .before .before .before .subtag-len .ensures) (omega arith) (omega arith) (omega (arith, tag.fits _ (c .before .before .before .before .before .before .before .subtag-len .ensures))) (c .before .before .if4 .left)
 
 pub +is-tag-spec : {M : Type 1} → statement M
-+is-tag-spec = close μ-is-tag λ t. is-tag-lts.spec (
-  subtag-len-reads.Asked,
-  subtag-len-reads.Learnt,
-  is-tag-below t,
-  is-tag.Post,
-)
++is-tag-spec = close μ-is-tag λ t. is-tag-lts.spec (known t)
     (is-tag-at t)
     is-tag.Post
-    (is-tag-subtag-len-requires t)
-    (is-tag-returns t)
-    (is-tag-returns-2 t)
-    (is-tag-returns-3 t)
-    (is-tag-shared-slice-read-if4 t)
-    (is-tag-returns-4 t)
-    (is-tag-add-is-tag t)
-    (is-tag-sub-is-tag t)
-    (is-tag-part-is-tag-start t)
-    (is-tag-part-is-tag-end t)
-    (is-tag-is-tag-requires t)
-    (is-tag-returns-5 t)
+    (subtag-len-requires t)
+    (returns t)
+    (returns-2 t)
+    (returns-3 t)
+    (shared-slice-read-if4 t)
+    (returns-4 t)
+    (add-is-tag t)
+    (sub-is-tag t)
+    (part-is-tag-start t)
+    (part-is-tag-end t)
+    (is-tag-requires t)
+    (returns-5 t)

@@ -1,18 +1,18 @@
 use borrow.Author.Tests.{le-ltb, lt-ltb}
-use Rattle.reader.specs.Brace.{opensAt}
+use Rattle.reader.specs.Brace.{braceAt}
 use borrow.Author.Needs.{needs}
 use Rattle.reader.proofs.opens_at.Statement.{statement}
 use Rattle.reader.proofs.opens_at.Tie as tie
 
 returns : tie.Need-returns
-unfolding opensAt
+unfolding braceAt
 returns c = simp (le-ltb _ _ (c .if1 .taken))
 
 shared-slice-read-result : tie.Need-shared-slice-read-result
 shared-slice-read-result c = search needs
 
 returns-2 : tie.Need-returns-2
-unfolding opensAt
+unfolding braceAt
 returns-2 c = simp (lt-ltb _ _ (c .before .if1 .left))
 
 pub opens-at-spec : {M : Type 1} → statement M
