@@ -2,7 +2,7 @@
 //!
 //!     bench                  the tables
 //!     bench stack            the names of the inputs of whole jobs
-//!     bench stack INPUT      our side alone, every entry on that input, for a run under a small stack
+//!     bench stack INPUT      our side alone, the entries of the tables on that input, for a run under a small stack
 
 #[path = "../../oracle/src/ast.rs"]
 mod ast;
@@ -287,7 +287,7 @@ fn hostile() {
     }
 }
 
-/// The names of the inputs, or one input through every entry on our side; for a run under a small stack.
+/// The names of the inputs, or one input through the entries of the tables on our side; for a run under a small stack.
 fn stack(input: Option<String>) {
     let Some(input) = input else {
         SHEETS.iter().chain(&HOSTILE).for_each(|(name, ..)| println!("{name}"));

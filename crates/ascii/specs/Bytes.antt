@@ -48,6 +48,10 @@ isPunct b = within 0x21 0x2F b || within 0x3A 0x40 b || within 0x5B 0x60 b || wi
 unfoldable pub isQuote : ℕ → Bool
 isQuote b = isIn (34 ∷ 39 ∷ []) b
 
+-- "with a backslash before `"` and `\` only": the bytes that take one in canonical text
+unfoldable pub isMarked : ℕ → Bool
+isMarked b = isIn (34 ∷ 92 ∷ []) b
+
 -- "A value is one or more characters, none of `}` `|` `"` `'` `\` space, tab, CR, LF"
 unfoldable pub isPlain : ℕ → Bool
 isPlain b = not (isIn (125 ∷ 124 ∷ 34 ∷ 39 ∷ 92 ∷ 32 ∷ 9 ∷ 13 ∷ 10 ∷ []) b)

@@ -9,6 +9,7 @@ use borrow.Author.Tests.{le-ltb, lt-ltb}
 use lib.Dec.{ltb}
 use lib.ListN.{length, take, drop, length-append}
 use lib.Seq.{slice, take-append-seam}
+use Rattle.lists.specs.Lists.{over}
 use Rattle.ascii.specs.declared.Mode.the-variants.{Loose}
 use Rattle.refusals.specs.Numbers.{maxText, numberOf}
 use Rattle.refusals.specs.declared.Refusal.{Refusal}
@@ -20,16 +21,14 @@ use Rattle.tokens.specs.Shown.{accepted}
 use Rattle.chain.specs.Chain.{readBlocks, goodLine}
 use Rattle.fill.specs.Fill.{refusing, limited, filledBy, chainAt}
 use Rattle.fill.specs.declared.Outcome.the-variants.{Done}
-use Rattle.lines.specs.Trim.{trim}
-use Rattle.payloads.specs.Payloads.{endsInClose}
-use Rattle.runs.specs.Runs.{Run, runAt, joinedOf, over, pastLines}
+use Rattle.runs.specs.Runs.{Run, runAt, joinedOf, pastLines}
 use Rattle.runs.specs.declared.Joined.{Joined}
 use Rattle.fill.specs.declared.Filled.{Filled}
 use Rattle.fronts.specs.declared.Front.{Front}
 use Rattle.blocks.specs.declared.Block.{Block}
 use Rattle.runs.proofs.Bounds.{text-short}
 use Rattle.runs.specs.declared.Stop.the-variants as stop
-use Rattle.fronts.specs.Fronts.{lineAt, frontOf, opensAt}
+use Rattle.fronts.specs.Fronts.{frontOf, opensAt}
 use Rattle.blocks.specs.Blocks.{Found, nothing, closedRun, runFound, found, wrapped, joinHolds, blockBy, unread, blockOf, sized}
 use Rattle.blocks.specs.Steps.{isUnread}
 
@@ -87,11 +86,11 @@ module _ (t : List ℕ) (at base cap : ℕ) where
     found-line g = rw (o, rw p at g)
 
     module _ (g : goodLine t (f .from) (f .to) ≡ false) where
-      pub found-shut : endsInClose (trim (lineAt t at)) ≡ true → found t at base cap ≡ nothing NoReading
+      pub found-shut : frontOf t at .closes ≡ true → found t at base cap ≡ nothing NoReading
       unfolding found
       found-shut e = rw (o, rw p at g, e)
 
-      pub found-run : endsInClose (trim (lineAt t at)) ≡ false → found t at base cap ≡ runFound t at base cap
+      pub found-run : frontOf t at .closes ≡ false → found t at base cap ≡ runFound t at base cap
       unfolding found
       found-run e = rw (o, rw p at g, e)
 

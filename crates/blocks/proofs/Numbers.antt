@@ -13,8 +13,6 @@ use Rattle.ascii.specs.declared.Mode.the-variants.{Loose}
 use Rattle.refusals.specs.Numbers.{maxText, numberOf}
 use Rattle.refusals.specs.declared.Refusal.{Refusal}
 use Rattle.refusals.specs.declared.Refusal.the-variants.{TextTooLong, NothingThere, NoReading}
-use Rattle.lines.specs.Trim.{trim}
-use Rattle.payloads.specs.Payloads.{endsInClose}
 use Rattle.chain.specs.Chain.{readBlocks, goodLine}
 use Rattle.sets.specs.Types.{one}
 use Rattle.fill.specs.Fill.{outcomeNo, chainAt}
@@ -23,7 +21,7 @@ use Rattle.runs.specs.Runs as runs
 use Rattle.runs.specs.declared.Stop as stops
 use Rattle.runs.specs.declared.Stop.the-variants as stop
 use Rattle.runs.proofs.Bounds.{text-short}
-use Rattle.fronts.specs.Fronts.{lineAt, frontOf, opensAt}
+use Rattle.fronts.specs.Fronts.{frontOf, opensAt}
 use Rattle.blocks.specs.Blocks.{Found, nothing, closedRun, ended, runFound, found, wrapped, blockOf, sized}
 
 -- ---- the line at a place, where g is the number of a good line from a place up to one
@@ -48,7 +46,7 @@ module _ (g : List ℕ → ℕ → ℕ → ℕ) where
   foundNo t at base cap =
       cond (opensAt t at)
       (cond (goodLine t (frontOf t at .from) (frontOf t at .to)) (g t (frontOf t at .from) (frontOf t at .to))
-      (cond (endsInClose (trim (lineAt t at))) 5
+      (cond (frontOf t at .closes) 5
       (runNo t at base cap)))
       3
 
@@ -78,7 +76,7 @@ module _ (g : List ℕ → ℕ → ℕ → ℕ) (t : List ℕ) (at base cap : �
 
   pub by-found : n Found.line ≡ g t (frontOf t at .from) (frontOf t at .to) → n (found t at base cap) ≡ foundNo g t at base cap
   unfolding found numberOf
-  by-found line = go (opensAt t at) (goodLine t (frontOf t at .from) (frontOf t at .to)) (endsInClose (trim (lineAt t at)))
+  by-found line = go (opensAt t at) (goodLine t (frontOf t at .from) (frontOf t at .to)) (frontOf t at .closes)
     where
       go : (o b c : Bool)
           → n (cond o (cond b Found.line (cond c (nothing NoReading) (runFound t at base cap))) (nothing NothingThere))

@@ -12,28 +12,26 @@ use lib.Seq.{drop-nil}
 use Rattle.refusals.specs.Numbers.{maxText}
 use Rattle.refusals.specs.declared.Refusal.the-variants.{NothingThere, NoReading}
 use Rattle.lines.specs.Lines.{lines, lineFrom}
-use Rattle.lines.specs.Trim.{trim}
 use Rattle.lines.proofs.Lines.{to-from, to-next, line-at, lines-end, next-beyond}
-use Rattle.payloads.specs.Payloads.{endsInClose}
 use Rattle.chain.specs.Chain.{goodLine}
 use Rattle.runs.specs.Runs as runs
 use Rattle.runs.specs.declared.Stop as stops
 use Rattle.runs.specs.declared.Stop.the-variants as stop
 use Rattle.runs.proofs.Bounds.{text-short}
-use Rattle.fronts.specs.Fronts.{lineAt, frontOf, opensAt}
+use Rattle.fronts.specs.Fronts.{frontOf, opensAt}
 use Rattle.blocks.specs.Blocks.{Found, nothing, closedRun, ended, runFound, found, joinedIn, lookaheadOf, linesOf, blockOf}
 use Rattle.blocks.specs.Steps.{isUnread}
 use Rattle.blocks.proofs.Finds.{unread-is}
 
--- ---- "Where no run is made it is 0"
+-- ---- where no run is made the lookahead is 0 and nothing is joined
 
 -- whether a run is made for the block at the place
 abbrev pub makesRun : List ℕ → ℕ → Bool
-makesRun t at = opensAt t at && (not (goodLine t (frontOf t at .from) (frontOf t at .to)) && not (endsInClose (trim (lineAt t at))))
+makesRun t at = opensAt t at && (not (goodLine t (frontOf t at .from) (frontOf t at .to)) && not (frontOf t at .closes))
 
 pub no-run : (t : List ℕ) (at base cap : ℕ) → makesRun t at ≡ false → (lookaheadOf (found t at base cap) ≡ 0) × (joinedIn (found t at base cap) ≡ [])
 unfolding found
-no-run t at base cap e = go (opensAt t at) (goodLine t (frontOf t at .from) (frontOf t at .to)) (endsInClose (trim (lineAt t at))) e
+no-run t at base cap e = go (opensAt t at) (goodLine t (frontOf t at .from) (frontOf t at .to)) (frontOf t at .closes) e
   where
     go : (o g c : Bool) → (o && (not g && not c)) ≡ false
         → (lookaheadOf (cond o (cond g Found.line (cond c (nothing NoReading) (runFound t at base cap))) (nothing NothingThere)) ≡ 0)
@@ -64,7 +62,7 @@ module _ (t : List ℕ) (at base cap : ℕ) (k : length t ≤ maxText) where
 
   pub found-read : 0 < linesOf (found t at base cap) → isUnread (blockOf t at (found t at base cap) .outcome) ≡ false
   unfolding found blockOf
-  found-read = go (opensAt t at) (goodLine t (frontOf t at .from) (frontOf t at .to)) refl (endsInClose (trim (lineAt t at)))
+  found-read = go (opensAt t at) (goodLine t (frontOf t at .from) (frontOf t at .to)) refl (frontOf t at .closes)
     where
       f : Bool → Bool → Bool → Found
       f o g c = cond o (cond g Found.line (cond c (nothing NoReading) (runFound t at base cap))) (nothing NothingThere)

@@ -1,24 +1,23 @@
--- "it is well-formed if its text gives neither 1 nor 2": the set of a good line over the lent text, that of a run over the joined text.
+-- "Rows past the counts are zero in every set handed out, and it is well-formed if its text gives neither 1 nor 2": the set of a good line over the lent
+-- text, that of a run over the joined text.
 -- Assumes nothing.
-use mathlib.Core.Path.{_≡_, refl}
+use mathlib.Core.Path.{_≡_}
 use mathlib.Core.Bool.{Bool, true, false, cond}
 use mathlib.Core.List.{List, []}
 use Prim.Native.Nat.{ℕ}
 use native.Mathlib.Omega.{arith}
-use borrow.Author.Tests.{ltb-false, le-ltb}
-use lib.Dec.{ltb}
 use lib.ListN.{length, drop}
 use Rattle.ascii.specs.declared.Mode.the-variants.{Loose}
 use Rattle.utf8.specs.Utf8.{isUtf8}
-use Rattle.refusals.specs.Numbers.{maxText}
 use Rattle.refusals.specs.declared.Refusal.{Refusal}
 use Rattle.refusals.specs.declared.Refusal.the-variants.{NothingThere, NoReading}
 use Rattle.checks.specs.Check.{isText}
-use Rattle.lines.specs.Trim.{trim}
-use Rattle.payloads.specs.Payloads.{endsInClose}
+use Rattle.checks.proofs.Texts as texts
+use Rattle.checks.proofs.Texts.{is-text}
 use Rattle.chain.specs.Chain.{goodLine}
 use Rattle.sets.specs.Types.{one, emptySet}
 use Rattle.wellformed.specs.WellFormed.{wellFormed}
+use Rattle.fill.proofs.Zeroed.{Zeroed, empty-zeroed, chain-zeroed}
 use Rattle.reader.proofs.HandedOut.{empty-ok}
 use Rattle.reader.proofs.ChainsOut.{chain-out-ok}
 use Rattle.runs.specs.Runs as runs
@@ -26,23 +25,24 @@ use Rattle.runs.specs.declared.Stop as stops
 use Rattle.runs.specs.declared.Stop.the-variants as stop
 use Rattle.runs.proofs.Bounds.{text-short}
 use Rattle.runs.proofs.Texts.{text-well}
-use Rattle.fronts.specs.Fronts.{lineAt, frontOf, opensAt}
+use Rattle.fronts.specs.Fronts.{frontOf, opensAt}
 use Rattle.blocks.specs.Blocks.{Found, nothing, closedRun, ended, runFound, found, wrapped, textIn, blockOf}
 
--- ---- the sets
+-- ---- rows past the counts, whatever was found
+pub block-zeroed : (t : List ℕ) (at : ℕ) (f : Found) → Zeroed (blockOf t at f .set)
+unfolding blockOf
+block-zeroed t at Found.line = chain-zeroed Loose t (frontOf t at .from) (frontOf t at .to)
+block-zeroed t at (Found.run r) = chain-zeroed Loose (r .text) 0 (length (r .text))
+block-zeroed t at (Found.none q x n) = empty-zeroed
+
+-- ---- well-formed sets
 
 abbrev pub Ok : List ℕ → ℕ → Found → Type 0
 Ok t at f = wellFormed (textIn t f) (blockOf t at f .set) ≡ true
 
 -- the joined text gives neither 1 nor 2
 pub joined-text : (cap base : ℕ) (t : List ℕ) (at : ℕ) → isText t ≡ true → isUtf8 (drop at t) ≡ true → isText (runs.runAt cap base t at .text) ≡ true
-unfolding isText
-joined-text cap base t at h u = go (ltb maxText (length t)) refl h
-  where
-    go : (x : Bool) → ltb maxText (length t) ≡ x → cond x false (isUtf8 t) ≡ true → isText (runs.runAt cap base t at .text) ≡ true
-    go true x h = let z : _≡_ {A = ℕ} 0 1 = cc in absurd (omega arith)
-    go false x h =
-        rw (le-ltb maxText (length (runs.runAt cap base t at .text)) (omega (arith, text-short cap base t at, ltb-false maxText (length t) x))) (text-well cap base t at u)
+joined-text cap base t at h u = is-text (runs.runAt cap base t at .text) (omega (arith, text-short cap base t at, texts.text-short t h)) (text-well cap base t at u)
 
 module _ (t : List ℕ) (h : isText t ≡ true) where
   pub empty-fits : wellFormed t emptySet ≡ true
@@ -75,7 +75,7 @@ module _ (t : List ℕ) (h : isText t ≡ true) where
 
     pub found-ok : Ok t at (found t at base cap)
     unfolding found
-    found-ok = go (opensAt t at) (goodLine t (frontOf t at .from) (frontOf t at .to)) (endsInClose (trim (lineAt t at)))
+    found-ok = go (opensAt t at) (goodLine t (frontOf t at .from) (frontOf t at .to)) (frontOf t at .closes)
       where
         go : (o g c : Bool) → Ok t at (cond o (cond g Found.line (cond c (nothing NoReading) (runFound t at base cap))) (nothing NothingThere))
         go true true c = line-ok at

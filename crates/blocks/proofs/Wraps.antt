@@ -17,9 +17,9 @@ use Rattle.refusals.specs.declared.Refusal.the-variants.{NothingThere, NoReadin
 use Rattle.grammar.specs.Grammar.{Placed}
 use Rattle.grammar.specs.Read.{Reading}
 use Rattle.tokens.specs.Shown.{accepted}
-use Rattle.lines.specs.Lines.{lines, firstOf}
+use Rattle.lines.specs.Lines.{lines, firstOf, lineAt}
 use Rattle.lines.specs.Trim.{trim}
-use Rattle.payloads.specs.Payloads.{lastIs, endsInClose}
+use Rattle.payloads.specs.Payloads.{endsInClose}
 use Rattle.chain.specs.Chain.{Block, Blocks, readBlocks, goodLine}
 use Rattle.chain.proofs.Blocks.{sound}
 use Rattle.scanners.specs.Scanners.{holdsOpen}
@@ -27,7 +27,7 @@ use Rattle.runs.specs.Runs as runs
 use Rattle.runs.specs.declared.Stop as stops
 use Rattle.runs.specs.declared.Stop.the-variants as stop
 use Rattle.runs.proofs.Bounds.{run-by}
-use Rattle.fronts.specs.Fronts.{lineAt, frontOf, opensAt}
+use Rattle.fronts.specs.Fronts.{frontOf, opensAt}
 use Rattle.fronts.specs.declared.Front.{Front}
 use Rattle.fronts.proofs.Trimmed.{front-slice}
 use Rattle.blocks.specs.Blocks.{Found, nothing, closedRun, ended, runFound, found, linesOf}
@@ -35,13 +35,13 @@ use Rattle.blocks.proofs.Finds.{found-run}
 
 -- ---- a good line ends in `}`
 
-last-close : (a : ℕ) (y : List ℕ) → lastIs a (y ++ (125 ∷ [])) ≡ true
-unfolding lastIs
+last-close : (a : ℕ) (y : List ℕ) → endsInClose (a ∷ (y ++ (125 ∷ []))) ≡ true
+unfolding endsInClose
 last-close a [] = refl
 last-close a (b ∷ y) = last-close b y
 
 ends-close : (y : List ℕ) → endsInClose (y ++ (125 ∷ [])) ≡ true
-unfolding lastIs
+unfolding endsInClose
 ends-close [] = refl
 ends-close (b ∷ y) = last-close b y
 
@@ -58,11 +58,12 @@ good-ends t from to g = go (readBlocks Loose from (slice from to t)) refl g
     go (Reading.items is) e g = let z = blocks-end (sound Loose from (slice from to t) is e) in rw (z .1) (ends-close (z .0))
 
 -- so a line that opens and doesn't end in `}` goes to the run at once
-pub open-run : (t : List ℕ) (at base cap : ℕ) {f : Front} → f ≡ frontOf t at → opensAt t at ≡ true → endsInClose (trim (lineAt t at)) ≡ false → found t at base cap ≡ runFound t at base cap
+pub open-run : (t : List ℕ) (at base cap : ℕ) {f : Front} → f ≡ frontOf t at → opensAt t at ≡ true → frontOf t at .closes ≡ false → found t at base cap ≡ runFound t at base cap
+unfolding frontOf
 open-run t at base cap {f} p o e = go (goodLine t (f .from) (f .to)) refl
   where
     go : (g : Bool) → goodLine t (f .from) (f .to) ≡ g → found t at base cap ≡ runFound t at base cap
-    go true g = contra (endsInClose (trim (lineAt t at))) (rw (front-slice t at o) at (rw p at (good-ends t (f .from) (f .to) g))) e
+    go true g = contra (frontOf t at .closes) (rw (front-slice t at o) at (rw p at (good-ends t (f .from) (f .to) g))) e
     go false g = found-run t at base cap p o g e
 
 -- ---- the text of a run that closes at its first line
@@ -106,7 +107,7 @@ module _ (t : List ℕ) (at base cap : ℕ) where
   r = runs.runAt cap base t at
 
   run-first : r .stop ≡ stop.Closed → (0 < r .lines) × (r .lines ≤ 1 → r .text ≡ trim (lineAt t at))
-  unfolding runs.runAt lineAt
+  unfolding runs.runAt
   run-first = go (lines (drop at t))
     where
       go : (ls : List (List ℕ)) → runs.runOf cap base (map runs.asIs ls) .stop ≡ stop.Closed
@@ -114,7 +115,8 @@ module _ (t : List ℕ) (at base cap : ℕ) where
       go [] e = absurd (first-text cap base [] e)
       go (l ∷ ls) e = first-text cap base (runs.asIs l ∷ map runs.asIs ls) e
 
-  run-wraps : endsInClose (trim (lineAt t at)) ≡ false → r .stop ≡ stop.Closed → goodLine (r .text) 0 (length (r .text)) ≡ true → 1 < r .lines
+  run-wraps : frontOf t at .closes ≡ false → r .stop ≡ stop.Closed → goodLine (r .text) 0 (length (r .text)) ≡ true → 1 < r .lines
+  unfolding frontOf
   run-wraps c e g = go (ltb 1 (r .lines)) refl
     where
       go : (x : Bool) → ltb 1 (r .lines) ≡ x → 1 < r .lines
@@ -123,7 +125,7 @@ module _ (t : List ℕ) (at base cap : ℕ) where
           let z = run-first e .1 (ltb-false 1 (r .lines) x) in
           contra (endsInClose (r .text)) (rw (take-length (r .text)) at (good-ends (r .text) 0 (length (r .text)) g)) (rw z c)
 
-  pub run-more : endsInClose (trim (lineAt t at)) ≡ false → eqb (linesOf (runFound t at base cap)) 1 ≡ false
+  pub run-more : frontOf t at .closes ≡ false → eqb (linesOf (runFound t at base cap)) 1 ≡ false
   unfolding runFound
   run-more c = go (r .stop) refl
     where
@@ -138,12 +140,12 @@ module _ (t : List ℕ) (at base cap : ℕ) where
   -- the block of one line is the good line
   pub one-line : eqb (linesOf (found t at base cap)) 1 ≡ true → found t at base cap ≡ Found.line
   unfolding found
-  one-line = go (opensAt t at) (goodLine t (frontOf t at .from) (frontOf t at .to)) (endsInClose (trim (lineAt t at))) refl
+  one-line = go (opensAt t at) (goodLine t (frontOf t at .from) (frontOf t at .to)) (frontOf t at .closes) refl
     where
       f : Bool → Bool → Bool → Found
       f o g c = cond o (cond g Found.line (cond c (nothing NoReading) (runFound t at base cap))) (nothing NothingThere)
 
-      go : (o g c : Bool) → endsInClose (trim (lineAt t at)) ≡ c → eqb (linesOf (f o g c)) 1 ≡ true → f o g c ≡ Found.line
+      go : (o g c : Bool) → frontOf t at .closes ≡ c → eqb (linesOf (f o g c)) 1 ≡ true → f o g c ≡ Found.line
       go true true c e n = refl
       go true false true e n = contra false n refl
       go true false false e n = contra (eqb (linesOf (runFound t at base cap)) 1) n (run-more e)

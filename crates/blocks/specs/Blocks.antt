@@ -4,19 +4,18 @@ use mathlib.Core.Bool.{Bool, cond}
 use mathlib.Core.List.{List, []}
 use lib.Dec.{ltb}
 use lib.ListN.{length}
+use Rattle.lists.specs.Lists.{over}
 use Rattle.ascii.specs.declared.Mode.the-variants.{Loose}
 use Rattle.refusals.specs.Numbers.{maxText}
 use Rattle.refusals.specs.declared.Refusal.{Refusal}
 use Rattle.refusals.specs.declared.Refusal.the-variants.{TextTooLong, NothingThere, NoReading}
-use Rattle.lines.specs.Trim.{trim}
-use Rattle.payloads.specs.Payloads.{endsInClose}
 use Rattle.chain.specs.Chain.{goodLine}
 use Rattle.fill.specs.Fill.{refusing, chainAt}
 use Rattle.fill.specs.declared.Filled.{Filled}
-use Rattle.runs.specs.Runs.{Run, runAt, pastLines, over}
+use Rattle.runs.specs.Runs.{Run, runAt, pastLines}
 use Rattle.runs.specs.declared.Stop as stops
 use Rattle.runs.specs.declared.Stop.the-variants as stop
-use Rattle.fronts.specs.Fronts.{lineAt, frontOf, opensAt}
+use Rattle.fronts.specs.Fronts.{frontOf, opensAt}
 use Rattle.blocks.specs.declared.Block.{Block}
 
 -- ---- which lines a block takes
@@ -47,7 +46,7 @@ unfoldable pub found : List ℕ → ℕ → ℕ → ℕ → Found
 found t at base cap =
     cond (opensAt t at)
     (cond (goodLine t (frontOf t at .from) (frontOf t at .to)) Found.line
-    (cond (endsInClose (trim (lineAt t at))) (nothing NoReading)
+    (cond (frontOf t at .closes) (nothing NoReading)
     (runFound t at base cap)))
     (nothing NothingThere)
 

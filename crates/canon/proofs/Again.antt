@@ -16,10 +16,10 @@ use Rattle.grammar.specs.Close.{findClose, Covered, noLf, lastClose, isBefore}
 use Rattle.grammar.specs.Quick.{quickRefuses}
 use Rattle.grammar.proofs.Close.{closes-within, no-close, third-argument}
 use Rattle.grammar.proofs.Quick.{quick-passes}
-use Rattle.canon.specs.Canon.{Answer, AtBrace, readAt, canon, wf}
+use Rattle.canon.specs.Canon.{canon, wf}
 use Rattle.canon.proofs.WellFormed.{read-wf, read-some}
 use Rattle.canon.proofs.Back.{back}
-use Rattle.canon.proofs.AtBrace.{by-rules}
+use Rattle.canon.proofs.AtBrace.{Answer, AtBrace, readAt, by-rules}
 
 pub record Rests (m : Mode) (s : List ℕ) (i : ℕ) (a : List Entry) (next : ℕ) : Type 0 where
   pub brace : getD s i 0 ≡ 123

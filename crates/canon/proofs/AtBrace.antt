@@ -1,3 +1,4 @@
+-- Reading at a brace without sizes, limits and UTF-8, with which canonical text is read back; the table of refusals is reader/specs/Table.
 -- `readAt` answers what the rules of `AtBrace` say and nothing else: 3, 4, 5 or a meaning, each given exactly when document 01 gives it.
 -- Assumes nothing.
 use mathlib.Core.Path.{_≡_, refl, ap, sym}
@@ -8,13 +9,41 @@ use lib.Dec.{eqb}
 use lib.ListN.{getD, take, drop}
 use borrow.Author.Tests.{eqb-true, eqb-false, eq-eqb, ne-eqb}
 use Rattle.ascii.specs.declared.Mode.{Mode}
+use Rattle.grammar.specs.Grammar.{Placed, Payload}
 use Rattle.grammar.specs.Read.{Reading, readPayload}
+use Rattle.grammar.specs.Meaning.{Entry, meaning}
 use Rattle.grammar.specs.declared.Place.{Place}
 use Rattle.grammar.specs.declared.Place.the-variants.{Nothing, At}
 use Rattle.grammar.specs.Close.{findClose, Closes}
 use Rattle.grammar.proofs.Payload.{sound, complete, no-reading}
 use Rattle.grammar.proofs.Close.{found, payload-is, close-complete, no-close}
-use Rattle.canon.specs.Canon.{Answer, AtBrace, answer, readTo, readAt}
+
+-- a refusal by its number, or the meaning and the place behind the close
+pub data Answer : Type 0 where
+  refused : ℕ → Answer
+  read : List Entry → ℕ → Answer
+
+-- by rules, of the brace at i
+pub data AtBrace (m : Mode) (s : List ℕ) (i : ℕ) : Answer → Type 0 where
+  -- "no `{` at the place"
+  none : (getD s i 0 ≡ 123 → ⊥) → AtBrace m s i (Answer.refused 3)
+  -- "at a brace: no close"
+  unclosed : getD s i 0 ≡ 123 → ((e : ℕ) → Closes (drop (suc i) s) (suc i) e → ⊥) → AtBrace m s i (Answer.refused 4)
+  -- "at a brace, no reading of the payload exists"
+  unread : {e : ℕ} → getD s i 0 ≡ 123 → (c : Closes (drop (suc i) s) (suc i) e) → ((is : List Placed) → Payload m (suc i) (c .inside) is → ⊥) → AtBrace m s i (Answer.refused 5)
+  read : {e : ℕ} {is : List Placed} → getD s i 0 ≡ 123 → (c : Closes (drop (suc i) s) (suc i) e) → Payload m (suc i) (c .inside) is → AtBrace m s i (Answer.read (meaning is) (suc e))
+
+-- by computing
+abbrev pub answer : Reading → ℕ → Answer
+answer Reading.refused next = Answer.refused 5
+answer (Reading.items is) next = Answer.read (meaning is) next
+
+abbrev pub readTo : Mode → List ℕ → ℕ → Place → Answer
+readTo m s from Nothing = Answer.refused 4
+readTo m s from (At e) = answer (readPayload m from (take (e - from) (drop from s))) (suc e)
+
+unfoldable pub readAt : Mode → List ℕ → ℕ → Answer
+readAt m s i = cond (eqb (getD s i 0) 123) (readTo m s (suc i) (findClose s (suc i))) (Answer.refused 3)
 
 find-none : (s : List ℕ) (at : ℕ) → findClose s at ≡ Nothing → (e : ℕ) → Closes (drop at s) at e → ⊥
 unfolding findClose

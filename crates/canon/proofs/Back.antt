@@ -2,7 +2,7 @@
 -- Assumes nothing.
 use mathlib.Core.Path.{_≡_, refl, ap, sym, _∙_}
 use mathlib.Core.Bool.{Bool, true, false, not}
-use mathlib.Core.List.{List, [], _∷_, _++_}
+use mathlib.Core.List.{List, [], _∷_, _++_, flatMap}
 use Prim.Native.Nat.{ℕ, suc, _+_, _-_}
 use native.Mathlib.Omega.{arith}
 use lib.Dec.{eqb}
@@ -23,10 +23,11 @@ use Rattle.grammar.proofs.Bytes.{key-parts}
 use Rattle.grammar.proofs.Chain.{Chain, no-blanks, chain-payload}
 use Rattle.grammar.proofs.Payload.{complete}
 use Rattle.grammar.proofs.Close.{covered-append, close-complete}
-use Rattle.canon.specs.Canon.{Answer, readAt, escape, Pair, pairText, moreText, pairsText, pairsOf, pairs, canon, isClassValue, wf}
+use Rattle.canon.specs.Canon.{escape, Pair, pairText, moreText, pairsText, pairsOf, pairs, canon, isClassValue, wf}
 use Rattle.canon.proofs.Values.{inside-escape, unescape-escape, all-escape, values-whole}
 use Rattle.canon.proofs.Parts.{okay, classes-some, some-value, split-wf}
 use Rattle.canon.proofs.Puts.{pairEntry, pairEntries, put-together}
+use Rattle.canon.proofs.AtBrace.{Answer, readAt}
 
 -- a pair that stands for itself
 record Sure (p : Pair) : Type 0 where
@@ -52,7 +53,7 @@ unfolding isQuote isIn
 pair-token {p} h = Token.quoted (h .key) refl (inside-escape (p .value))
 
 pairs-chain : {p : Pair} {ps : List Pair} (at : ℕ) → Sure p → Sures ps → Chain Strict at (pairText p ++ moreText ps) (itemsAt at (p ∷ ps))
-unfolding moreText itemsAt isBlank isIn
+unfolding moreText flatMap itemsAt isBlank isIn
 pairs-chain at h Sures.none = Chain.last (pair-token h) (no-blanks Strict)
 pairs-chain at h (Sures.and g gs) = Chain.more 32 (pair-token h) refl (pairs-chain _ g gs)
 
@@ -113,7 +114,7 @@ unfolding isIn
 passed-pair {p} h = passed-append (passed-name (p .name) (h .key)) (passed-byte 61 refl refl (passed-value (p .value) (h .flat)))
 
 passed-more : {ps : List Pair} → Sures ps → Passed (moreText ps)
-unfolding moreText isIn
+unfolding moreText flatMap isIn
 passed-more Sures.none = passed-none
 passed-more (Sures.and h hs) = passed-byte 32 refl refl (passed-append (passed-pair h) (passed-more hs))
 
@@ -133,7 +134,7 @@ sures-append Sures.none g = g
 sures-append (Sures.and h hs) g = Sures.and h (sures-append hs g)
 
 pairs-sure : (m : List Entry) → wf m ≡ true → Sures (pairs m)
-unfolding pairs
+unfolding pairs flatMap
 pairs-sure [] h = Sures.none
 pairs-sure (e ∷ m) h =
     let a = split-wf e m h in
@@ -141,7 +142,7 @@ pairs-sure (e ∷ m) h =
     sures-append (pairsOf-sure (e .name) (e .values) (o .key) (o .flat) (λ c. classes-some o c .1)) (pairs-sure m (a .tail))
 
 pairs-some : (m : List Entry) → wf m ≡ true → (m ≡ [] → ⊥) → pairs m ≡ [] → ⊥
-unfolding pairs pairsOf
+unfolding pairs flatMap pairsOf
 pairs-some [] h n e = n refl
 pairs-some (a ∷ m) h n e = go (a .values) (some-value (okay a (split-wf a m h .head))) e
   where
@@ -167,7 +168,7 @@ back m h n =
 
 -- ======== canonical texts are equal exactly when the meanings are
 nothing-back : readAt Strict (canon []) 0 ≡ Answer.refused 5
-unfolding readAt canon pairs pairsText findClose closeFrom stepOf readPayload readFrom isQuote isIn
+unfolding readAt canon pairs flatMap pairsText findClose closeFrom stepOf readPayload readFrom isQuote isIn
 nothing-back = refl
 
 not-nil : {e : Entry} {m : List Entry} → _≡_ {A = List Entry} (e ∷ m) [] → ⊥

@@ -1,11 +1,11 @@
 -- The twelve cases of document 01, as one list under one claim: strict, at byte 0.
 -- Assumes nothing.
 use mathlib.Core.Path.{_≡_, refl}
-use mathlib.Core.List.{List, [], _∷_}
+use mathlib.Core.List.{List, [], _∷_, flatMap}
 use Prim.Native.Nat.{ℕ}
 use Rattle.lists.specs.Lists.{all, headed, run, isIn, same}
 use Rattle.ascii.specs.declared.Mode.the-variants.{Strict}
-use Rattle.ascii.specs.Bytes.{within, isLetter, isDigit, isAlnum, isNameStart, isNamePart, isKeyStart, isBlank, isQuote, isPlain, isPunct, isSpace}
+use Rattle.ascii.specs.Bytes.{within, isLetter, isDigit, isAlnum, isNameStart, isNamePart, isKeyStart, isBlank, isQuote, isPlain, isPunct, isSpace, isMarked}
 use Rattle.names.specs.Names.{isName, isKey, isBareName}
 use Rattle.names.specs.Tags.{isSize, tagFrom, isTag, isLanguage}
 use Rattle.escapes.specs.Unescape.{unescapeFrom, unescape}
@@ -13,7 +13,8 @@ use Rattle.grammar.specs.Grammar.{isValue}
 use Rattle.grammar.specs.Read.{ends, finish, shutOf, valueToken, afterName, tokenOf, text, readFrom, readPayload}
 use Rattle.grammar.specs.Meaning.{Entry, isClass, piecesFrom, classesOf, valuesOf, said, put, puts, entriesOf, meaning}
 use Rattle.grammar.specs.Close.{turned, stepOf, closeFrom, findClose}
-use Rattle.canon.specs.Canon.{Answer, readAt, marked, escape, moreText, pairsText, pairsOf, pairs, canon}
+use Rattle.canon.specs.Canon.{marked, escape, moreText, pairsText, pairsOf, pairs, canon}
+use Rattle.canon.proofs.AtBrace.{Answer, readAt}
 
 abbrev one : List ℕ → List (List ℕ) → Entry
 one n vs = record { name = n; values = vs }
@@ -63,5 +64,5 @@ readings by (c ∷ cs) = let a = by (c .given) in record { given = c .given; wan
 
 -- without sizes, limits and UTF-8; crate reader says the same of what its promise cites
 pub twelve : readings (λ t. readAt Strict t 0) cases ≡ cases
-unfolding all headed run isIn same within isLetter isDigit isAlnum isNameStart isNamePart isKeyStart isBlank isQuote isPlain isPunct isSpace isName isKey isBareName isSize tagFrom isTag isLanguage unescapeFrom unescape isValue ends finish shutOf valueToken afterName tokenOf text readFrom readPayload isClass piecesFrom classesOf valuesOf said put puts entriesOf meaning turned stepOf closeFrom findClose readAt marked escape moreText pairsText pairsOf pairs canon
+unfolding all headed run isIn same within isLetter isDigit isAlnum isNameStart isNamePart isKeyStart isBlank isQuote isPlain isPunct isSpace isName isKey isBareName isSize tagFrom isTag isLanguage unescapeFrom unescape isValue ends finish shutOf valueToken afterName tokenOf text readFrom readPayload isClass piecesFrom classesOf valuesOf said put puts entriesOf meaning turned stepOf closeFrom findClose readAt marked isMarked escape flatMap moreText pairsText pairsOf pairs canon
 twelve = refl

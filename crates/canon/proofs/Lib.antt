@@ -3,7 +3,7 @@ pub mod Values
 pub mod Parts
 pub mod Puts
 pub mod WellFormed
-pub mod Back
 pub mod AtBrace
+pub mod Back
 pub mod Again
 pub mod Cases

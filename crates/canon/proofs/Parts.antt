@@ -9,7 +9,7 @@ use Rattle.lists.proofs.Scan.{both}
 use Rattle.names.specs.Names.{isKey}
 use Rattle.grammar.specs.Meaning.{Entry, isClass, absent, distinct}
 use Rattle.grammar.specs.Close.{noLf}
-use Rattle.canon.specs.Canon.{isOne, isClassValue, valuesOk, entryOk, entriesOk, wf}
+use Rattle.canon.specs.Canon.{isOne, isClassValue, valuesOk, entryOk, wf}
 
 -- ---- one entry
 pub record Okay (n : List ℕ) (vs : List (List ℕ)) : Type 0 where
@@ -64,13 +64,13 @@ pub record Sound (e : Entry) (m : List Entry) : Type 0 where
   pub tail : wf m ≡ true
 
 pub split-wf : (e : Entry) (m : List Entry) → wf (e ∷ m) ≡ true → Sound e m
-unfolding wf entriesOk distinct
+unfolding wf all distinct
 split-wf e m h =
-    let a = both (entryOk e && entriesOk m) (absent (e .name) m && distinct m) h in
-    let b = both (entryOk e) (entriesOk m) (a .0) in
+    let a = both (entryOk e && all entryOk m) (absent (e .name) m && distinct m) h in
+    let b = both (entryOk e) (all entryOk m) (a .0) in
     let c = both (absent (e .name) m) (distinct m) (a .1) in
     record { head = b .0; new = c .0; tail = rw (b .1, c .1) }
 
-pub joined : (m : List Entry) → entriesOk m ≡ true → distinct m ≡ true → wf m ≡ true
+pub joined : (m : List Entry) → all entryOk m ≡ true → distinct m ≡ true → wf m ≡ true
 unfolding wf
 joined m h k = rw (h, k)

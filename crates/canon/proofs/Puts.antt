@@ -2,10 +2,10 @@
 -- Assumes nothing.
 use mathlib.Core.Path.{_≡_, refl, ap, _∙_}
 use mathlib.Core.Bool.{Bool, true, false, not, _&&_}
-use mathlib.Core.List.{List, [], _∷_, _++_, append-nil, append-assoc}
+use mathlib.Core.List.{List, [], _∷_, _++_, append-nil, append-assoc, flatMap}
 use Prim.Native.Nat.{ℕ}
 use borrow.Author.Tests.{not-true}
-use Rattle.lists.specs.Lists.{same}
+use Rattle.lists.specs.Lists.{all, same}
 use Rattle.lists.proofs.Scan.{both}
 use Rattle.lists.proofs.Same.{same-refl}
 use Rattle.lists.proofs.More.{contra, same-sym}
@@ -29,7 +29,7 @@ entries-append (p ∷ ps) qs = rw (entries-append ps qs)
 
 -- classes of the last slot are met again
 put-last : (m : List Entry) (n : List ℕ) (us vs : List (List ℕ)) → absent n m ≡ true → isClass n ≡ true → put (m ++ (record { name = n; values = us } ∷ [])) (record { name = n; values = vs }) ≡ m ++ (record { name = n; values = us ++ vs } ∷ [])
-unfolding put absent
+unfolding put absent all
 put-last [] n us vs h c = rw (same-refl n, c)
 put-last (f ∷ m) n us vs h c =
     let g = both (not (same (f .name) n)) (absent n m) h in
@@ -62,12 +62,12 @@ strange acc [] = true
 strange acc (e ∷ m) = absent (e .name) acc && strange acc m
 
 absent-append : (n : List ℕ) (m : List Entry) (e : Entry) → absent n m ≡ true → same (e .name) n ≡ false → absent n (m ++ (e ∷ [])) ≡ true
-unfolding absent
+unfolding absent all
 absent-append n [] e h k = rw k
 absent-append n (f ∷ m) e h k = let g = both (not (same (f .name) n)) (absent n m) h in rw (g .0) (absent-append n m e (g .1) k)
 
 strange-append : (acc m : List Entry) (e : Entry) → strange acc m ≡ true → absent (e .name) m ≡ true → strange (acc ++ (e ∷ [])) m ≡ true
-unfolding strange absent
+unfolding strange absent all
 strange-append acc [] e h k = refl
 strange-append acc (f ∷ m) e h k =
     let g = both (absent (f .name) acc) (strange acc m) h in
@@ -75,7 +75,7 @@ strange-append acc (f ∷ m) e h k =
     rw (absent-append (f .name) acc e (g .0) (same-sym (e .name) (f .name) ∙ not-true (same (f .name) (e .name)) (l .0))) (strange-append acc m e (g .1) (l .1))
 
 together : (acc m : List Entry) → wf m ≡ true → strange acc m ≡ true → puts acc (pairEntries (pairs m)) ≡ acc ++ m
-unfolding pairs pairEntries puts strange
+unfolding pairs flatMap pairEntries puts strange
 together acc [] h k = rw append-nil
 together acc (e ∷ m) h k =
     let a = split-wf e m h in
@@ -83,7 +83,7 @@ together acc (e ∷ m) h k =
     rw (entries-append (pairsOf (e .name) (e .values)) (pairs m), puts-append acc (pairEntries (pairsOf (e .name) (e .values))) (pairEntries (pairs m)), put-entry acc (e .name) (e .values) (g .0) (okay e (a .head)), together (acc ++ (e ∷ [])) m (a .tail) (strange-append acc m e (g .1) (a .new)), append-assoc)
 
 nothing-strange : (m : List Entry) → strange [] m ≡ true
-unfolding strange absent
+unfolding strange absent all
 nothing-strange [] = refl
 nothing-strange (e ∷ m) = nothing-strange m
 

@@ -2,20 +2,20 @@
 -- Assumes nothing.
 use mathlib.Core.Path.{_≡_, refl}
 use mathlib.Core.Bool.{Bool, true, false, not, _||_, cond}
-use mathlib.Core.List.{List, [], _∷_, _++_, append-nil, append-assoc}
+use mathlib.Core.List.{List, [], _∷_, _++_, append-nil, append-assoc, flatMap}
 use Prim.Native.Nat.{ℕ}
 use lib.Dec.{eqb}
 use borrow.Author.Tests.{eqb-true, eqb-false, not-true}
 use Rattle.lists.specs.Lists.{all, isIn}
 use Rattle.lists.proofs.Scan.{both}
-use Rattle.ascii.specs.Bytes.{isPunct, isSpace, within}
+use Rattle.ascii.specs.Bytes.{isPunct, isSpace, within, isMarked}
 use Rattle.escapes.specs.Unescape.{unescapeFrom, unescape}
 use Rattle.grammar.specs.Grammar.{Inside}
 use Rattle.grammar.specs.Meaning.{flush, piecesFrom, orWhole, classesOf, isClass, valuesOf}
 use Rattle.canon.specs.Canon.{marked, escape, isClassValue}
 
 pub inside-escape : (v : List ℕ) → Inside 34 (escape v)
-unfolding escape marked isIn
+unfolding escape flatMap marked isMarked isIn
 inside-escape [] = Inside.end
 inside-escape (b ∷ v) = go (eqb b 34) (eqb b 92) refl refl (inside-escape v)
   where
@@ -25,7 +25,7 @@ inside-escape (b ∷ v) = go (eqb b 34) (eqb b 92) refl refl (inside-escape v)
     go false false p q h = Inside.byte (eqb-false b 34 p) (eqb-false b 92 q) h
 
 pub unescape-escape : (v : List ℕ) → unescape (escape v) ≡ v
-unfolding escape marked isIn unescape unescapeFrom isPunct within
+unfolding escape flatMap marked isMarked isIn unescape unescapeFrom isPunct within
 unescape-escape [] = refl
 unescape-escape (b ∷ v) = go (eqb b 34) (eqb b 92) refl refl (unescape-escape v)
   where
@@ -36,11 +36,11 @@ unescape-escape (b ∷ v) = go (eqb b 34) (eqb b 92) refl refl (unescape-escape 
 
 -- a test that a backslash passes
 pub all-escape : (f : ℕ → Bool) → f 92 ≡ true → (v : List ℕ) → all f v ≡ true → all f (escape v) ≡ true
-unfolding escape marked all
+unfolding escape flatMap marked all
 all-escape f w [] h = refl
 all-escape f w (b ∷ v) h =
     let g = both (f b) (all f v) h in
-    go (isIn (34 ∷ 92 ∷ []) b) (g .0) (all-escape f w v (g .1))
+    go (isMarked b) (g .0) (all-escape f w v (g .1))
   where
     go : (x : Bool) → f b ≡ true → all f (escape v) ≡ true → all f (cond x (92 ∷ (b ∷ [])) (b ∷ []) ++ escape v) ≡ true
     go true p h = rw (w, p) h

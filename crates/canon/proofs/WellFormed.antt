@@ -15,12 +15,12 @@ use Rattle.names.specs.Names.{isName, isKey}
 use Rattle.escapes.specs.Unescape.{unescape}
 use Rattle.escapes.proofs.Pieces.{no-lf}
 use Rattle.grammar.specs.Grammar.{Item, Placed, Token, Payload}
-use Rattle.grammar.specs.Meaning.{Entry, langName, idName, className, isClass, flush, piecesFrom, orWhole, classesOf, valuesOf, said, putAt, put, puts, entriesOf, meaning, distinct}
+use Rattle.grammar.specs.Meaning.{Entry, langName, idName, className, isClass, flush, piecesFrom, orWhole, classesOf, valuesOf, said, over, put, puts, entriesOf, meaning, distinct}
 use Rattle.grammar.specs.Close.{noLf}
 use Rattle.grammar.proofs.Bytes.{name-parts, bare-key}
 use Rattle.grammar.proofs.Chain.{Chain, payload-chain}
 use Rattle.grammar.proofs.Views.{put-distinct, put-some}
-use Rattle.canon.specs.Canon.{isClassValue, entryOk, entriesOk, wf}
+use Rattle.canon.specs.Canon.{isClassValue, entryOk, wf}
 use Rattle.canon.proofs.Parts.{Okay, okay, entry-ok, classes-some, classes-ok, value-ok, joined}
 
 abbrev pub notLf : ℕ → Bool
@@ -156,14 +156,14 @@ over-good n us vs a b = go (isClass n) refl
         entry-ok (record { name = n; values = us ++ vs }) (record { key = a .key; flat = all-append noLf us vs (a .flat) (b .flat); shape = classes-ok n (us ++ vs) p (some-append us vs (c .0)) (all-append isClassValue us vs (c .1) (d .1)) })
     go false p = entry-ok (record { name = n; values = vs }) b
 
-put-good : (m : List Entry) (e : Entry) → entriesOk m ≡ true → entryOk e ≡ true → entriesOk (put m e) ≡ true
-unfolding entriesOk put
+put-good : (m : List Entry) (e : Entry) → all entryOk m ≡ true → entryOk e ≡ true → all entryOk (put m e) ≡ true
+unfolding all put
 put-good [] e h k = rw k
 put-good (f ∷ m) e h k =
-    let a = both (entryOk f) (entriesOk m) h in
+    let a = both (entryOk f) (all entryOk m) h in
     go (same (f .name) (e .name)) refl (a .0) (a .1) (put-good m e (a .1) k)
   where
-    go : (x : Bool) → same (f .name) (e .name) ≡ x → entryOk f ≡ true → entriesOk m ≡ true → entriesOk (put m e) ≡ true → entriesOk (putAt x f m e (put m e)) ≡ true
+    go : (x : Bool) → same (f .name) (e .name) ≡ x → entryOk f ≡ true → all entryOk m ≡ true → all entryOk (put m e) ≡ true → all entryOk (cond x (over f (e .values) ∷ m) (f ∷ put m e)) ≡ true
     go true p o w i =
         let z : Okay (f .name) (e .values) = rw (same-true (f .name) (e .name) p) (okay e k) in
         rw (over-good (f .name) (f .values) (e .values) (okay f o) z) w
@@ -172,18 +172,18 @@ put-good (f ∷ m) e h k =
 pub put-wf : (m : List Entry) (e : Entry) → wf m ≡ true → entryOk e ≡ true → wf (put m e) ≡ true
 unfolding wf
 put-wf m e h k =
-    let a = both (entriesOk m) (distinct m) h in
+    let a = both (all entryOk m) (distinct m) h in
     joined (put m e) (put-good m e (a .0) k) (put-distinct m e (a .1))
 
 -- merged
-pub puts-wf : (m es : List Entry) → wf m ≡ true → entriesOk es ≡ true → wf (puts m es) ≡ true
-unfolding puts entriesOk
+pub puts-wf : (m es : List Entry) → wf m ≡ true → all entryOk es ≡ true → wf (puts m es) ≡ true
+unfolding puts all
 puts-wf m [] h k = h
-puts-wf m (e ∷ es) h k = let a = both (entryOk e) (entriesOk es) k in puts-wf (put m e) es (put-wf m e h (a .0)) (a .1)
+puts-wf m (e ∷ es) h k = let a = both (entryOk e) (all entryOk es) k in puts-wf (put m e) es (put-wf m e h (a .0)) (a .1)
 
 -- ---- the theorems
-entries-good : {m : Mode} {at : ℕ} {s : List ℕ} {is : List Placed} → Chain m at s is → noLf s ≡ true → entriesOk (entriesOf is) ≡ true
-unfolding noLf all entriesOf entriesOk
+entries-good : {m : Mode} {at : ℕ} {s : List ℕ} {is : List Placed} → Chain m at s is → noLf s ≡ true → all entryOk (entriesOf is) ≡ true
+unfolding noLf all entriesOf
 entries-good (Chain.blank {b = b} {s = s} h p) f = entries-good p (both (notLf b) (all notLf s) f .1)
 entries-good (Chain.last {t = t} {e = e} {i = i} h b) f = rw (said-good h (all-parts notLf t e f .0))
 entries-good (Chain.more {t = t} {s = s} {i = i} b h q p) f =
@@ -191,7 +191,7 @@ entries-good (Chain.more {t = t} {s = s} {i = i} b h q p) f =
     rw (said-good h (g .0)) (entries-good p (both (notLf b) (all notLf s) (g .1) .1))
 
 pub read-wf : {m : Mode} {at : ℕ} {s : List ℕ} {is : List Placed} → Payload m at s is → noLf s ≡ true → wf (meaning is) ≡ true
-unfolding meaning wf entriesOk distinct
+unfolding meaning wf all distinct
 read-wf {is = is} p f = puts-wf [] (entriesOf is) refl (entries-good (payload-chain p) f)
 
 puts-some : (es m : List Entry) → (m ≡ [] → ⊥) → puts m es ≡ [] → ⊥

@@ -1,2 +1,2 @@
--- Reading at a brace, the canonical text, and which meanings are well-formed.
+-- The canonical text of a meaning, and which meanings are well-formed.
 pub mod Canon

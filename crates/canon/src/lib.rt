@@ -1,1 +1,1 @@
-// Reading at a brace and canonical text: definitions and theorems. Code that promises them stands above.
+// Canonical text and well-formed meanings: definitions and theorems. Code that promises them stands above.

@@ -2,16 +2,16 @@
 -- Assumes nothing.
 use mathlib.Core.Path.{_≡_, refl, sym, _∙_, ap}
 use mathlib.Core.Bool.{Bool, true, false, cond, not, _&&_}
-use mathlib.Core.List.{List, [], _∷_, _++_, append-assoc, map}
+use mathlib.Core.List.{List, [], _∷_, _++_, append-assoc, map, map-append}
 use Prim.Native.Nat.{ℕ}
 use borrow.Author.Tests.{not-true}
-use Rattle.lists.specs.Lists.{same}
+use Rattle.lists.specs.Lists.{all, same}
 use Rattle.lists.proofs.Scan.{both}
 use Rattle.lists.proofs.Same.{same-refl, same-true}
 use Rattle.lists.proofs.More.{contra}
 use Rattle.ascii.specs.declared.Mode.{Mode}
 use Rattle.grammar.specs.Grammar.{Placed}
-use Rattle.grammar.specs.Meaning.{Entry, isClass, over, putAt, put, puts, said, entriesOf, meaning, absent, distinct}
+use Rattle.grammar.specs.Meaning.{Entry, isClass, over, put, puts, said, entriesOf, meaning, absent, distinct}
 use Rattle.grammar.proofs.Views.{puts-append, put-distinct}
 use Rattle.chain.specs.Chain.{Blocks, merged, blockItems}
 
@@ -19,20 +19,20 @@ use Rattle.chain.specs.Chain.{Blocks, merged, blockItems}
 
 -- a name that was put is there, and stays
 put-there : (m : List Entry) (e : Entry) → absent (e .name) (put m e) ≡ false
-unfolding absent put
+unfolding absent all put
 put-there [] e = rw (same-refl (e .name))
 put-there (g ∷ m) e = go (same (g .name) (e .name)) refl (put-there m e)
   where
-    go : (x : Bool) → same (g .name) (e .name) ≡ x → absent (e .name) (put m e) ≡ false → absent (e .name) (putAt x g m e (put m e)) ≡ false
+    go : (x : Bool) → same (g .name) (e .name) ≡ x → absent (e .name) (put m e) ≡ false → absent (e .name) (cond x (over g (e .values) ∷ m) (g ∷ put m e)) ≡ false
     go true p ih = rw p
     go false p ih = rw (p, ih)
 
 there-put : (n : List ℕ) (m : List Entry) (f : Entry) → absent n m ≡ false → absent n (put m f) ≡ false
-unfolding absent put
+unfolding absent all put
 there-put n [] f h = contra true refl h
 there-put n (g ∷ m) f h = go (same (g .name) (f .name)) (same (g .name) n) refl h (there-put n m f)
   where
-    go : (x y : Bool) → same (g .name) n ≡ y → (not y && absent n m) ≡ false → (absent n m ≡ false → absent n (put m f) ≡ false) → absent n (putAt x g m f (put m f)) ≡ false
+    go : (x y : Bool) → same (g .name) n ≡ y → (not y && absent n m) ≡ false → (absent n m ≡ false → absent n (put m f) ≡ false) → absent n (cond x (over g (f .values) ∷ m) (g ∷ put m f)) ≡ false
     go true y p h ih = rw p h
     go false true p h ih = rw p
     go false false p h ih = rw p (ih h)
@@ -47,7 +47,7 @@ put-twice (g ∷ m) f e h = go (same (g .name) (f .name)) refl (put-twice m f e 
     joins true = append-assoc (g .values) (f .values) (e .values)
     joins false = refl
 
-    go : (x : Bool) → same (g .name) (f .name) ≡ x → put (put m f) e ≡ put m (over f (e .values)) → put (putAt x g m f (put m f)) e ≡ putAt x g m (over f (e .values)) (put m (over f (e .values)))
+    go : (x : Bool) → same (g .name) (f .name) ≡ x → put (put m f) e ≡ put m (over f (e .values)) → put (cond x (over g (f .values) ∷ m) (g ∷ put m f)) e ≡ cond x (over g (over f (e .values) .values) ∷ m) (g ∷ put m (over f (e .values)))
     go true p ih =
         let z = same-true (g .name) (f .name) p in
         let q : same (g .name) (e .name) ≡ true = rw z h in
@@ -57,18 +57,18 @@ put-twice (g ∷ m) f e h = go (same (g .name) (f .name)) refl (put-twice m f e 
 
 -- puts under different names change places, if the later one's slot is there
 swap : (m : List Entry) (f e : Entry) → same (f .name) (e .name) ≡ false → absent (e .name) m ≡ false → put (put m f) e ≡ put (put m e) f
-unfolding put absent
+unfolding put absent all
 swap [] f e h k = contra true refl k
 swap (g ∷ m) f e h k = go (same (g .name) (f .name)) (same (g .name) (e .name)) refl refl k (swap m f e h)
   where
-    go : (x y : Bool) → same (g .name) (f .name) ≡ x → same (g .name) (e .name) ≡ y → (not y && absent (e .name) m) ≡ false → (absent (e .name) m ≡ false → put (put m f) e ≡ put (put m e) f) → put (putAt x g m f (put m f)) e ≡ put (putAt y g m e (put m e)) f
+    go : (x y : Bool) → same (g .name) (f .name) ≡ x → same (g .name) (e .name) ≡ y → (not y && absent (e .name) m) ≡ false → (absent (e .name) m ≡ false → put (put m f) e ≡ put (put m e) f) → put (cond x (over g (f .values) ∷ m) (g ∷ put m f)) e ≡ put (cond y (over g (e .values) ∷ m) (g ∷ put m e)) f
     go true true p q k ih = contra (same (f .name) (e .name)) (rw (same-true (g .name) (f .name) p) at q) h
     go true false p q k ih = rw (q, p)
     go false true p q k ih = rw (q, p)
     go false false p q k ih = rw (q, p, ih k)
 
 later : (m a : List Entry) (e : Entry) → absent (e .name) a ≡ true → absent (e .name) m ≡ false → put (puts m a) e ≡ puts (put m e) a
-unfolding puts absent
+unfolding puts absent all
 later m [] e h k = refl
 later m (f ∷ a) e h k =
     let g = both (not (same (f .name) (e .name))) (absent (e .name) a) h in
@@ -84,7 +84,7 @@ put-puts m (f ∷ a) e h =
     let g = both (absent (f .name) a) (distinct a) h in
     go (same (f .name) (e .name)) refl (g .0) (put-puts (put m f) a e (g .1))
   where
-    go : (x : Bool) → same (f .name) (e .name) ≡ x → absent (f .name) a ≡ true → puts (put m f) (put a e) ≡ put (puts (put m f) a) e → puts m (putAt x f a e (put a e)) ≡ put (puts (put m f) a) e
+    go : (x : Bool) → same (f .name) (e .name) ≡ x → absent (f .name) a ≡ true → puts (put m f) (put a e) ≡ put (puts (put m f) a) e → puts m (cond x (over f (e .values) ∷ a) (f ∷ put a e)) ≡ put (puts (put m f) a) e
     go false p q ih = ih
     go true p q ih =
         let z = same-true (f .name) (e .name) p in
@@ -107,8 +107,7 @@ meaning-distinct is = puts-distinct [] (entriesOf is) refl
 
 entries-append : (is js : List Placed) → entriesOf (is ++ js) ≡ entriesOf is ++ entriesOf js
 unfolding entriesOf
-entries-append [] js = refl
-entries-append (p ∷ is) js = ap (λ l. said (p .item) ∷ l) (entries-append is js)
+entries-append is js = map-append (λ p. said (p .item)) is js
 
 -- putting what a set means is putting what its items say
 pub put-meaning : (m : List Entry) (is : List Placed) → puts m (meaning is) ≡ puts m (entriesOf is)

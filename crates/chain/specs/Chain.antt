@@ -1,7 +1,7 @@
 -- A line of blocks: "blocks stand back to back to its end and are merged left to right." By rules, and read by computing.
 use mathlib.Core.Path.{_≡_}
 use mathlib.Core.Bool.{Bool, true, cond}
-use mathlib.Core.List.{List, [], _∷_, _++_}
+use mathlib.Core.List.{List, [], _∷_, _++_, foldl}
 use Prim.Native.Nat.{ℕ, zero, suc, _+_, _-_}
 use lib.Dec.{eqb}
 use lib.ListN.{length, take}
@@ -34,8 +34,7 @@ blockItems (Blocks.more {is = is} b p) = is ∷ blockItems p
 
 -- "merged left to right": each set in turn is put into what came before
 unfoldable pub merged : List Entry → List (List Entry) → List Entry
-merged m [] = m
-merged m (a ∷ rest) = merged (puts m a) rest
+merged m rest = foldl puts m rest
 
 -- ---- by computing
 

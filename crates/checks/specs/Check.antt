@@ -1,8 +1,8 @@
 -- What every entry but those at a brace asks of its text first: "1, 2, ..".
 use Prim.Native.Nat.{ℕ}
-use mathlib.Core.Bool.{Bool, false, cond}
+use mathlib.Core.Bool.{Bool, cond, _&&_}
 use mathlib.Core.List.{List}
-use lib.Dec.{ltb}
+use lib.Dec.{leb, ltb}
 use lib.ListN.{length}
 use Rattle.utf8.specs.Utf8.{isUtf8}
 use Rattle.refusals.specs.Numbers.{maxText, numberOf}
@@ -16,7 +16,7 @@ checkOf t = cond (ltb maxText (length t)) (Refused TextTooLong) (cond (isUtf8 t)
 
 -- the text gives neither 1 nor 2
 unfoldable pub isText : List ℕ → Bool
-isText t = cond (ltb maxText (length t)) false (isUtf8 t)
+isText t = leb (length t) maxText && isUtf8 t
 
 -- the number of an answer: 0 where the text passes
 abbrev pub checkNo : Check → ℕ

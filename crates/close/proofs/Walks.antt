@@ -14,15 +14,15 @@ use Rattle.lists.specs.Lists.{isIn}
 use Rattle.lists.proofs.Steady.{missed}
 use Rattle.ascii.specs.Bytes.{isKeyStart}
 use Rattle.grammar.specs.Quick as quick
-use Rattle.close.specs.declared.Walk.{Walk}
-use Rattle.close.specs.declared.Walk.the-variants.{Edge}
+use Rattle.grammar.specs.declared.Walk.{Walk}
+use Rattle.grammar.specs.declared.Walk.the-variants.{Edge}
 use Rattle.close.specs.declared.Turn.{Turn}
 use Rattle.close.specs.declared.Turn.the-variants.{On}
-use Rattle.close.specs.Walks.{walkOf, answer, Leads}
+use Rattle.close.specs.Walks.{answer, Leads}
 
 -- a byte between tokens that is none of those which `edge` names
-pub other : (c : ℕ) (rest : quick.Walk → Bool) → c < 128 → (OneOf (10 ∷ 34 ∷ 39 ∷ 58 ∷ 92 ∷ 125 ∷ []) c → ⊥) → (OneOf (9 ∷ 13 ∷ 32 ∷ []) c → ⊥) → (OneOf (35 ∷ 46 ∷ []) c → ⊥)
-    → {key : Bool} → key ≡ isKeyStart c → cond key (rest quick.Walk.Word) true ≡ quick.edge c rest
+pub other : (c : ℕ) (rest : Walk → Bool) → c < 128 → (OneOf (10 ∷ 34 ∷ 39 ∷ 58 ∷ 92 ∷ 125 ∷ []) c → ⊥) → (OneOf (9 ∷ 13 ∷ 32 ∷ []) c → ⊥) → (OneOf (35 ∷ 46 ∷ []) c → ⊥)
+    → {key : Bool} → key ≡ isKeyStart c → cond key (rest Walk.Word) true ≡ quick.edge c rest
 unfolding isIn
 other c rest l p q r e =
     let leave = missed (isIn (125 ∷ 10 ∷ 34 ∷ 39 ∷ 92 ∷ 58 ∷ [])) false (10 ∷ 34 ∷ 39 ∷ 58 ∷ 92 ∷ 125 ∷ []) 0 128 c p refl zero-le (omega arith) in
@@ -32,7 +32,7 @@ other c rest l p q r e =
 
 -- ---- the loop stands before byte i in the state w, and the answer is r
 pub record Walks (s : List ℕ) (r : Bool) (i : ℕ) (w : Walk) : Type 0 where
-  pub rest : quick.quickFrom (walkOf w) (drop i s) ≡ r
+  pub rest : quick.quickFrom w (drop i s) ≡ r
 
 -- no brace stands there, so that nothing stands behind it
 pub past-end : (s : List ℕ) (brace : ℕ) → length s ≤ brace → true ≡ quick.quickRefuses s brace
@@ -49,9 +49,9 @@ module _ {s : List ℕ} {r : Bool} {i : ℕ} {w : Walk} (inv : Walks s r i w) wh
   end h = rw (drop-of-length-le s h) at (inv .rest)
 
   -- at each turn, the answer for the rest is the answer
-  pub turned : i < length s → {t : Turn} → Leads t (λ rest. quick.quickStep (walkOf w) (getD s i 0) rest) → answer t (λ v. quick.quickFrom v (drop (i + 1) s)) ≡ r
+  pub turned : i < length s → {t : Turn} → Leads t (λ rest. quick.quickStep w (getD s i 0) rest) → answer t (λ v. quick.quickFrom v (drop (i + 1) s)) ≡ r
   unfolding quick.quickFrom
   turned h l = rw add-one (l .goes (λ v. quick.quickFrom v (drop (suc i) s)) ∙ (rw (drop-cons s i 0 h) at (inv .rest)))
 
-  pub go : i < length s → {t : Turn} {v : Walk} → t ≡ On v → Leads t (λ rest. quick.quickStep (walkOf w) (getD s i 0) rest) → Walks s r (i + 1) v
+  pub go : i < length s → {t : Turn} {v : Walk} → t ≡ On v → Leads t (λ rest. quick.quickStep w (getD s i 0) rest) → Walks s r (i + 1) v
   go h {t} {v} e l = record { rest = rw e at (turned h l) }

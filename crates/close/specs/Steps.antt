@@ -1,7 +1,7 @@
 -- What the search's private functions promise.
 use mathlib.Core.Path.{_≡_}
-use mathlib.Core.Bool.{Bool, false, not}
-use mathlib.Core.List.{List, [], _∷_}
+use mathlib.Core.Bool.{Bool, not}
+use mathlib.Core.List.{List}
 use Prim.Native.Nat.{ℕ, _+_, _<_, _≤_}
 use lib.Dec.{eqb}
 use lib.ListN.{length, drop}
@@ -9,11 +9,11 @@ use Rattle.grammar.specs.Close.{uncovered, closeFrom, findClose}
 use Rattle.grammar.specs.declared.Quote.{Quote}
 use Rattle.grammar.specs.declared.Place.{Place}
 use Rattle.grammar.specs.declared.Place.the-variants.{Nothing, At}
+use Rattle.lists.specs.Lists.{firstIs}
 
 -- a byte that is no LF stands first
 abbrev pub goesOn : List ℕ → Bool
-goesOn [] = false
-goesOn (b ∷ s) = not (eqb b 10)
+goesOn s = firstIs (λ b. not (eqb b 10)) s
 
 -- the block's close, by the place where a quote closes
 abbrev pub closeBehind : List ℕ → Place → Place

@@ -2,12 +2,14 @@
 ghost use mathlib.Core.Path.{_≡_};
 ghost use mathlib.Core.Bool.{true};
 ghost use lib.ListN.{drop};
+ghost use Rattle.grammar.specs.declared.Walk.{Walk};
 ghost use Rattle.ascii.specs.Bytes.{isQuote};
 ghost use Rattle.grammar.specs.Close.{findClose};
 ghost use Rattle.grammar.specs.Quick.{edge, quickStep, quickRefuses};
 ghost use Rattle.close.specs.Steps.{goesOn, Shuts};
-ghost use Rattle.close.specs.Walks.{walkOf, Leads};
+ghost use Rattle.close.specs.Walks.{Leads};
 use grammar::Place;
+use grammar::Walk;
 
 // Whether the line goes on at k: a byte that is no LF stands there.
 fn goes_on(s: &[u8], k: usize) -> bool
@@ -77,16 +79,7 @@ pub fn find_close(s: &[u8], at: usize) -> Place
     }
 }
 
-// Where the quick test stands: between tokens, behind `#` or `.`, in the name behind that, in a key or bare name, behind `=`.
-enum Walk {
-    Edge,
-    Sigil,
-    Ident,
-    Word,
-    Value,
-}
-
-// What a byte does to it: it answers, or it goes on.
+// What a byte does to the quick test: it answers, or it goes on.
 enum Turn {
     Refuse,
     Leave,
@@ -115,7 +108,7 @@ fn edge_turn(c: u8) -> Turn
 
 // A byte in a key or bare name.
 fn word_turn(c: u8) -> Turn
-    ensures { λ r. ⌜ Leads r (λ rest. quickStep (walkOf Walk.Word) c rest) ⌝ }
+    ensures { λ r. ⌜ Leads r (λ rest. quickStep Walk.Word c rest) ⌝ }
 {
     if letters::is_attr_ident_part(c) {
         return Turn::On(Walk::Word);
@@ -128,7 +121,7 @@ fn word_turn(c: u8) -> Turn
 
 // The byte behind `=`.
 fn value_turn(c: u8) -> Turn
-    ensures { λ r. ⌜ Leads r (λ rest. quickStep (walkOf Walk.Value) c rest) ⌝ }
+    ensures { λ r. ⌜ Leads r (λ rest. quickStep Walk.Value c rest) ⌝ }
 {
     match c {
         b'}' | b' ' | b'\t' | b'\r' | b'\n' => Turn::Refuse,
@@ -138,7 +131,7 @@ fn value_turn(c: u8) -> Turn
 
 // A byte of the quick test.
 fn turn_by(w: Walk, c: u8) -> Turn
-    ensures { λ r. ⌜ Leads r (λ rest. quickStep (walkOf w) c rest) ⌝ }
+    ensures { λ r. ⌜ Leads r (λ rest. quickStep w c rest) ⌝ }
 {
     match w {
         Walk::Edge => edge_turn(c),

@@ -2,7 +2,7 @@
 -- Assumes nothing.
 use mathlib.Core.Path.{_≡_, refl, sym, _∙_, ap}
 use mathlib.Core.Bool.{Bool, true, false, cond}
-use mathlib.Core.List.{List, [], _∷_, _++_}
+use mathlib.Core.List.{List, [], _∷_, _++_, foldl-append}
 use Prim.Native.Nat.{ℕ, suc, _+_, _-_, _*_, _%_, _<_, _≤_}
 use native.Mathlib.Omega.{arith}
 use native.Mathlib.Numerals.{add-one}
@@ -36,8 +36,7 @@ after-le c b = go (eqb b 9) (isTail b)
 -- ---- a text
 pub columns-append : (c : ℕ) (s t : List ℕ) → columnsFrom c (s ++ t) ≡ columnsFrom (columnsFrom c s) t
 unfolding columnsFrom
-columns-append c [] t = refl
-columns-append c (b ∷ s) t = columns-append (columnAfter c b) s t
+columns-append = foldl-append columnAfter
 
 pub columns-ge : (c : ℕ) (s : List ℕ) → c ≤ columnsFrom c s
 unfolding columnsFrom

@@ -1,7 +1,7 @@
 -- Columns count characters from 0, with tab stops of 4.
 use Prim.Native.Nat.{ℕ, suc, _+_, _-_, _%_}
 use mathlib.Core.Bool.{cond}
-use mathlib.Core.List.{List, [], _∷_, _++_}
+use mathlib.Core.List.{List, [], _∷_, _++_, foldl}
 use lib.Dec.{eqb, leb}
 use lib.ListN.{replicate}
 use Rattle.ascii.specs.Bytes.{isIndent, isTail}
@@ -17,8 +17,7 @@ columnAfter c b = cond (eqb b 9) (tabStop c) (cond (isTail b) c (suc c))
 -- The column behind the last byte, where the first stands at column c. (In quotes 000 gives an escape two columns whatever it escapes, a tab too:
 -- that is for the scanners of runs to say.)
 unfoldable pub columnsFrom : ℕ → List ℕ → ℕ
-columnsFrom c [] = c
-columnsFrom c (b ∷ s) = columnsFrom (columnAfter c b) s
+columnsFrom c s = foldl columnAfter c s
 
 -- "`indent_columns`: leading spaces and tabs"
 unfoldable pub indentFrom : ℕ → List ℕ → ℕ

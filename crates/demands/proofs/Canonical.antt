@@ -3,30 +3,30 @@
 -- Assumes nothing.
 use mathlib.Core.Path.{_≡_, refl, sym, _∙_, ap}
 use mathlib.Core.Bool.{Bool, true, false, cond}
-use mathlib.Core.List.{List, [], _∷_, _++_}
+use mathlib.Core.List.{List, [], _∷_, _++_, flatMap}
 use Prim.Native.Nat.{ℕ, _≤_}
 use native.Mathlib.Omega.{arith}
-use borrow.Author.Tests.{leb-true, le-leb, le-ltb}
-use lib.Dec.{leb, ltb}
+use borrow.Author.Tests.{leb-true, le-leb}
+use lib.Dec.{leb}
 use lib.ListN.{length, take, drop, length-take}
 use lib.Seq.{take-at, drop-at}
 use Rattle.lists.specs.Lists.{all, headed, same, isSome}
 use Rattle.lists.proofs.Scan.{both}
 use Rattle.lists.proofs.More.{contra}
-use Rattle.ascii.specs.Bytes.{within, isLetter, isDigit, isAlnum, isKeyStart, isNamePart}
+use Rattle.ascii.specs.Bytes.{within, isLetter, isDigit, isAlnum, isKeyStart, isNamePart, isMarked}
 use Rattle.ascii.specs.declared.Mode.the-variants.{Strict}
 use Rattle.utf8.specs.Utf8.{isUtf8}
 use Rattle.utf8.proofs.Boundaries.{ascii}
 use Rattle.refusals.specs.Numbers.{maxText}
-use Rattle.refusals.specs.declared.Refusal.the-variants.{TextTooLong, NotUtf8, CanonTooLong, NotWellFormed, EmptySet}
+use Rattle.refusals.specs.declared.Refusal.the-variants.{CanonTooLong, NotWellFormed, EmptySet}
 use Rattle.checks.specs.Check.{checkOf, isText}
 use Rattle.checks.specs.declared.Check.{Check}
 use Rattle.checks.specs.declared.Check.the-variants as checks
-use Rattle.checks.proofs.Texts.{passed}
+use Rattle.checks.proofs.Texts.{passed, text-passes, is-text}
 use Rattle.names.specs.Names.{isKey}
 use Rattle.grammar.specs.Close.{noLf}
 use Rattle.grammar.specs.Meaning.{Entry, isClass, absent, distinct}
-use Rattle.canon.specs.Canon.{marked, escape, moreText, pairsText, pairsOf, pairs, canon, valuesOk, entryOk, entriesOk, wf}
+use Rattle.canon.specs.Canon.{marked, escape, moreText, pairsText, pairsOf, pairs, canon, valuesOk, entryOk, wf}
 use Rattle.canon.proofs.Back.{back, same-text, same-meaning}
 use Rattle.sets.specs.Types.{one, maxClasses, maxKeys, maxSlots}
 use Rattle.sets.specs.Rows.{rowsIn, meaningOf}
@@ -93,15 +93,6 @@ not-some : {A : Type 0} (s : List A) → (s ≡ [] → ⊥) → isSome s ≡ tru
 not-some [] n = absurd (n refl)
 not-some (x ∷ s) n = refl
 
-text-passes : (t : List ℕ) → isText t ≡ true → checkOf t ≡ checks.Passed
-unfolding isText checkOf
-text-passes t = go (ltb maxText (length t)) (isUtf8 t)
-  where
-    go : (x y : Bool) → cond x false y ≡ true → cond x (checks.Refused TextTooLong) (cond y checks.Passed (checks.Refused NotUtf8)) ≡ checks.Passed
-    go true y e = contra false e refl
-    go false false e = contra false e refl
-    go false true e = refl
-
 module _ (t : List ℕ) (a : Attrs) (buf : List ℕ) where
   pub wrote : {n : ℕ} → attrsWrote t a (length buf) ≡ Bytes n → Written t a buf n
   unfolding attrsWrote attrsContent writable wroteOf contentAfter hasRoom wellFormed
@@ -160,14 +151,13 @@ module _ (m : List Entry) where
     pub keys : keyCount m ≤ maxKeys
 
   pub meaning-back : May → ReadsBack (canon m) m
-  unfolding isText
   meaning-back h =
       let g = reads-as (back m (h .well) (h .some)) (h .short) (h .utf8) (h .classes) (h .keys) in
       let i = ap canon (g .means) in
       record {
         answer = g .answer;
         means = g .means;
-        fits = record { well = handed-out-ok Strict (canon m) 0 (rw (le-ltb maxText (length (canon m)) (h .short)) (h .utf8)); some = λ q. h .some (sym (g .means) ∙ q); short = rw i (h .short) };
+        fits = record { well = handed-out-ok Strict (canon m) 0 (is-text (canon m) (h .short) (h .utf8)); some = λ q. h .some (sym (g .means) ∙ q); short = rw i (h .short) };
         again = i;
       }
 
@@ -181,7 +171,7 @@ module _ {t : List ℕ} {a : Attrs} (f : Fits t a) where
       let x = both (leb (a .nclass) maxClasses) _ c in
       let y = both (leb (a .nkey) maxKeys) (leb (a .norder) maxSlots) (x .1) in
       let s = shaped (one t) a k in
-      let d = both (entriesOk (meaningOf (one t) a)) (distinct (meaningOf (one t) a)) w .1 in
+      let d = both (all entryOk (meaningOf (one t) a)) (distinct (meaningOf (one t) a)) w .1 in
       record {
         well = w;
         some = f .some;
@@ -204,12 +194,12 @@ abbrev bare : ℕ → List Entry
 bare b = record { name = b ∷ []; values = [] ∷ [] } ∷ []
 
 bare-may : (x : Bool) → May (bare (cond x 97 98))
-unfolding wf entriesOk entryOk all valuesOk isClass same isKey headed isKeyStart isNamePart isAlnum isLetter isDigit within noLf distinct absent canon pairs pairsOf pairsText moreText marked escape classCount keyCount isFree
+unfolding wf entryOk all valuesOk isClass same isKey headed isKeyStart isNamePart isAlnum isLetter isDigit within noLf distinct absent canon pairs flatMap pairsOf pairsText moreText marked isMarked escape classCount keyCount isFree
 bare-may true = record { well = refl; some = λ q. contra true refl (cc); short = omega arith; utf8 = ascii (canon (bare 97)) refl; classes = omega arith; keys = omega arith }
 bare-may false = record { well = refl; some = λ q. contra true refl (cc); short = omega arith; utf8 = ascii (canon (bare 98)) refl; classes = omega arith; keys = omega arith }
 
 pub no-constant : (c : List ℕ) → ((t : List ℕ) (a : Attrs) → Fits t a → ReadsBack c (meaningOf (one t) a)) → ⊥
-unfolding absent same
+unfolding absent all same
 no-constant c h =
     let x = meaning-back (bare 97) (bare-may true) in
     let y = meaning-back (bare 98) (bare-may false) in

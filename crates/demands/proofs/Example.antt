@@ -1,10 +1,10 @@
 -- The example of document 01's 'The sheet program', computed.
 -- Assumes nothing.
 use mathlib.Core.Path.{_≡_, refl}
-use mathlib.Core.List.{List, [], _∷_}
+use mathlib.Core.List.{List, [], _∷_, flatMap}
 use Prim.Native.Nat.{ℕ}
 use Rattle.lists.specs.Lists.{isIn, all, headed, run, same}
-use Rattle.ascii.specs.Bytes.{isBlank, isPlain, isQuote, within, isLetter, isDigit, isAlnum, isNamePart, isKeyStart, isNameStart, isSpace, isPunct, isTail, isIndent}
+use Rattle.ascii.specs.Bytes.{isBlank, isPlain, isQuote, within, isLetter, isDigit, isAlnum, isNamePart, isKeyStart, isNameStart, isSpace, isPunct, isTail, isIndent, isMarked}
 use Rattle.utf8.specs.Utf8.{leadOf, afterOf, octetsFrom, isUtf8}
 use Rattle.refusals.specs.Numbers.{numberOf}
 use Rattle.checks.specs.Check.{checkOf}
@@ -19,7 +19,7 @@ use Rattle.grammar.specs.Grammar.{isValue}
 use Rattle.grammar.specs.Close.{turned, stepOf, closeFrom}
 use Rattle.grammar.specs.Meaning as meaning
 use Rattle.canon.specs.Canon.{pairsOf, pairs, marked, escape, moreText, pairsText, canon}
-use Rattle.payloads.specs.Payloads.{lastIs, behindFrom, behindLast, continues}
+use Rattle.payloads.specs.Payloads.{endsInClose, behindFrom, behindLast, continues}
 use Rattle.scanners.specs.Scanners.{passed, seekStep, seekFrom, lastOpenBrace, scanFrom, openQuoteAtEnd, heldStep, holdFrom, holdsOpen}
 use Rattle.sets.specs.Rows.{padded, tableOf, putRow, hasKey, withPut, withPuts, slotEntry, meant, rowsIn, meaningOf}
 use Rattle.sets.specs.Puts.{byName, valued, putsOf, putsIn}
@@ -28,7 +28,7 @@ use Rattle.chain.specs.Chain.{blocksFrom, readBlocks, goodLine}
 use Rattle.fill.specs.Fill.{limited, chainAt}
 use Rattle.joins.specs.Joins.{passes}
 use Rattle.runs.specs.Runs.{runFrom, runAt}
-use Rattle.fronts.specs.Fronts.{lineAt, frontOf, opensAt}
+use Rattle.fronts.specs.Fronts.{frontOf, opensAt}
 use Rattle.blocks.specs.Blocks.{runFound, found}
 use Rattle.lengths.specs.Lengths.{flushLeft}
 use Rattle.sheets.specs.Sheets.{triesFrom, onlyBlocks, blocksOf}
@@ -60,5 +60,5 @@ written =
     98 ∷ 108 ∷ 111 ∷ 99 ∷ 107 ∷ 9 ∷ 53 ∷ 9 ∷ 49 ∷ 9 ∷ 123 ∷ 99 ∷ 108 ∷ 97 ∷ 115 ∷ 115 ∷ 61 ∷ 34 ∷ 97 ∷ 34 ∷ 32 ∷ 99 ∷ 108 ∷ 97 ∷ 115 ∷ 115 ∷ 61 ∷ 34 ∷ 98 ∷ 34 ∷ 32 ∷ 115 ∷ 105 ∷ 100 ∷ 101 ∷ 61 ∷ 34 ∷ 120 ∷ 125 ∷ 121 ∷ 34 ∷ 125 ∷ 10 ∷ []
 
 pub example : report sheet ≡ written
-unfolding isIn all headed run same isBlank isPlain isQuote within isLetter isDigit isAlnum isNamePart isKeyStart isNameStart isSpace isPunct isTail isIndent leadOf afterOf octetsFrom isUtf8 numberOf checkOf isKey isBareName isName isSize tagFrom isTag isLanguage unescapeFrom unescape lines eol lineFrom rangesFrom ranges trimEnd trimStart trim trimRange isBlankLine tabStop columnAfter indentFrom capped ends finish shutOf valueToken afterName tokenOf text readFrom readPayload isValue stepOf closeFrom meaning.rangesFrom pairsOf pairs marked escape moreText pairsText canon lastIs behindFrom behindLast continues turned passed seekStep seekFrom lastOpenBrace scanFrom openQuoteAtEnd heldStep holdFrom holdsOpen padded tableOf putRow hasKey withPut withPuts slotEntry meant rowsIn meaningOf byName valued putsOf putsIn rangeBytes nameBytes valueBytes blocksFrom readBlocks goodLine limited chainAt passes runFrom runAt lineAt frontOf opensAt runFound found flushLeft triesFrom onlyBlocks blocksOf placesIn places decimal reportLine refusedLine canonLine blockLine reportOf report
+unfolding isIn all headed run same isBlank isPlain isQuote within isLetter isDigit isAlnum isNamePart isKeyStart isNameStart isSpace isPunct isTail isIndent leadOf afterOf octetsFrom isUtf8 numberOf checkOf isKey isBareName isName isSize tagFrom isTag isLanguage unescapeFrom unescape lines eol lineFrom rangesFrom ranges trimEnd trimStart trim trimRange isBlankLine tabStop columnAfter indentFrom capped ends finish shutOf valueToken afterName tokenOf text readFrom readPayload isValue stepOf closeFrom meaning.rangesFrom pairsOf pairs flatMap marked isMarked escape moreText pairsText canon endsInClose behindFrom behindLast continues turned passed seekStep seekFrom lastOpenBrace scanFrom openQuoteAtEnd heldStep holdFrom holdsOpen padded tableOf putRow hasKey withPut withPuts slotEntry meant rowsIn meaningOf byName valued putsOf putsIn rangeBytes nameBytes valueBytes blocksFrom readBlocks goodLine limited chainAt passes runFrom runAt frontOf opensAt runFound found flushLeft triesFrom onlyBlocks blocksOf placesIn places decimal reportLine refusedLine canonLine blockLine reportOf report
 example = refl

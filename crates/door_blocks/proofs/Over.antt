@@ -10,14 +10,12 @@ use lib.Seq.{take-at}
 use Rattle.lists.proofs.More.{contra}
 use Rattle.refusals.specs.Numbers.{maxText}
 use Rattle.refusals.specs.declared.Refusal.{Refusal}
-use Rattle.lines.specs.Trim.{trim}
-use Rattle.payloads.specs.Payloads.{endsInClose}
 use Rattle.chain.specs.Chain.{blocksFrom, readBlocks, goodLine}
 use Rattle.lists.specs.Lists.{isSome}
 use Rattle.runs.specs.Runs.{Run, runAt}
 use Rattle.runs.specs.declared.Stop as stops
 use Rattle.runs.specs.declared.Stop.the-variants as stop
-use Rattle.fronts.specs.Fronts.{lineAt, frontOf, opensAt}
+use Rattle.fronts.specs.Fronts.{frontOf, opensAt}
 use Rattle.blocks.specs.Blocks.{Found, nothing, closedRun, ended, runFound, found, wrapped, sized, joinHolds, blockOf}
 use Rattle.starts.specs.Starts.{startAt, onStart}
 use Rattle.blocks.specs.ByLine.{blockFound, wrappedFound}
@@ -54,7 +52,7 @@ run-solid t at base cap = ended-solid (runAt cap base t at) (runAt cap base t at
 
 found-solid : (t : List ℕ) (at base cap : ℕ) → Solid (found t at base cap)
 unfolding found
-found-solid t at base cap = by-test (opensAt t at) (by-test (goodLine t (frontOf t at .from) (frontOf t at .to)) Solid.line (by-test (endsInClose (trim (lineAt t at))) Solid.none (run-solid t at base cap))) Solid.none
+found-solid t at base cap = by-test (opensAt t at) (by-test (goodLine t (frontOf t at .from) (frontOf t at .to)) Solid.line (by-test (frontOf t at .closes) Solid.none (run-solid t at base cap))) Solid.none
 
 wrapped-solid : (t : List ℕ) (at base cap : ℕ) → Solid (wrapped t at base cap)
 unfolding wrapped

@@ -3,6 +3,6 @@ use Prim.Native.Nat.{ℕ}
 use mathlib.Core.List.{List, [], _∷_}
 use Rattle.report.specs.declared.Part.{Part}
 
--- a part of a report: its length, and the place and line at which it goes on, the line 0 where it is whole
+-- a part of a report: its length, and the place and line at which it goes on, both 0 where it is whole or refused
 abbrev pub partTold : Part → List ℕ
 partTold p = p .len ∷ p .at ∷ p .line ∷ []

@@ -3,7 +3,7 @@ use report::Part;
 use report::Told;
 ghost use mathlib.Core.Path.{_≡_};
 ghost use lib.ListN.{length};
-ghost use Rattle.runs.specs.Runs.{over};
+ghost use Rattle.lists.specs.Lists.{over};
 ghost use Rattle.sheets.specs.Sheets.{joinBehind};
 ghost use Rattle.report.specs.Parts.{toldNo, startOf, partOf, shown};
 ghost use Rattle.tells.specs.Tells.{toldIn};

@@ -2,7 +2,7 @@
 use endings::Ends;
 ghost use mathlib.Core.Path.{_≡_};
 ghost use lib.ListN.{length};
-ghost use Rattle.runs.specs.Runs.{over};
+ghost use Rattle.lists.specs.Lists.{over};
 ghost use Rattle.refused.specs.Refused.{answerNo, answerLines, refusedRun};
 ghost use Rattle.endings.specs.Endings.{endsNo, endsIn};
 ghost use Rattle.tells.specs.Tells.{toldIn};

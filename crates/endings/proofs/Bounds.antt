@@ -6,15 +6,16 @@ use mathlib.Core.List.{List, [], _∷_, _++_, map}
 use Prim.Native.Nat.{ℕ, suc, _+_, _≤_, zero-le}
 use native.Mathlib.Omega.{arith}
 use lib.ListN.{length, take}
-use Rattle.lists.specs.Lists.{isIn}
+use Rattle.payloads.specs.Payloads.{opens}
+use Rattle.lists.specs.Lists.{isIn, over}
 use Rattle.checks.specs.Check.{checkOf}
 use Rattle.checks.specs.declared.Check as checks
 use Rattle.checks.specs.declared.Check.the-variants as check
 use Rattle.lines.specs.Trim.{isBlankLine}
 use Rattle.lines.specs.Lines.{lines}
-use Rattle.runs.specs.Runs.{asIs, over, sizes}
+use Rattle.runs.specs.Runs.{asIs, sizes}
 use Rattle.runs.proofs.Bounds.{sizes-lines}
-use Rattle.spots.specs.Spots.{opens, closesComment}
+use Rattle.spots.specs.Spots.{closesComment}
 use Rattle.refused.specs.Refused.{refusedOf}
 use Rattle.refused.proofs.Bounds.{told-ahead, ahead-before}
 use Rattle.endings.specs.declared.Ends.the-variants as end

@@ -6,13 +6,13 @@ use mathlib.Core.List.{List, [], _∷_}
 use Prim.Native.Nat.{ℕ}
 use lib.Dec.{eqb, ltb}
 use lib.ListN.{length, take}
+use Rattle.lists.specs.Lists.{over}
 use Rattle.utf8.specs.Utf8.{isUtf8}
 use Rattle.refusals.specs.Numbers.{maxText, numberOf}
 use Rattle.refusals.specs.declared.Refusal.the-variants.{TextTooLong, NotUtf8}
 use Rattle.checks.specs.Check.{checkOf}
 use Rattle.checks.specs.declared.Check.the-variants as check
 use Rattle.lines.specs.Lines.{lines}
-use Rattle.runs.specs.Runs.{over}
 use Rattle.refused.specs.Refused.{answerNo, refusedOf}
 use Rattle.refused.specs.declared.Answer.{Answer}
 use Rattle.refused.specs.declared.Answer.the-variants.{No, Lines, NoEnd, Refused}

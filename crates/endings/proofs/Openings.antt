@@ -7,11 +7,10 @@ use Prim.Native.Nat.{ℕ, suc, _+_}
 use native.Mathlib.Omega.{arith}
 use lib.Dec.{eqb}
 use lib.ListN.{length, take}
-use Rattle.lists.specs.Lists.{all}
+use Rattle.payloads.specs.Payloads.{opens}
+use Rattle.lists.specs.Lists.{all, over}
 use Rattle.lists.proofs.More.{contra}
 use Rattle.lines.specs.Trim.{isBlankLine}
-use Rattle.runs.specs.Runs.{over}
-use Rattle.spots.specs.Spots.{opens}
 use Rattle.refused.specs.Refused.{Told, refusedOf}
 use Rattle.refused.specs.declared.Answer.{Answer}
 use Rattle.refused.specs.declared.Answer.the-variants.{No, Lines, NoEnd, Refused}

@@ -2,7 +2,7 @@
 -- Assumes nothing.
 use mathlib.Core.Path.{_≡_, refl, sym, _∙_, ap}
 use mathlib.Core.Logic.{inl, inr}
-use mathlib.Core.Bool.{Bool, true, false}
+use mathlib.Core.Bool.{Bool, true, false, cond}
 use mathlib.Core.List.{List, [], _∷_, _++_, append-nil}
 use Prim.Native.Nat.{ℕ, zero, suc, _+_, _-_, _<_, _≤_}
 use native.Mathlib.Omega.{arith}
@@ -10,16 +10,16 @@ use borrow.Author.Tests.{ne-eqb}
 use lib.Dec.{eqb}
 use lib.ListN.{length, getD, take, drop, length-drop}
 use lib.Seq.{drop-cons}
-use Rattle.lists.specs.Lists.{isIn}
+use Rattle.payloads.specs.Payloads.{opens}
+use Rattle.lists.specs.Lists.{isIn, over}
 use Rattle.refusals.specs.Numbers.{maxText}
 use Rattle.lines.specs.Trim.{isBlankLine}
-use Rattle.lines.specs.Lines.{onLine, isDropped, lines, eol, lineFrom}
+use Rattle.lines.specs.Lines.{onto, isDropped, lines, eol, lineFrom}
 use Rattle.lines.specs.declared.LineEnd.{LineEnd}
 use Rattle.lines.proofs.First.{rest-of}
 use Rattle.lines.proofs.Lines.{lines-end}
-use Rattle.runs.specs.Runs.{over}
 use Rattle.runs.proofs.Bounds.{sizes-lines, costs-lines}
-use Rattle.spots.specs.Spots.{opens, closesComment}
+use Rattle.spots.specs.Spots.{closesComment}
 use Rattle.refused.specs.declared.RefusedRun.{RefusedRun}
 use Rattle.refused.specs.Refused.{refusedAt, handedOut}
 use Rattle.refused.proofs.Answers.{at-short}
@@ -37,7 +37,7 @@ use Rattle.endings.proofs.Bounds.{looking-le}
 
 -- ---- where a line begins the lines part
 
-on-append : (x y : Bool) (b : ℕ) (l : List ℕ) (ls ms : List (List ℕ)) → onLine x y b ((l ∷ ls) ++ ms) ≡ onLine x y b (l ∷ ls) ++ ms
+on-append : (x y : Bool) (b : ℕ) (l : List ℕ) (ls ms : List (List ℕ)) → cond x ([] ∷ ((l ∷ ls) ++ ms)) (cond y ((l ∷ ls) ++ ms) (onto b ((l ∷ ls) ++ ms))) ≡ cond x ([] ∷ (l ∷ ls)) (cond y (l ∷ ls) (onto b (l ∷ ls))) ++ ms
 on-append true y b l ls ms = refl
 on-append false true b l ls ms = refl
 on-append false false b l ls ms = refl
@@ -62,7 +62,7 @@ split (b ∷ []) (suc (suc j)) h e = absurd (omega arith)
 split (b ∷ c ∷ s) (suc (suc j)) h e =
     let z = split (c ∷ s) (suc j) (omega arith) (edge-tail b (c ∷ s) j e) in
     let f = rest-of (take (suc j) (c ∷ s)) (omega arith) in
-    ap (onLine (eqb b 10) (isDropped b (c ∷ s)) b) z ∙ rw f (on-append (eqb b 10) (isDropped b (c ∷ s)) b _ _ (lines (drop (suc j) (c ∷ s))))
+    ap (λ (r : List (List ℕ)). cond (eqb b 10) ([] ∷ r) (cond (isDropped b (c ∷ s)) r (onto b r))) z ∙ rw f (on-append (eqb b 10) (isDropped b (c ∷ s)) b _ _ (lines (drop (suc j) (c ∷ s))))
 
 -- ---- the loop of `line_start`: the line from i on ends before `at`
 

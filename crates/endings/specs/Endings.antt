@@ -5,15 +5,15 @@ use mathlib.Core.Bool.{Bool, cond, _&&_, not}
 use mathlib.Core.List.{List, [], _∷_, _++_}
 use lib.Dec.{eqb}
 use lib.ListN.{length, take}
-use Rattle.lists.specs.Lists.{all, isIn}
+use Rattle.payloads.specs.Payloads.{opens}
+use Rattle.lists.specs.Lists.{all, isIn, over}
 use Rattle.refusals.specs.Numbers.{numberOf}
 use Rattle.checks.specs.Check.{checkOf}
 use Rattle.checks.specs.declared.Check as checks
 use Rattle.checks.specs.declared.Check.the-variants as check
 use Rattle.lines.specs.Trim.{isBlankLine}
 use Rattle.lines.specs.Lines.{lines}
-use Rattle.runs.specs.Runs.{over}
-use Rattle.spots.specs.Spots.{opens, closesComment}
+use Rattle.spots.specs.Spots.{closesComment}
 use Rattle.refused.specs.Refused.{Told, refusedOf}
 use Rattle.refused.specs.declared.Answer.{Answer}
 use Rattle.refused.specs.declared.Answer.the-variants.{No, Lines, NoEnd, Refused}

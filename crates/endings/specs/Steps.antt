@@ -6,10 +6,10 @@ use mathlib.Core.Logic.{_⊎_}
 use mathlib.Core.List.{List, [], _∷_}
 use lib.Dec.{eqb}
 use lib.ListN.{length, getD}
+use Rattle.payloads.specs.Payloads.{opens}
+use Rattle.lists.specs.Lists.{over}
 use Rattle.lines.specs.Trim.{isBlankLine}
 use Rattle.lines.specs.Lines.{lineFrom}
-use Rattle.runs.specs.Runs.{over}
-use Rattle.spots.specs.Spots.{opens}
 use Rattle.refused.specs.Refused.{Told, refusedOf}
 use Rattle.refused.specs.declared.Answer.{Answer}
 use Rattle.refused.specs.declared.Answer.the-variants.{No, Lines, NoEnd, Refused}

@@ -1,4 +1,5 @@
--- "it is well-formed if its text gives neither 1 nor 2": every set that an entry by line number hands out.
+-- "Rows past the counts are zero in every set handed out, and it is well-formed if its text gives neither 1 nor 2": every set that an entry by line number
+-- hands out. Of a block or run `block-zeroed` of blocks says the first.
 -- Assumes nothing.
 use mathlib.Core.Path.{_≡_, refl}
 use mathlib.Core.Bool.{Bool, true, false, cond}
@@ -8,6 +9,7 @@ use native.Mathlib.Omega.{arith}
 use borrow.Author.Tests.{ltb-true, ltb-false}
 use lib.Dec.{ltb, eqb·suc-zero}
 use lib.ListN.{length, drop}
+use Rattle.checks.proofs.Texts.{text-utf8}
 use Rattle.ascii.specs.declared.Mode.the-variants.{Loose}
 use Rattle.utf8.specs.Utf8.{isUtf8}
 use Rattle.refusals.specs.declared.Refusal.the-variants.{NothingThere}
@@ -20,19 +22,19 @@ use Rattle.lines.specs.declared.Line as places
 use Rattle.lines.specs.declared.Line.the-variants as place
 use Rattle.lines.proofs.Lines.{ranges-at, ranges-end}
 use Rattle.fill.specs.Fill.{refusing, chainAt}
+use Rattle.fill.proofs.Zeroed.{Zeroed, empty-zeroed}
 use Rattle.wellformed.specs.WellFormed.{wellFormed}
 use Rattle.reader.proofs.ChainsOut.{chain-out-ok}
-use Rattle.reader.proofs.HandedOut.{text-utf8}
 use Rattle.runs.specs.Runs as runs
 use Rattle.runs.proofs.Texts.{past-well}
 use Rattle.fronts.specs.Fronts.{frontOf, opensAt}
 use Rattle.starts.specs.declared.Start as starts
 use Rattle.starts.specs.declared.Start.the-variants as start
 use Rattle.starts.specs.Starts.{begun, startAt, onStart, placeOf}
-use Rattle.blocks.specs.Blocks.{Found, nothing, found, wrapped, textIn, blockOf}
+use Rattle.blocks.specs.Blocks.{Found, nothing, found, wrapped, textIn, filledBy, blockOf}
 use Rattle.entries.specs.Entries.{lineRead, parseStandalone}
 use Rattle.blocks.specs.ByLine.{blockFound, wrappedFound}
-use Rattle.blocks.proofs.SetsOk.{Ok, empty-fits, none-ok, found-ok, wrapped-ok}
+use Rattle.blocks.proofs.SetsOk.{block-zeroed, Ok, empty-fits, none-ok, found-ok, wrapped-ok}
 
 -- ---- where a line of a UTF-8 text begins, the rest is UTF-8
 
@@ -76,7 +78,24 @@ start-well t n {at} h e = go (checkOf t) (lineOf n t) refl e
     go check.Passed place.Missing p e = let z : _≡_ {A = ℕ} 0 1 = cc in absurd (omega arith)
     go check.Passed (place.At r) p e = let z : r .from ≡ at = cc in rw (← z) (line-well n t r (text-utf8 t h) p)
 
--- ---- the sets
+-- ---- rows past the counts of a line's set: it is that of a block of one line, or of a refusal
+pub line-read-zeroed : (t : List ℕ) (at : ℕ) → Zeroed (lineRead t at .set)
+unfolding lineRead blockOf
+line-read-zeroed t at = go (opensAt t at)
+  where
+    go : (o : Bool) → Zeroed (cond o (filledBy t at Found.line) (refusing NothingThere) .set)
+    go true = block-zeroed t at Found.line
+    go false = empty-zeroed
+
+pub line-zeroed : (t : List ℕ) (n : ℕ) → Zeroed (parseStandalone t n .set)
+unfolding parseStandalone
+line-zeroed t n = go (startAt t n)
+  where
+    go : (s : starts.Start) → Zeroed (onStart refusing (lineRead t) s .set)
+    go (start.Refused r) = empty-zeroed
+    go (start.At at) = line-read-zeroed t at
+
+-- ---- well-formed sets
 
 module _ (t : List ℕ) (h : isText t ≡ true) where
   start-ok : (n : ℕ) (g : ℕ → Found) → ((at : ℕ) → isUtf8 (drop at t) ≡ true → Ok t at (g at)) → Ok t (placeOf t n) (onStart nothing g (startAt t n))

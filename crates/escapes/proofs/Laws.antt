@@ -100,17 +100,17 @@ module _ (buf : List ℕ) (at : ℕ) (xs : List ℕ) where
 
   pub none-before : length buf < at → Answers Full buf
   unfolding fits writtenTo contentOf
-  none-before h = (rw (lt-leb at (length buf) h), rw (lt-leb at (length buf) h))
+  none-before h = let e = lt-leb (at + length xs) (length buf) (omega (arith, h)) in (rw e, rw e)
 
   pub none-behind : at ≤ length buf → length buf - at < length xs → Answers Full buf
   unfolding fits writtenTo contentOf
-  none-behind h l = (rw (le-leb at (length buf) h, lt-leb (length xs) (length buf - at) l), rw (le-leb at (length buf) h, lt-leb (length xs) (length buf - at) l))
+  none-behind h l = let e = lt-leb (at + length xs) (length buf) (omega (arith, h, l)) in (rw e, rw e)
 
   pub room : at ≤ length buf → length xs ≤ length buf - at → {k : ℕ} {b : List ℕ} → k ≡ at + length xs → b ≡ sets buf at xs → Answers (To k) b
   unfolding fits writtenTo contentOf
-  room h l p q = (rw (le-leb at (length buf) h, le-leb (length xs) (length buf - at) l, p), rw (le-leb at (length buf) h, le-leb (length xs) (length buf - at) l, q))
+  room h l p q = let e = le-leb (at + length xs) (length buf) (omega (arith, h, l)) in (rw (e, p), rw (e, q))
 
   -- only the bytes that are counted change
   pub content : at + length xs ≤ length buf → contentOf buf at xs ≡ take at buf ++ xs ++ drop (at + length xs) buf
   unfolding fits contentOf
-  content h = rw (le-leb at (length buf) (omega arith), le-leb (length xs) (length buf - at) (omega arith)) (sets-eq xs buf at h)
+  content h = rw (le-leb (at + length xs) (length buf) h) (sets-eq xs buf at h)

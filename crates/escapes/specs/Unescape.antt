@@ -39,7 +39,7 @@ pieceAt s i =
 
 -- n bytes have room from `at` on in a buffer of the given size
 unfoldable pub fits : ℕ → ℕ → ℕ → Bool
-fits size at n = leb at size && leb n (size - at)
+fits size at n = leb (at + n) size
 
 -- what is answered where xs is to be written from `at` on: the place behind it, or that it has no room
 unfoldable pub writtenTo : List ℕ → ℕ → List ℕ → Written

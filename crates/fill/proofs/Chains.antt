@@ -2,7 +2,7 @@
 -- Assumes nothing.
 use mathlib.Core.Path.{_≡_, refl, sym, _∙_}
 use mathlib.Core.Bool.{Bool, true, false}
-use mathlib.Core.List.{List, [], _∷_, _++_, append-assoc, append-nil}
+use mathlib.Core.List.{List, [], _∷_, _++_, append-assoc, append-nil, flatMap}
 use Prim.Native.Nat.{ℕ, _+_, _-_, _<_, _≤_}
 use native.Mathlib.Omega.{arith}
 use lib.Dec.{leb}
@@ -10,6 +10,7 @@ use borrow.Author.Tests.{leb-true, leb-false}
 use lib.ListN.{length, getD, take, drop, drop-of-length-le}
 use lib.Seq.{slice, length-take-le, take-length}
 use Rattle.lists.specs.Lists.{run}
+use Rattle.lists.proofs.Flat.{flat-append}
 use Rattle.ascii.specs.declared.Mode.{Mode}
 use Rattle.ascii.specs.Bytes.{isBlank}
 use Rattle.grammar.specs.Grammar.{Placed}
@@ -76,8 +77,7 @@ then-none (Rest.puts ps) = rw (append-nil ps)
 
 puts-append : (is js : List Placed) → putsIn (is ++ js) ≡ putsIn is ++ putsIn js
 unfolding putsIn
-puts-append [] js = refl
-puts-append (p ∷ is) js = rw (puts-append is js, append-assoc (putsOf (p .at) (p .item)) (putsIn is) (putsIn js))
+puts-append is js = flat-append (λ p. putsOf (p .at) (p .item)) is js
 
 of-joined : (r q : Reading) → ofReading (joined r q) ≡ thenRest (ofReading r) (ofReading q)
 of-joined Reading.refused q = refl
@@ -90,7 +90,7 @@ unfolding blocksFrom
 last-rest m w i h = rw (drop-of-length-le w h)
 
 last-puts : (m : Mode) (w : List ℕ) (i : ℕ) → length w ≤ i → blocksRest m w i ≡ Rest.puts []
-unfolding putsIn
+unfolding putsIn flatMap
 last-puts m w i h = rw (last-rest m w i h)
 
 -- a payload alone is a line whose block has nothing behind it

@@ -9,3 +9,4 @@ pub mod Whole
 pub mod Meant
 pub mod Numbers
 pub mod Settled
+pub mod Zeroed

@@ -1,4 +1,4 @@
--- What `fill` and `fill_chain` answer is a refusal with the empty set, or a set.
+-- What `fill` and `fill_chain` answer is a refusal with the empty set, or a set that rows were put into.
 -- Assumes nothing.
 use mathlib.Core.Bool.{Bool, true, false, cond}
 use mathlib.Core.List.{List}
@@ -8,31 +8,34 @@ use lib.ListN.{length}
 use lib.Seq.{slice}
 use Rattle.ascii.specs.declared.Mode.{Mode}
 use Rattle.grammar.specs.Read.{Reading, readPayload}
+use Rattle.chain.specs.Chain.{readBlocks}
 use Rattle.refusals.specs.Numbers.{maxText}
 use Rattle.refusals.specs.declared.Refusal.{Refusal}
 use Rattle.refusals.specs.declared.Refusal.the-variants.{TextTooLong, NoReading, TooManyClasses, TooManyKeys, TooManySlots}
 use Rattle.sets.specs.Types.{Texts, one, maxClasses, maxKeys, maxSlots}
 use Rattle.sets.specs.Rows.{Rows, noRows, withPuts, tableOf}
 use Rattle.sets.specs.Puts.{putsIn}
-use Rattle.sets.specs.declared.Attrs.{Attrs}
 use Rattle.fill.specs.declared.Outcome.the-variants.{Done}
 use Rattle.fill.specs.declared.Filled.{Filled}
-use Rattle.fill.specs.Fill.{refusing, limited, filledBy, filledOf, fillAt}
+use Rattle.fill.specs.Fill.{refusing, limited, filledBy, filledOf, fillAt, chainAt}
 
 pub data Settled : Filled → Type 0 where
   refused : (r : Refusal) → Settled (refusing r)
-  done : (a : Attrs) → Settled (record { outcome = Done; set = a })
+  done : (s : Rows) → Settled (record { outcome = Done; set = tableOf s })
+
+pub either : (b : Bool) {f g : Filled} → Settled f → Settled g → Settled (cond b f g)
+either true h k = h
+either false h k = k
 
 unless : (b : Bool) (r : Refusal) {f : Filled} → Settled f → Settled (cond b (refusing r) f)
-unless true r h = Settled.refused r
-unless false r h = h
+unless b r h = either b (Settled.refused r) h
 
-limited-settled : (s : Rows) → Settled (limited s)
+pub limited-settled : (s : Rows) → Settled (limited s)
 unfolding limited
 limited-settled s =
     unless (ltb maxClasses (length (s .classes))) TooManyClasses
     (unless (ltb maxKeys (length (s .keys))) TooManyKeys
-    (unless (ltb maxSlots (length (s .order))) TooManySlots (Settled.done (tableOf s))))
+    (unless (ltb maxSlots (length (s .order))) TooManySlots (Settled.done s)))
 
 reading-settled : (t : Texts) (r : Reading) → Settled (filledBy t r)
 reading-settled t Reading.refused = Settled.refused NoReading
@@ -42,3 +45,7 @@ module _ (m : Mode) (t : List ℕ) (from to : ℕ) where
   pub fill-settled : Settled (fillAt m t from to)
   unfolding fillAt filledOf
   fill-settled = unless (ltb maxText (length t)) TextTooLong (reading-settled (one t) (readPayload m from (slice from to t)))
+
+  pub chain-settled : Settled (chainAt m t from to)
+  unfolding chainAt
+  chain-settled = unless (ltb maxText (length t)) TextTooLong (reading-settled (one t) (readBlocks m from (slice from to t)))

@@ -2,7 +2,7 @@
 -- Assumes nothing.
 use mathlib.Core.Path.{_≡_, refl, _∙_}
 use mathlib.Core.Bool.{true, false}
-use mathlib.Core.List.{List, [], _∷_}
+use mathlib.Core.List.{List, [], _∷_, flatMap}
 use Prim.Native.Nat.{ℕ, _+_, _-_, _<_, _≤_}
 use native.Mathlib.Omega.{arith}
 use lib.ListN.{length, take, drop, length-take, length-drop}
@@ -148,7 +148,7 @@ Lies s (token.Quoted f k e) = (f ≤ k) × (k + 3 ≤ e) × (e ≤ length s)
 Lies s (token.Bare f e) = (f < e) × (e ≤ length s)
 
 of-also : (p : Placed) (r : Reading) → ofReading (also p r) ≡ before (putsOf (p .at) (p .item)) (ofReading r)
-unfolding putsIn
+unfolding putsIn flatMap
 of-also p Reading.refused = refl
 of-also p (Reading.items is) = refl
 
@@ -157,7 +157,7 @@ part-end s f e h l = omega (arith, length-slice f e s l)
 
 module _ (m : Mode) (s : List ℕ) {i a : ℕ} (fits : i ≤ length s) (is : a ≡ i + run (isBlank m) (drop i s)) where
   pub at-end : length s ≤ a → Yields m s i (tokensFrom m s i) End
-  unfolding putsIn
+  unfolding putsIn flatMap
   at-end h = record { told = rw (steps.at-end m s fits is (omega (arith, steps.between m s fits is))) }
 
   pub bad : a < length s → token.Bad ≡ shown a (tokenOf m (drop a s)) → Yields m s i (tokensFrom m s i) Bad

@@ -13,21 +13,31 @@ use lib.Seq.{slice, length-slice, drop-drop, drop-append-le, take-append-le, dro
 use Rattle.lists.proofs.Parts.{slice-part, slice-add}
 use Rattle.lists.proofs.Scan.{both}
 use Rattle.lists.proofs.More.{contra}
-use Rattle.lists.specs.Lists.{isIn, run}
-use Rattle.ascii.specs.Bytes.{isIndent}
-use Rattle.lines.specs.Lines.{beforeLf, isDropped, lines, firstOf, lineFrom}
+use Rattle.lists.specs.Lists.{isIn, run, all}
+use Rattle.ascii.specs.Bytes.{isIndent, isSpace}
+use Rattle.lines.specs.Lines.{beforeLf, isDropped, lines, firstOf, lineFrom, lineAt}
 use Rattle.lines.specs.Trim.{trim, trimStart, trimEnd, trimRange}
 use Rattle.lines.specs.declared.Range.{Range}
 use Rattle.lines.specs.declared.LineEnd.{LineEnd}
 use Rattle.lines.proofs.First.{first-take, first-cons}
 use Rattle.lines.proofs.Lines.{to-from, to-next, next-le, lines-end}
 use Rattle.lines.proofs.Trim.{trim-from, trim-to, trim-slice}
-use Rattle.payloads.specs.Payloads.{beginsOpen, endsInClose}
+use Rattle.payloads.specs.Payloads.{beginsOpen, endsInClose, opens}
 use Rattle.payloads.proofs.Lines.{ends}
 use Rattle.fronts.specs.declared.Front.{Front}
-use Rattle.fronts.specs.Fronts.{lineAt, frontOf, opensAt, beginsIndented}
+use Rattle.fronts.specs.Fronts.{frontOf, opensAt, beginsIndented}
 
 -- ---- the first and the last byte of a trimmed line
+
+-- what is dropped at the end leaves the first byte that is no whitespace
+pub opens-trim : (s : List ℕ) → beginsOpen (trim s) ≡ opens s
+unfolding trim trimStart trimEnd all
+opens-trim [] = refl
+opens-trim (b ∷ s) = go (isSpace b) refl (opens-trim s)
+  where
+    go : (x : Bool) → isSpace b ≡ x → beginsOpen (trimEnd (trimStart s)) ≡ opens s → beginsOpen (trimEnd (cond x (trimStart s) (b ∷ s))) ≡ beginsOpen (cond x (trimStart s) (b ∷ s))
+    go true e h = h
+    go false e h = rw e
 
 module _ (s : List ℕ) where
   pub no-open : length s ≡ 0 → false ≡ beginsOpen s
@@ -45,6 +55,7 @@ module _ (s : List ℕ) where
       go (b ∷ s) h = refl
 
   pub no-close : length s ≡ 0 → false ≡ endsInClose s
+  unfolding endsInClose
   no-close = go s
     where
       go : (s : List ℕ) → length s ≡ 0 → false ≡ endsInClose s
@@ -57,11 +68,10 @@ module _ (s : List ℕ) where
 -- ---- the line
 
 pub line-is : (t : List ℕ) (at : ℕ) → lineAt t at ≡ slice at (lineFrom t at .to) t
-unfolding lineAt lineFrom
+unfolding lineFrom
 line-is t at = rw slice-add (first-take (drop at t))
 
 pub line-none : (t : List ℕ) (at : ℕ) → length t ≤ at → lineAt t at ≡ []
-unfolding lineAt
 line-none t at h = rw (lines-end t at h)
 
 to-le : (t : List ℕ) (at : ℕ) → at < length t → lineFrom t at .to ≤ length t
@@ -96,7 +106,7 @@ line-slice t at h =
 
 module _ (t : List ℕ) (at : ℕ) {l : LineEnd} (e : l ≡ lineFrom t at) where
   pub front-none : length t ≤ at → record { from = at; to = at; next = l .next; opens = false; closes = false } ≡ frontOf t at
-  unfolding frontOf opensAt trimRange run trim trimStart trimEnd
+  unfolding frontOf opensAt trimRange run trim trimStart trimEnd endsInClose
   front-none h = rw (e, line-none t at h, add-zero at)
 
   module _ (h : at < length t) where
@@ -120,7 +130,7 @@ module _ (t : List ℕ) (at : ℕ) {l : LineEnd} (e : l ≡ lineFrom t at) where
           → c ≡ endsInClose (take (at + r .to - (at + r .from)) (drop (at + r .from) t))
           → record { from = at + r .from; to = at + r .to; next = l .next; opens = o; closes = c } ≡ frontOf t at
       unfolding frontOf opensAt
-      front-is x y = rw (x, y, trimmed-is, is-range, e)
+      front-is x y = rw (x, y, trimmed-is, is-range, e, opens-trim)
 
 -- ---- what is known of a line whose front the code has as f
 
@@ -129,8 +139,7 @@ module _ (t : List ℕ) (at : ℕ) {f : Front} (p : f ≡ frontOf t at) {b : Boo
   unfolding frontOf
   opens-by e = rw p at e
 
-  pub closes-by : f .closes ≡ b → endsInClose (trim (lineAt t at)) ≡ b
-  unfolding frontOf
+  pub closes-by : f .closes ≡ b → frontOf t at .closes ≡ b
   closes-by e = rw p at e
 
 -- its range has the trimmed line, where it opens with a brace
@@ -148,7 +157,7 @@ module _ (t : List ℕ) (at : ℕ) where
   no-indent h = rw (line-none t at h)
 
   pub indent-is : at < length t → isIndent (getD t at 0) ≡ beginsIndented (lineAt t at)
-  unfolding lineAt isIndent isIn
+  unfolding isIndent isIn
   indent-is h = rw (drop-cons t at 0 h, first-cons) (go (eqb b 10) refl (isDropped b s) refl)
     where
       b : ℕ

@@ -1,20 +1,17 @@
 -- The line that begins at a place, trimmed.
 use Prim.Native.Nat.{ℕ, _+_}
-use mathlib.Core.Bool.{Bool, false}
-use mathlib.Core.List.{List, [], _∷_}
-use lib.ListN.{drop}
+use mathlib.Core.Bool.{Bool}
+use mathlib.Core.List.{List}
 use Rattle.ascii.specs.Bytes.{isIndent}
-use Rattle.lines.specs.Lines.{lines, firstOf, lineFrom}
+use Rattle.lines.specs.Lines.{lineFrom, lineAt}
 use Rattle.lines.specs.Trim.{trim, trimRange}
-use Rattle.payloads.specs.Payloads.{beginsOpen, endsInClose}
+use Rattle.payloads.specs.Payloads.{endsInClose, opens}
 use Rattle.fronts.specs.declared.Front.{Front}
+use Rattle.lists.specs.Lists.{firstIs}
 
-unfoldable pub lineAt : List ℕ → ℕ → List ℕ
-lineAt t at = firstOf (lines (drop at t))
-
--- "trimmed line doesn't start with `{`"
+-- it starts with `{`; else 3: "trimmed line doesn't start with `{`"
 unfoldable pub opensAt : List ℕ → ℕ → Bool
-opensAt t at = beginsOpen (trim (lineAt t at))
+opensAt t at = opens (lineAt t at)
 
 -- its range, where the next line begins, and the braces at its ends: "if the first line's trimmed end isn't `}`"
 unfoldable pub frontOf : List ℕ → ℕ → Front
@@ -29,5 +26,4 @@ frontOf t at =
 
 -- "for `standalone_attrs_block_len`, first line starts with space or tab"
 abbrev pub beginsIndented : List ℕ → Bool
-beginsIndented [] = false
-beginsIndented (b ∷ s) = isIndent b
+beginsIndented s = firstIs isIndent s

@@ -1,7 +1,8 @@
 // The line that begins at a place, trimmed.
 ghost use mathlib.Core.Path.{_≡_};
+ghost use Rattle.lines.specs.Lines.{lineAt};
 ghost use Rattle.payloads.specs.Payloads.{beginsOpen, endsInClose};
-ghost use Rattle.fronts.specs.Fronts.{lineAt, frontOf, beginsIndented};
+ghost use Rattle.fronts.specs.Fronts.{frontOf, beginsIndented};
 
 // A line without the whitespace at its ends, where the next one begins, and which braces stand at its ends.
 pub struct Front {

@@ -16,7 +16,8 @@ use Rattle.ascii.specs.declared.Mode.the-variants.{Strict, Loose}
 use Rattle.ascii.specs.Bytes.{isBlank, within, isLetter, isDigit, isAlnum, isNameStart, isNamePart, isKeyStart, isQuote, isPlain}
 use Rattle.names.specs.Names.{isName, isKey}
 use Rattle.grammar.specs.Grammar.{Item, Placed, Token, Payload, isValue}
-use Rattle.grammar.specs.Quick.{Walk, edge, quickFrom, quickRefuses}
+use Rattle.grammar.specs.Quick.{edge, quickFrom, quickRefuses}
+use Rattle.grammar.specs.declared.Walk.{Walk}
 use Rattle.grammar.proofs.Bytes.{blank-not, bare-key}
 use Rattle.grammar.proofs.Chain.{Chain, payload-chain}
 

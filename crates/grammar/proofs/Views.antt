@@ -2,18 +2,18 @@
 -- Assumes nothing.
 use mathlib.Core.Path.{_≡_, refl, sym, _∙_}
 use mathlib.Core.Bool.{Bool, true, false, not, _&&_, cond}
-use mathlib.Core.List.{List, [], _∷_, _++_, append-nil, map}
+use mathlib.Core.List.{List, [], _∷_, _++_, append-nil, map, foldl-append}
 use Prim.Native.Nat.{ℕ}
 use borrow.Author.Tests.{not-true}
-use Rattle.lists.specs.Lists.{same}
+use Rattle.lists.specs.Lists.{all, same}
 use Rattle.lists.proofs.Scan.{both}
 use Rattle.lists.proofs.Same.{same-refl, same-true}
 use Rattle.lists.proofs.More.{contra, same-sym}
-use Rattle.grammar.specs.Meaning.{Entry, isClass, over, putAt, put, puts, lookup, slotNames, absent, distinct}
+use Rattle.grammar.specs.Meaning.{Entry, isClass, over, put, puts, lookup, slotNames, absent, distinct}
 
 -- ======== by names
 lookup-absent : (n : List ℕ) (m : List Entry) → absent n m ≡ true → lookup n m ≡ []
-unfolding absent lookup
+unfolding absent all lookup
 lookup-absent n [] h = refl
 lookup-absent n (e ∷ m) h =
     let g = both (not (same (e .name) n)) (absent n m) h in
@@ -58,7 +58,7 @@ put-same [] new = rw (same-refl (new .name)) (go (isClass (new .name)))
     go false = refl
 put-same (e ∷ m) new = go (same (e .name) (new .name)) refl (put-same m new)
   where
-    go : (x : Bool) → same (e .name) (new .name) ≡ x → lookup (new .name) (put m new) ≡ cond (isClass (new .name)) (lookup (new .name) m ++ new .values) (new .values) → lookup (new .name) (putAt x e m new (put m new)) ≡ cond (isClass (new .name)) (cond x (e .values) (lookup (new .name) m) ++ new .values) (new .values)
+    go : (x : Bool) → same (e .name) (new .name) ≡ x → lookup (new .name) (put m new) ≡ cond (isClass (new .name)) (lookup (new .name) m ++ new .values) (new .values) → lookup (new .name) (cond x (over e (new .values) ∷ m) (e ∷ put m new)) ≡ cond (isClass (new .name)) (cond x (e .values) (lookup (new .name) m) ++ new .values) (new .values)
     go true p ih = rw (p, same-true (e .name) (new .name) p)
     go false p ih = rw p ih
 
@@ -67,17 +67,17 @@ unfolding put lookup
 put-other [] new n h = rw h
 put-other (e ∷ m) new n h = go (same (e .name) (new .name)) refl (put-other m new n h)
   where
-    go : (x : Bool) → same (e .name) (new .name) ≡ x → lookup n (put m new) ≡ lookup n m → lookup n (putAt x e m new (put m new)) ≡ cond (same (e .name) n) (e .values) (lookup n m)
+    go : (x : Bool) → same (e .name) (new .name) ≡ x → lookup n (put m new) ≡ lookup n m → lookup n (cond x (over e (new .values) ∷ m) (e ∷ put m new)) ≡ cond (same (e .name) n) (e .values) (lookup n m)
     go true p ih = rw (same-true (e .name) (new .name) p, h)
     go false p ih = rw ih
 
 -- "Slots: Id, Class and each key stand once, where first met.": a new one goes behind
 pub put-slots : (m : List Entry) (new : Entry) → slotNames (put m new) ≡ slotNames m ++ cond (absent (new .name) m) (new .name ∷ []) []
-unfolding put slotNames absent
+unfolding put slotNames absent all
 put-slots [] new = refl
 put-slots (e ∷ m) new = go (same (e .name) (new .name)) (put-slots m new)
   where
-    go : (x : Bool) → slotNames (put m new) ≡ slotNames m ++ cond (absent (new .name) m) (new .name ∷ []) [] → slotNames (putAt x e m new (put m new)) ≡ e .name ∷ (slotNames m ++ cond (not x && absent (new .name) m) (new .name ∷ []) [])
+    go : (x : Bool) → slotNames (put m new) ≡ slotNames m ++ cond (absent (new .name) m) (new .name ∷ []) [] → slotNames (cond x (over e (new .values) ∷ m) (e ∷ put m new)) ≡ e .name ∷ (slotNames m ++ cond (not x && absent (new .name) m) (new .name ∷ []) [])
     go true ih = rw append-nil
     go false ih = rw ih
 
@@ -85,7 +85,7 @@ put-slots (e ∷ m) new = go (same (e .name) (new .name)) (put-slots m new)
 
 -- a new name goes behind
 pub put-new : (m : List Entry) (new : Entry) → absent (new .name) m ≡ true → put m new ≡ m ++ (new ∷ [])
-unfolding put absent
+unfolding put absent all
 put-new [] new h = refl
 put-new (e ∷ m) new h =
     let g = both (not (same (e .name) (new .name))) (absent (new .name) m) h in
@@ -96,57 +96,56 @@ abbrev pub replaced : Entry → Entry → Entry
 replaced new e = cond (same (e .name) (new .name)) (over e (new .values)) e
 
 map-absent : (new : Entry) (m : List Entry) → absent (new .name) m ≡ true → map (replaced new) m ≡ m
-unfolding absent
+unfolding absent all
 map-absent new [] h = refl
 map-absent new (e ∷ m) h =
     let g = both (not (same (e .name) (new .name))) (absent (new .name) m) h in
     rw (not-true (same (e .name) (new .name)) (g .0), map-absent new m (g .1))
 
 pub put-there : (m : List Entry) (new : Entry) → distinct m ≡ true → absent (new .name) m ≡ false → put m new ≡ map (replaced new) m
-unfolding distinct absent put
+unfolding distinct absent all put
 put-there [] new h k = contra true refl k
 put-there (e ∷ m) new h k =
     let a = both (absent (e .name) m) (distinct m) h in
     go (same (e .name) (new .name)) refl k (a .0) (put-there m new (a .1))
   where
-    go : (x : Bool) → same (e .name) (new .name) ≡ x → (not x && absent (new .name) m) ≡ false → absent (e .name) m ≡ true → (absent (new .name) m ≡ false → put m new ≡ map (replaced new) m) → putAt x e m new (put m new) ≡ cond x (over e (new .values)) e ∷ map (replaced new) m
+    go : (x : Bool) → same (e .name) (new .name) ≡ x → (not x && absent (new .name) m) ≡ false → absent (e .name) m ≡ true → (absent (new .name) m ≡ false → put m new ≡ map (replaced new) m) → cond x (over e (new .values) ∷ m) (e ∷ put m new) ≡ cond x (over e (new .values)) e ∷ map (replaced new) m
     go true p k a ih = rw (map-absent new m (rw (same-true (e .name) (new .name) p) at a))
     go false p k a ih = rw (ih k)
 
 -- ======== slots stay apart
 pub absent-put : (n : List ℕ) (m : List Entry) (e : Entry) → absent n m ≡ true → same (e .name) n ≡ false → absent n (put m e) ≡ true
-unfolding absent put
+unfolding absent all put
 absent-put n [] e h k = rw k
 absent-put n (f ∷ m) e h k =
     let g = both (not (same (f .name) n)) (absent n m) h in
     go (same (f .name) (e .name)) (g .0) (g .1) (absent-put n m e (g .1) k)
   where
-    go : (x : Bool) → not (same (f .name) n) ≡ true → absent n m ≡ true → absent n (put m e) ≡ true → absent n (putAt x f m e (put m e)) ≡ true
+    go : (x : Bool) → not (same (f .name) n) ≡ true → absent n m ≡ true → absent n (put m e) ≡ true → absent n (cond x (over f (e .values) ∷ m) (f ∷ put m e)) ≡ true
     go true a b i = rw a b
     go false a b i = rw a i
 
 pub put-distinct : (m : List Entry) (e : Entry) → distinct m ≡ true → distinct (put m e) ≡ true
-unfolding distinct put absent
+unfolding distinct put absent all
 put-distinct [] e h = refl
 put-distinct (f ∷ m) e h =
     let a = both (absent (f .name) m) (distinct m) h in
     go (same (f .name) (e .name)) refl (a .0) (a .1) (put-distinct m e (a .1))
   where
-    go : (x : Bool) → same (f .name) (e .name) ≡ x → absent (f .name) m ≡ true → distinct m ≡ true → distinct (put m e) ≡ true → distinct (putAt x f m e (put m e)) ≡ true
+    go : (x : Bool) → same (f .name) (e .name) ≡ x → absent (f .name) m ≡ true → distinct m ≡ true → distinct (put m e) ≡ true → distinct (cond x (over f (e .values) ∷ m) (f ∷ put m e)) ≡ true
     go true p q w i = rw q w
     go false p q w i = rw (absent-put (f .name) m e q (same-sym (e .name) (f .name) ∙ p)) i
 
 -- ======== sets put together
 pub puts-append : (m es fs : List Entry) → puts m (es ++ fs) ≡ puts (puts m es) fs
 unfolding puts
-puts-append m [] fs = refl
-puts-append m (e ∷ es) fs = puts-append (put m e) es fs
+puts-append = foldl-append put
 
 pub put-some : (m : List Entry) (e : Entry) → put m e ≡ [] → ⊥
 unfolding put
 put-some [] e q = contra true refl (cc)
 put-some (f ∷ m) e q = go (same (f .name) (e .name)) q
   where
-    go : (x : Bool) → putAt x f m e (put m e) ≡ [] → ⊥
+    go : (x : Bool) → cond x (over f (e .values) ∷ m) (f ∷ put m e) ≡ [] → ⊥
     go true q = contra true refl (cc)
     go false q = contra true refl (cc)

@@ -1,10 +1,10 @@
 -- What a set means: its slots in order, each with its name and its values. A key has one value, the id too; Class has one for each class.
 -- "which of the three it was doesn't count, and keys and slots go by name, not by row."
-use mathlib.Core.Bool.{Bool, true, false, cond, not, _&&_}
-use mathlib.Core.List.{List, [], _∷_, _++_}
+use mathlib.Core.Bool.{Bool, true, cond, not, _&&_}
+use mathlib.Core.List.{List, [], _∷_, _++_, map, foldl}
 use Prim.Native.Nat.{ℕ, suc}
 use lib.Dec.{ltb}
-use Rattle.lists.specs.Lists.{same}
+use Rattle.lists.specs.Lists.{all, same}
 use Rattle.ascii.specs.Bytes.{isSpace}
 use Rattle.escapes.specs.Unescape.{unescape}
 use Rattle.grammar.specs.Grammar.{Item, Placed}
@@ -65,23 +65,17 @@ said (Item.bare n) = record { name = n; values = valuesOf n [] }
 abbrev pub over : Entry → List (List ℕ) → Entry
 over e vs = record { name = e .name; values = cond (isClass (e .name)) (e .values ++ vs) vs }
 
-abbrev pub putAt : Bool → Entry → List Entry → Entry → List Entry → List Entry
-putAt true e m new rest = over e (new .values) ∷ m
-putAt false e m new rest = e ∷ rest
-
 -- "Slots: Id, Class and each key stand once, where first met."
 unfoldable pub put : List Entry → Entry → List Entry
 put [] new = new ∷ []
-put (e ∷ m) new = putAt (same (e .name) (new .name)) e m new (put m new)
+put (e ∷ m) new = cond (same (e .name) (new .name)) (over e (new .values) ∷ m) (e ∷ put m new)
 
 -- "Merging: a later id wins, classes are joined, later key values win, new slots go behind."
 unfoldable pub puts : List Entry → List Entry → List Entry
-puts m [] = m
-puts m (e ∷ es) = puts (put m e) es
+puts m es = foldl put m es
 
 unfoldable pub entriesOf : List Placed → List Entry
-entriesOf [] = []
-entriesOf (p ∷ is) = said (p .item) ∷ entriesOf is
+entriesOf is = map (λ p. said (p .item)) is
 
 unfoldable pub meaning : List Placed → List Entry
 meaning is = puts [] (entriesOf is)
@@ -95,13 +89,11 @@ lookup n (e ∷ m) = cond (same (e .name) n) (e .values) (lookup n m)
 
 -- the slots by name
 unfoldable pub slotNames : List Entry → List (List ℕ)
-slotNames [] = []
-slotNames (e ∷ m) = e .name ∷ slotNames m
+slotNames m = map (λ e. e .name) m
 
 -- no slot has the name
 unfoldable pub absent : List ℕ → List Entry → Bool
-absent n [] = true
-absent n (e ∷ m) = not (same (e .name) n) && absent n m
+absent n m = all (λ e. not (same (e .name) n)) m
 
 -- "once each"
 unfoldable pub distinct : List Entry → Bool

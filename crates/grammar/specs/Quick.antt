@@ -6,10 +6,7 @@ use lib.Dec.{eqb, leb}
 use lib.ListN.{drop}
 use Rattle.lists.specs.Lists.{isIn}
 use Rattle.ascii.specs.Bytes.{isNameStart, isNamePart, isKeyStart}
-
--- where it stands: between tokens, behind `#` or `.`, in the name behind that, in a bare name or key, behind `=`
-pub data Walk : Type 0 where
-  Edge Sigil Ident Word Value : Walk
+use Rattle.grammar.specs.declared.Walk.{Walk}
 
 -- between tokens: what is not ASCII, a close, an LF, a quote, a backslash and `:` are left to the full reader
 abbrev pub edge : ℕ → (Walk → Bool) → Bool

@@ -1,4 +1,4 @@
-// The payload grammar: definitions and theorems. Its code is the types that a search for the close is made of.
+// The payload grammar: definitions and theorems. Its code is the types that a search for the close and the quick test are made of.
 
 // The quote that the search stands in, by its byte.
 pub enum Quote {
@@ -23,4 +23,13 @@ pub enum Step {
 pub enum Place {
     Nothing,
     At(usize),
+}
+
+// Where the quick test stands: between tokens, behind `#` or `.`, in the name behind that, in a key or bare name, behind `=`.
+pub enum Walk {
+    Edge,
+    Sigil,
+    Ident,
+    Word,
+    Value,
 }

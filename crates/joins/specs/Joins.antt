@@ -15,6 +15,8 @@ use Rattle.grammar.specs.declared.Quote.{Quote}
 use Rattle.grammar.specs.declared.Quote.the-variants.{Out}
 use Rattle.grammar.specs.declared.Place.{Place}
 use Rattle.grammar.specs.declared.Place.the-variants.{Nothing, At}
+use Rattle.refusals.specs.Numbers.{numberOf}
+use Rattle.refusals.specs.declared.Refusal.the-variants.{NoReading, JoinFull}
 use Rattle.joins.specs.declared.State.{State}
 use Rattle.joins.specs.declared.Step.{Step}
 use Rattle.joins.specs.declared.Step.the-variants.{Broken, Full, Go, Closes}
@@ -22,7 +24,7 @@ use Rattle.joins.specs.declared.Step.the-variants.{Broken, Full, Go, Clo
 -- ---- a line's own tests
 
 -- "Each later line must be indented beyond the last open brace's column, pass `valid_wrapped_attr_continuation`, and follow no open quote."
--- (They compare as what a `usize` holds of them. The indentation of a line below 2^62 bytes is held whole, and then the true numbers compare so.)
+-- (They compare as what a `usize` holds of them. Where that holds the pad and four columns for each byte, the true numbers compare so.)
 abbrev pub goesOn : ℕ → Quote → ℕ → List ℕ → Bool
 goesOn brace quote pad l = ltb (capped brace) (capped (indentFrom pad l)) && (not (isQuoted quote) && continues (trim l))
 
@@ -83,3 +85,10 @@ laid (Closes st) buf written = written
 -- the join buffer after a line
 unfoldable pub joinAfter : State → ℕ → List ℕ → List ℕ → List ℕ
 joinAfter st pad l buf = laid (stepOf (length buf) st pad l) buf (sets buf (st .len) (added (eqb (st .len) 0) l))
+
+-- the number of an answer: 5 where the line refuses the run, 9 where it has no room, else 0
+abbrev pub stepNo : Step → ℕ
+stepNo Broken = numberOf NoReading
+stepNo Full = numberOf JoinFull
+stepNo (Go st) = 0
+stepNo (Closes st) = 0

@@ -14,17 +14,15 @@ use Rattle.refusals.specs.declared.Refusal.{Refusal}
 use Rattle.refusals.specs.declared.Refusal.the-variants.{TextTooLong, NotUtf8, NothingThere, NoReading}
 use Rattle.checks.specs.Check.{checkOf}
 use Rattle.checks.specs.declared.Check.the-variants as check
-use Rattle.lines.specs.Lines.{lines, lineOf}
-use Rattle.lines.specs.Trim.{trim}
+use Rattle.lines.specs.Lines.{lines, lineOf, lineAt}
 use Rattle.lines.specs.declared.Line as places
 use Rattle.lines.specs.declared.Line.the-variants as place
-use Rattle.payloads.specs.Payloads.{endsInClose}
 use Rattle.chain.specs.Chain.{goodLine}
 use Rattle.runs.specs.Runs as runs
 use Rattle.runs.specs.declared.Stop as stops
 use Rattle.runs.specs.declared.Stop.the-variants as stop
 use Rattle.runs.proofs.Bounds.{run-by, lookahead-le, text-short, never-full}
-use Rattle.fronts.specs.Fronts.{lineAt, frontOf, opensAt, beginsIndented}
+use Rattle.fronts.specs.Fronts.{frontOf, opensAt, beginsIndented}
 use Rattle.starts.specs.Starts.{begun, startAt, onStart}
 use Rattle.blocks.specs.Blocks.{Found, nothing, closedRun, ended, runFound, found, wrapped, joinedIn, lookaheadOf, linesOf}
 use Rattle.blocks.specs.ByLine.{blockFound, wrappedFound}
@@ -73,7 +71,7 @@ module _ (t : List ℕ) (cap : ℕ) where
 
   pub fair-found : (at base : ℕ) → Fair t cap (found t at base cap)
   unfolding found isIn numberOf
-  fair-found at base = go (opensAt t at) (goodLine t (frontOf t at .from) (frontOf t at .to)) (endsInClose (trim (lineAt t at)))
+  fair-found at base = go (opensAt t at) (goodLine t (frontOf t at .from) (frontOf t at .to)) (frontOf t at .closes)
     where
       go : (o g e : Bool) → Fair t cap (cond o (cond g Found.line (cond e (nothing NoReading) (runFound t at base cap))) (nothing NothingThere))
       go true true e = record { number = refl; lookahead = zero-le; joined = zero-le; room = λ h. refl }

@@ -5,16 +5,16 @@ use mathlib.Core.Bool.{true, false}
 use mathlib.Core.List.{List}
 use Prim.Native.Nat.{ℕ}
 use lib.ListN.{length, take}
+use Rattle.lines.specs.Lines.{lineAt}
+use Rattle.lists.specs.Lists.{over}
 use Rattle.refusals.specs.declared.Refusal.{Refusal}
 use Rattle.refusals.specs.declared.Refusal.the-variants.{NothingThere, NoReading}
-use Rattle.lines.specs.Trim.{trim}
-use Rattle.payloads.specs.Payloads.{endsInClose}
 use Rattle.chain.specs.Chain.{goodLine}
-use Rattle.runs.specs.Runs.{runAt, joinedOf, over, pastLines}
+use Rattle.runs.specs.Runs.{runAt, joinedOf, pastLines}
 use Rattle.runs.specs.declared.Joined.{Joined}
 use Rattle.runs.specs.declared.Stop.the-variants as stop
 use Rattle.fronts.specs.declared.Front.{Front}
-use Rattle.fronts.specs.Fronts.{lineAt, frontOf, beginsIndented}
+use Rattle.fronts.specs.Fronts.{frontOf, beginsIndented}
 use Rattle.starts.specs.declared.Start.the-variants as start
 use Rattle.starts.specs.Starts.{startAt, placeOf}
 use Rattle.blocks.specs.Blocks.{Found, nothing, runFound, found, joinHolds}
@@ -66,7 +66,7 @@ module _ (t : List ℕ) (at base : ℕ) (buf : List ℕ) {j : Joined} {b : List 
     bad-measured g = rw (closed-is t at base buf e o s false g, e)
 
 -- a run that is found has more than one line
-pub run-stays : (t : List ℕ) (at base cap : ℕ) → endsInClose (trim (lineAt t at)) ≡ false → unlessLine (runFound t at base cap) ≡ runFound t at base cap
+pub run-stays : (t : List ℕ) (at base cap : ℕ) → frontOf t at .closes ≡ false → unlessLine (runFound t at base cap) ≡ runFound t at base cap
 run-stays t at base cap c = rw (run-more t at base cap c)
 
 -- ---- by line number

@@ -5,9 +5,10 @@ use mathlib.Core.Bool.{Bool, true, false, cond}
 use mathlib.Core.List.{List}
 use Prim.Native.Nat.{ℕ}
 use lib.Dec.{eqb}
+use Rattle.lines.specs.Lines.{lineAt}
 use Rattle.refusals.specs.Numbers.{numberOf}
 use Rattle.refusals.specs.declared.Refusal.the-variants.{NothingThere, NoReading}
-use Rattle.fronts.specs.Fronts.{lineAt, beginsIndented}
+use Rattle.fronts.specs.Fronts.{beginsIndented}
 use Rattle.starts.specs.Starts.{onStart, placeOf}
 use Rattle.starts.proofs.Numbers.{entryNo, by-start}
 use Rattle.blocks.specs.Blocks.{nothing, found, linesOf}

@@ -4,10 +4,11 @@ use mathlib.Core.Bool.{cond}
 use mathlib.Core.List.{List}
 use lib.Dec.{eqb}
 use lib.ListN.{length}
+use Rattle.lines.specs.Lines.{lineAt}
 use Rattle.refusals.specs.Numbers.{numberOf}
 use Rattle.refusals.specs.declared.Refusal.the-variants.{NothingThere, NoReading}
 use Rattle.runs.specs.Runs.{pastLines}
-use Rattle.fronts.specs.Fronts.{lineAt, beginsIndented}
+use Rattle.fronts.specs.Fronts.{beginsIndented}
 use Rattle.starts.specs.Starts.{startAt, onStart}
 use Rattle.blocks.specs.Blocks.{Found, nothing, found, joinedIn, lookaheadOf, linesOf}
 use Rattle.blocks.specs.ByLine.{blockFound}

@@ -7,7 +7,7 @@ use Prim.Native.Nat.{ℕ, suc, _-_, _<_, _≤_, zero-le, min}
 use native.Mathlib.Omega.{arith}
 use lib.Dec.{eqb}
 use lib.ListN.{length, getD, take, drop}
-use Rattle.lines.specs.Lines.{beforeLf, onto, onLine, isDropped, lines, eol, firstOf}
+use Rattle.lines.specs.Lines.{beforeLf, onto, isDropped, lines, eol, firstOf}
 use Rattle.lists.proofs.Parts.{drop-min}
 
 onto-first : (b : ℕ) (ls : List (List ℕ)) → firstOf (onto b ls) ≡ b ∷ firstOf ls
@@ -33,7 +33,7 @@ pub first-cons : (b : ℕ) (s : List ℕ) → firstOf (lines (b ∷ s)) ≡ cond
 unfolding lines
 first-cons b s = go (eqb b 10) (isDropped b s) refl
   where
-    go : (x y : Bool) → isDropped b s ≡ y → firstOf (onLine x y b (lines s)) ≡ cond x [] (cond y [] (b ∷ firstOf (lines s)))
+    go : (x y : Bool) → isDropped b s ≡ y → firstOf (cond x ([] ∷ lines s) (cond y (lines s) (onto b (lines s)))) ≡ cond x [] (cond y [] (b ∷ firstOf (lines s)))
     go true y e = refl
     go false true e = dropped b s e
     go false false e = onto-first b (lines s)
@@ -60,14 +60,14 @@ first-rest : (b : ℕ) (s : List ℕ) → lines (b ∷ s) ≡ firstOf (lines (b 
 unfolding lines eol
 first-rest b [] = go (eqb b 10) (eqb b 13)
   where
-    go : (x y : Bool) → onLine x (y && false) b [] ≡ firstOf (onLine x (y && false) b []) ∷ lines (drop (cond x 0 1) [])
+    go : (x y : Bool) → cond x ([] ∷ []) (cond (y && false) [] (onto b [])) ≡ firstOf (cond x ([] ∷ []) (cond (y && false) [] (onto b []))) ∷ lines (drop (cond x 0 1) [])
     go true y = refl
     go false true = refl
     go false false = refl
 first-rest b (a ∷ s) = go (eqb b 10) (isDropped b (a ∷ s)) (first-rest a s)
   where
     go : (x y : Bool) → lines (a ∷ s) ≡ firstOf (lines (a ∷ s)) ∷ lines (drop (eol (a ∷ s)) s)
-        → onLine x y b (lines (a ∷ s)) ≡ firstOf (onLine x y b (lines (a ∷ s))) ∷ lines (drop (cond x 0 (suc (eol (a ∷ s)))) (a ∷ s))
+        → cond x ([] ∷ lines (a ∷ s)) (cond y (lines (a ∷ s)) (onto b (lines (a ∷ s)))) ≡ firstOf (cond x ([] ∷ lines (a ∷ s)) (cond y (lines (a ∷ s)) (onto b (lines (a ∷ s))))) ∷ lines (drop (cond x 0 (suc (eol (a ∷ s)))) (a ∷ s))
     go true y ih = refl
     go false true ih = ih
     go false false ih = ap (onto b) ih ∙ ap (λ (l : List ℕ). l ∷ lines (drop (eol (a ∷ s)) s)) (sym (onto-first b (lines (a ∷ s))))

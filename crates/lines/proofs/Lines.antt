@@ -17,7 +17,7 @@ use Rattle.lines.specs.declared.Range.{Range}
 use Rattle.lines.specs.declared.Line.{Line}
 use Rattle.lines.specs.declared.Line.the-variants.{Missing, At}
 use Rattle.lines.specs.declared.LineEnd.{LineEnd}
-use Rattle.lines.specs.Lines.{onLine, isDropped, lines, eol, firstOf, lineFrom, rangesFrom, ranges, bytesOf, pick, lineOf, lineNo}
+use Rattle.lines.specs.Lines.{onto, isDropped, lines, eol, firstOf, lineFrom, rangesFrom, ranges, bytesOf, pick, lineOf, lineNo}
 use Rattle.refusals.specs.Numbers.{numberOf}
 use Rattle.lists.proofs.Parts.{slice-add, drop-min}
 use Rattle.lines.proofs.First.{first-cons, first-on, first-stop, rest-of, eol-le, first-le, first-take, first-whole, first-cut}
@@ -305,7 +305,7 @@ unfolding lines all
 no-lf [] n = refl
 no-lf (b ∷ s) n = go (eqb b 10) refl (isDropped b s) (lines s) (no-lf s) n
   where
-    go : (x : Bool) → eqb b 10 ≡ x → (y : Bool) (ls : List (List ℕ)) → ((k : ℕ) → NoLf ls k) → (n : ℕ) → NoLf (onLine x y b ls) n
+    go : (x : Bool) → eqb b 10 ≡ x → (y : Bool) (ls : List (List ℕ)) → ((k : ℕ) → NoLf ls k) → (n : ℕ) → NoLf (cond x ([] ∷ ls) (cond y ls (onto b ls))) n
     go true e y ls ih zero = refl
     go true e y ls ih (suc n) = ih n
     go false e true ls ih n = ih n

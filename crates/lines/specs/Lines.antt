@@ -1,6 +1,6 @@
 -- "Lines end at LF; a CR just before that LF is dropped. Text after the last LF is a line if it isn't empty. A line number counts from 1."
 use Prim.Native.Nat.{ℕ, zero, suc, _+_, _-_, min}
-use mathlib.Core.Bool.{Bool, true, false, cond, _&&_}
+use mathlib.Core.Bool.{Bool, false, cond, _&&_}
 use mathlib.Core.List.{List, [], _∷_}
 use lib.Dec.{eqb, ltb}
 use lib.ListN.{length, drop}
@@ -24,21 +24,14 @@ abbrev pub onto : ℕ → List (List ℕ) → List (List ℕ)
 onto b [] = (b ∷ []) ∷ []
 onto b (l ∷ ls) = (b ∷ l) ∷ ls
 
-abbrev pub onLine : Bool → Bool → ℕ → List (List ℕ) → List (List ℕ)
--- an LF: a line ends here, to which the bytes before are yet to come
-onLine true cr b rest = [] ∷ rest
--- a CR just before an LF is dropped
-onLine false true b rest = rest
-onLine false false b rest = onto b rest
-
 -- is this byte a CR, with an LF behind it
 abbrev pub isDropped : ℕ → List ℕ → Bool
 isDropped b s = eqb b 13 && beforeLf s
 
--- "Lines end at LF"
+-- "Lines end at LF; a CR just before that LF is dropped.": at an LF a line ends, to which the bytes before are yet to come
 unfoldable pub lines : List ℕ → List (List ℕ)
 lines [] = []
-lines (b ∷ s) = onLine (eqb b 10) (isDropped b s) b (lines s)
+lines (b ∷ s) = cond (eqb b 10) ([] ∷ lines s) (cond (isDropped b s) (lines s) (onto b (lines s)))
 
 -- ---- the same by places
 
@@ -51,10 +44,14 @@ abbrev pub firstOf : List (List ℕ) → List ℕ
 firstOf [] = []
 firstOf (l ∷ ls) = l
 
+-- the bytes of the line that begins at `at`, none where the text has no byte there
+abbrev pub lineAt : List ℕ → ℕ → List ℕ
+lineAt t at = firstOf (lines (drop at t))
+
 -- The line that begins at `at`: it is as long as the first line of the text from there on, and the next begins behind its LF, or at the
 -- text's end. Both are `at` where the text has no byte there.
 unfoldable pub lineFrom : List ℕ → ℕ → LineEnd
-lineFrom t at = record { to = at + length (firstOf (lines (drop at t))); next = at + min (suc (eol (drop at t))) (length (drop at t)) }
+lineFrom t at = record { to = at + length (lineAt t at); next = at + min (suc (eol (drop at t))) (length (drop at t)) }
 
 -- The lines from the one that begins at `from` on, where the text goes on with the list at place `at`; cr: a CR of the line stands just
 -- before that place, which at a line's start there is not. A line's bytes lie from its start up to its LF, or its CR LF, or the text's end.
@@ -73,13 +70,10 @@ abbrev pub bytesOf : List ℕ → Range → List ℕ
 bytesOf t r = slice (r .from) (r .to) t
 
 -- "A line number counts from 1.": line 0 and a line past the last are missing
-abbrev pub pickOr : ℕ → Range → (ℕ → Line) → Line
-pickOr zero l rest = Missing
-pickOr (suc n) l rest = cond (eqb n 0) (At l) (rest n)
-
 unfoldable pub pick : ℕ → List Range → Line
 pick n [] = Missing
-pick n (l ∷ ls) = pickOr n l (λ k. pick k ls)
+pick zero (l ∷ ls) = Missing
+pick (suc n) (l ∷ ls) = cond (eqb n 0) (At l) (pick n ls)
 
 -- the line of a number
 unfoldable pub lineOf : ℕ → List ℕ → Line

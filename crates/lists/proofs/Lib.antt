@@ -5,4 +5,5 @@ pub mod Scan
 pub mod Same
 pub mod Parts
 pub mod More
+pub mod Flat
 pub mod Sets

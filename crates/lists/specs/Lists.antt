@@ -1,8 +1,9 @@
 -- Lists, most of them of bytes: the few words that the other definitions are written in.
 use Prim.Native.Nat.{ℕ, suc}
 use mathlib.Core.Bool.{Bool, true, false, cond, _&&_, _||_}
-use mathlib.Core.List.{List, [], _∷_}
+use mathlib.Core.List.{List, [], _∷_, _++_}
 use lib.Dec.{eqb}
+use lib.ListN.{length, drop}
 
 -- the test passes at each of the list
 unfoldable pub all : {A : Type 0} → (A → Bool) → List A → Bool
@@ -29,10 +30,23 @@ unfoldable pub isIn : List ℕ → ℕ → Bool
 isIn [] b = false
 isIn (a ∷ s) b = eqb b a || isIn s b
 
+-- the first byte is there and passes the test
+abbrev pub firstIs : (ℕ → Bool) → List ℕ → Bool
+firstIs f [] = false
+firstIs f (a ∷ s) = f a
+
 -- s begins with the byte b
 abbrev pub begins : List ℕ → ℕ → Bool
-begins [] b = false
-begins (a ∷ s) b = eqb a b
+begins s b = firstIs (λ a. eqb a b) s
+
+-- s begins with b and then c
+abbrev pub beginsPair : ℕ → ℕ → List ℕ → Bool
+beginsPair b c [] = false
+beginsPair b c (a ∷ s) = eqb a b && begins s c
+
+-- xs at the front of the bytes `buf`, the rest of them untouched
+abbrev pub over : List ℕ → List ℕ → List ℕ
+over xs buf = xs ++ drop (length xs) buf
 
 -- two byte strings are the same, byte for byte
 unfoldable pub same : List ℕ → List ℕ → Bool

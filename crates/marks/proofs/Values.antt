@@ -2,7 +2,7 @@
 -- Assumes nothing.
 use mathlib.Core.Path.{_≡_, refl, sym, _∙_}
 use mathlib.Core.Bool.{Bool, true, false, cond}
-use mathlib.Core.List.{List, [], _∷_, _++_}
+use mathlib.Core.List.{List, [], _∷_, _++_, flatMap}
 use Prim.Native.Nat.{ℕ, suc, _+_, _-_, _<_, _≤_, zero-le}
 use native.Mathlib.Nat.{add-zero}
 use native.Mathlib.Numerals.{add-one}
@@ -11,8 +11,8 @@ use borrow.Author.Tests.{leb-true, leb-false}
 use lib.Dec.{leb}
 use lib.ListN.{length, getD, drop, drop-of-length-le, length-append, length-take}
 use lib.Seq.{drop-cons}
+use Rattle.ascii.specs.Bytes.{isMarked}
 use Rattle.lists.proofs.Parts.{slice-part}
-use Rattle.lists.specs.Lists.{isIn}
 use Rattle.escapes.specs.declared.Piece.{Piece}
 use Rattle.escapes.specs.declared.Piece.the-variants.{End, Byte}
 use Rattle.escapes.specs.Unescape.{unescape}
@@ -27,28 +27,28 @@ use Rattle.marks.specs.Marks.{rawText, rawBytes, isQuotedText, isQuoted,
 
 -- ---- backslashes
 
-pub marked-yes : (b : ℕ) → isIn (34 ∷ 92 ∷ []) b ≡ true → marked b ≡ 92 ∷ (b ∷ [])
+pub marked-yes : (b : ℕ) → isMarked b ≡ true → marked b ≡ 92 ∷ (b ∷ [])
 unfolding marked
 marked-yes b h = rw h
 
-pub marked-no : (b : ℕ) → isIn (34 ∷ 92 ∷ []) b ≡ false → marked b ≡ b ∷ []
+pub marked-no : (b : ℕ) → isMarked b ≡ false → marked b ≡ b ∷ []
 unfolding marked
 marked-no b h = rw h
 
 marked-short : (b : ℕ) → length (marked b) ≤ 2
 unfolding marked
-marked-short b = go (isIn (34 ∷ 92 ∷ []) b)
+marked-short b = go (isMarked b)
   where
     go : (x : Bool) → length (cond x (92 ∷ (b ∷ [])) (b ∷ [])) ≤ 2
     go true = omega arith
     go false = omega arith
 
 escape-cons : (b : ℕ) (s : List ℕ) → escape (b ∷ s) ≡ marked b ++ escape s
-unfolding escape
+unfolding escape flatMap
 escape-cons b s = refl
 
 pub escape-short : (s : List ℕ) → length (escape s) ≤ length s + length s
-unfolding escape
+unfolding escape flatMap
 escape-short [] = zero-le
 escape-short (b ∷ s) = rw (escape-cons b s, length-append) (omega (arith, marked-short b, escape-short s))
 
@@ -86,7 +86,7 @@ module _ {s : List ℕ} {i : ℕ} {r : Piece} where
           record { ahead = omega arith; within = omega arith; rest = rw (drop-cons s i 0 l, v, n, add-one) (escape-cons (getD s i 0) (drop (suc i) s)); few = marked-short b }
 
   pub end-in : (q : Bool) → r ≡ pieceIn q s i → r ≡ End → Ends q s i
-  unfolding pieceIn escape
+  unfolding pieceIn escape flatMap
   end-in true e p = record { rest = rw (end-at e p .rest) }
   end-in false e p = go (leb (length s) i) refl (sym e ∙ p)
     where

@@ -3,18 +3,17 @@ use escapes::Piece;
 use sets::Text;
 use sets::Value;
 ghost use mathlib.Core.Path.{_≡_};
-ghost use mathlib.Core.List.{[], _∷_};
 ghost use Prim.Native.Nat.{_≤_};
 ghost use lib.ListN.{length};
-ghost use Rattle.lists.specs.Lists.{isIn};
 ghost use Rattle.refusals.specs.Numbers.{maxText};
 ghost use Rattle.canon.specs.Canon.{marked, escape};
 ghost use Rattle.sets.specs.Types.{one};
 ghost use Rattle.marks.specs.Marks.{bytesIn, pieceIn, rawBytes, isQuoted};
+ghost use Rattle.ascii.specs.Bytes.{isMarked};
 
 // Whether a byte takes a backslash.
 pub fn is_marked(b: u8) -> bool
-    ensures { λ r. ⌜ r ≡ isIn (34 ∷ 92 ∷ []) b ⌝ }
+    ensures { λ r. ⌜ r ≡ isMarked b ⌝ }
 {
     match b {
         b'"' | b'\\' => true,

@@ -5,11 +5,11 @@ use mathlib.Core.Bool.{Bool, true, false, cond, not, _&&_}
 use mathlib.Core.List.{List, [], _∷_, _++_, append-nil, append-assoc}
 use Prim.Native.Nat.{ℕ}
 use borrow.Author.Tests.{not-true}
-use Rattle.lists.specs.Lists.{same}
+use Rattle.lists.specs.Lists.{all, same}
 use Rattle.lists.proofs.Scan.{both}
 use Rattle.lists.proofs.Same.{same-true}
 use Rattle.lists.proofs.More.{same-sym}
-use Rattle.grammar.specs.Meaning.{Entry, isClass, putAt, put, puts, lookup, slotNames, absent, distinct, className}
+use Rattle.grammar.specs.Meaning.{Entry, isClass, over, put, puts, lookup, slotNames, absent, distinct, className}
 use Rattle.grammar.proofs.Views.{put-same, put-other, put-slots, put-new}
 
 -- ---- the values under a name
@@ -17,7 +17,7 @@ abbrev pub merged : List ℕ → List Entry → List Entry → List (List ℕ)
 merged n m es = cond (absent n es) (lookup n m) (cond (isClass n) (lookup n m ++ lookup n es) (lookup n es))
 
 pub puts-lookup : (n : List ℕ) (es m : List Entry) → distinct es ≡ true → lookup n (puts m es) ≡ merged n m es
-unfolding puts absent lookup distinct
+unfolding puts absent all lookup distinct
 puts-lookup n [] m d = refl
 puts-lookup n (e ∷ es) m d =
     let z = both (absent (e .name) es) (distinct es) d in
@@ -29,7 +29,7 @@ puts-lookup n (e ∷ es) m d =
     go false q a = rw (put-other m e n q)
 
 lookup-absent : (n : List ℕ) (m : List Entry) → absent n m ≡ true → lookup n m ≡ []
-unfolding absent lookup
+unfolding absent all lookup
 lookup-absent n [] h = refl
 lookup-absent n (e ∷ m) h =
     let z = both (not (same (e .name) n)) (absent n m) h in
@@ -49,16 +49,16 @@ newSlots m [] = []
 newSlots m (e ∷ es) = cond (absent (e .name) m) (e .name ∷ newSlots m es) (newSlots m es)
 
 absent-other : (n : List ℕ) (m : List Entry) (e : Entry) → same (e .name) n ≡ false → absent n (put m e) ≡ absent n m
-unfolding absent put
+unfolding absent all put
 absent-other n [] e h = rw h
 absent-other n (f ∷ m) e h = go (same (f .name) (e .name)) refl (absent-other n m e h)
   where
-    go : (x : Bool) → same (f .name) (e .name) ≡ x → absent n (put m e) ≡ absent n m → absent n (putAt x f m e (put m e)) ≡ (not (same (f .name) n) && absent n m)
+    go : (x : Bool) → same (f .name) (e .name) ≡ x → absent n (put m e) ≡ absent n m → absent n (cond x (over f (e .values) ∷ m) (f ∷ put m e)) ≡ (not (same (f .name) n) && absent n m)
     go true q ih = refl
     go false q ih = rw ih
 
 new-other : (m : List Entry) (e : Entry) (es : List Entry) → absent (e .name) es ≡ true → newSlots (put m e) es ≡ newSlots m es
-unfolding newSlots absent
+unfolding newSlots absent all
 new-other m e [] h = refl
 new-other m e (f ∷ es) h =
     let z = both (not (same (f .name) (e .name))) (absent (e .name) es) h in
@@ -77,7 +77,7 @@ puts-slots (e ∷ es) m d =
 
 -- ---- into a set with nothing in it
 absent-behind : (n : List ℕ) (m : List Entry) (e : Entry) → absent n m ≡ true → same (e .name) n ≡ false → absent n (m ++ (e ∷ [])) ≡ true
-unfolding absent
+unfolding absent all
 absent-behind n [] e h q = rw q
 absent-behind n (f ∷ m) e h q = let z = both (not (same (f .name) n)) (absent n m) h in rw (z .0) (absent-behind n m e (z .1) q)
 
@@ -87,7 +87,7 @@ allAbsent m [] = true
 allAbsent m (e ∷ es) = absent (e .name) m && allAbsent m es
 
 puts-behind : (es m : List Entry) → distinct es ≡ true → allAbsent m es ≡ true → puts m es ≡ m ++ es
-unfolding puts distinct absent allAbsent
+unfolding puts distinct absent all allAbsent
 puts-behind [] m d a = rw append-nil
 puts-behind (e ∷ es) m d a =
     let z = both (absent (e .name) es) (distinct es) d in
@@ -102,7 +102,7 @@ puts-behind (e ∷ es) m d a =
         rw (absent-behind (f .name) m e (y .0) (same-sym (e .name) (f .name) ∙ not-true (same (f .name) (e .name)) (z .0))) (more fs (z .1) (y .1))
 
 pub puts-none : (es : List Entry) → distinct es ≡ true → puts [] es ≡ es
-unfolding absent allAbsent
+unfolding absent all allAbsent
 puts-none es d = puts-behind es [] d (none es)
   where
     none : (fs : List Entry) → allAbsent [] fs ≡ true

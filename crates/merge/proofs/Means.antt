@@ -3,7 +3,7 @@
 -- Assumes nothing.
 use mathlib.Core.Path.{_≡_, refl, sym, _∙_, ap}
 use mathlib.Core.Bool.{Bool, true, false, cond, _&&_}
-use mathlib.Core.List.{List, [], _∷_, _++_}
+use mathlib.Core.List.{List, [], _∷_, _++_, flatMap}
 use Prim.Native.Nat.{ℕ, zero, suc, _≤_, _<_}
 use native.Mathlib.Omega.{arith}
 use lib.Dec.{ltb}
@@ -19,11 +19,11 @@ use Rattle.checks.specs.Check.{checkOf}
 use Rattle.checks.specs.declared.Check.{Check}
 use Rattle.checks.specs.declared.Check.the-variants.{Passed, Refused}
 use Rattle.checks.proofs.Texts.{passed}
-use Rattle.canon.specs.Canon.{entriesOk, wf}
+use Rattle.canon.specs.Canon.{entryOk, wf}
 use Rattle.grammar.specs.Meaning.{isClass, className, puts, lookup, slotNames, absent, distinct}
-use Rattle.sets.specs.Types.{Texts, one, emptySet, maxClasses, maxKeys, maxSlots, zeroValue, zeroRow, zeroSlot}
+use Rattle.sets.specs.Types.{Texts, one, emptySet, maxClasses, maxKeys, maxSlots, zeroRow}
 use Rattle.sets.specs.Rows.{Rows, Put, noRows, isNamed, putRow, withPut, withPuts, tableOf, rowsIn, meant, meaningOf}
-use Rattle.sets.specs.Shape.{allAllowed, Shaped}
+use Rattle.sets.specs.Shape.{isAllowed, Shaped}
 use Rattle.sets.specs.declared.Attrs.{Attrs}
 use Rattle.sets.specs.declared.Name.{Name}
 use Rattle.sets.specs.declared.Row.{Row}
@@ -31,7 +31,7 @@ use Rattle.sets.specs.declared.Value.{Value}
 use Rattle.sets.specs.declared.Slot.the-variants.{Class}
 use Rattle.sets.proofs.Meant.{shaped-puts, puts-meant}
 use Rattle.sets.proofs.Slots.{slots-fit}
-use Rattle.sets.proofs.Whole.{rows-table, table-means, past-classes, past-keys, past-slots, empty-table, empty-means}
+use Rattle.sets.proofs.Whole.{rows-table, table-means, empty-table, empty-means}
 use Rattle.wellformed.specs.WellFormed.{rowsOk, tableOk, wellFormed}
 use Rattle.wellformed.proofs.Shape.{passed-rows, table-passed, shaped}
 use Rattle.wellformed.proofs.Means.{means-wf}
@@ -39,7 +39,9 @@ use Rattle.wellformed.proofs.PutsKept.{putOk, rows-none, rows-puts, table-ok}
 use Rattle.fill.specs.declared.Filled.{Filled}
 use Rattle.fill.specs.declared.Outcome.the-variants as outcome
 use Rattle.fill.specs.Fill.{refusing, limited}
-use Rattle.merge.specs.Merge.{putsFrom, putsBy, mergedBy, mergeOf}
+use Rattle.fill.proofs.Settled.{Settled, either, limited-settled}
+use Rattle.fill.proofs.Zeroed.{Zeroed, settled-zeroed}
+use Rattle.merge.specs.Merge.{putsBy, mergedBy, mergeOf}
 use Rattle.merge.proofs.Rest.{put-grows, count-classes, own-keys}
 use Rattle.merge.proofs.Whole.{few}
 use Rattle.merge.proofs.ByNames.{merged, newSlots, puts-lookup, merged-classes, puts-slots, puts-none}
@@ -89,7 +91,7 @@ module _ (t : List ℕ) (a b : Attrs) where
     good : all (putOk (one t)) (putsBy (rowsIn b)) ≡ true
     good = good-puts (table-passed (one t) b g)
 
-    allowed : allAllowed (one t) (putsBy (rowsIn b)) ≡ true
+    allowed : all (isAllowed (one t)) (putsBy (rowsIn b)) ≡ true
     allowed = all-allowed (one t) (putsBy (rowsIn b)) good
 
     whole-shaped : Shaped (one t) whole
@@ -133,7 +135,7 @@ module _ (t : List ℕ) (a b : Attrs) where
 
     second-distinct : distinct (meaningOf (one t) b) ≡ true
     unfolding wf
-    second-distinct = both (entriesOk (meaningOf (one t) b)) (distinct (meaningOf (one t) b)) (means-wf (one t) b (gave d .second)) .1
+    second-distinct = both (all entryOk (meaningOf (one t) b)) (distinct (meaningOf (one t) b)) (means-wf (one t) b (gave d .second)) .1
 
     -- by names: what b has of a name wins, its classes are joined; what it hasn't stays
     pub merge-values : (n : List ℕ) → lookup n (meaningOf (one t) (mergeOf t a b .set)) ≡ merged n (meaningOf (one t) a) (meaningOf (one t) b)
@@ -167,38 +169,13 @@ module _ (t : List ℕ) (a b : Attrs) where
         rw (← passed t refl (g .text), g .is) (table-ok (one t) (whole t a b) (whole-good t a b (g .first) (g .second)) (g .classes) (g .keys))
 
 -- ---- "Rows past the counts are zero in every set handed out", that of a refusal included
-pub record Zeroed (x : Attrs) : Type 0 where
-  pub classes : (k : ℕ) → x .nclass ≤ k → getD (x .classes) k zeroValue ≡ zeroValue
-  pub keys : (k : ℕ) → x .nkey ≤ k → getD (x .keys) k zeroRow ≡ zeroRow
-  pub slots : (k : ℕ) → x .norder ≤ k → getD (x .order) k zeroSlot ≡ zeroSlot
-
-zeroed-table : (s : Rows) → Zeroed (tableOf s)
-zeroed-table s = record { classes = past-classes s; keys = past-keys s; slots = past-slots s }
-
-zeroed-refusing : (r : Refusal) → Zeroed (refusing r .set)
-zeroed-refusing r = rw (← empty-table) (zeroed-table noRows)
-
-zeroed-limited : (s : Rows) → Zeroed (limited s .set)
-unfolding limited
-zeroed-limited s = go (ltb maxClasses (length (s .classes))) (ltb maxKeys (length (s .keys))) (ltb maxSlots (length (s .order)))
-  where
-    go : (x y z : Bool) → Zeroed (cond x (refusing TooManyClasses) (cond y (refusing TooManyKeys) (cond z (refusing TooManySlots) (record { outcome = outcome.Done; set = tableOf s }))) .set)
-    go true y z = zeroed-refusing TooManyClasses
-    go false true z = zeroed-refusing TooManyKeys
-    go false false true = zeroed-refusing TooManySlots
-    go false false false = zeroed-table s
-
 pub merge-zeroed : (t : List ℕ) (a b : Attrs) → Zeroed (mergeOf t a b .set)
 unfolding mergeOf
-merge-zeroed t a b = go (checkOf t)
+merge-zeroed t a b = settled-zeroed (go (checkOf t))
   where
-    either : (x : Bool) → Zeroed (cond x (limited (whole t a b)) (refusing NotWellFormed) .set)
-    either true = zeroed-limited (whole t a b)
-    either false = zeroed-refusing NotWellFormed
-
-    go : (c : Check) → Zeroed (mergedBy c t a b .set)
-    go (Refused r) = zeroed-refusing r
-    go Passed = either (tableOk (one t) a && tableOk (one t) b)
+    go : (c : Check) → Settled (mergedBy c t a b)
+    go (Refused r) = Settled.refused r
+    go Passed = either (tableOk (one t) a && tableOk (one t) b) (limited-settled (whole t a b)) (Settled.refused NotWellFormed)
 
 -- ---- "more than 34 slots" is no refusal of a merge
 abbrev Slots : Filled → Type 0
@@ -241,7 +218,7 @@ empty-good t = rw (← empty-table) (table-ok (one t) noRows (rows-none (one t))
 module _ (t : List ℕ) (a : Attrs) (p : checkOf t ≡ Passed) (h : tableOk (one t) a ≡ true) where
   -- merged into a set, it leaves that as it is, but for rows past the counts
   pub merge-empty : mergeOf t a emptySet ≡ record { outcome = outcome.Done; set = tableOf (rowsIn a) }
-  unfolding mergeOf limited putsFrom withPuts
+  unfolding mergeOf limited flatMap withPuts
   merge-empty =
       let s = rowsIn a in
       let l = few (one t) a h in

@@ -2,17 +2,18 @@
 -- Assumes nothing.
 use mathlib.Core.Path.{_≡_, refl}
 use mathlib.Core.Bool.{true, false}
-use mathlib.Core.List.{List, [], _∷_, map, map-append}
+use mathlib.Core.List.{List, [], _∷_, map, map-append, flatMap}
 use lib.ListN.{length}
 use borrow.Author.Tests.{ltb-true}
 use Rattle.lists.specs.Lists.{all, isSome}
-use Rattle.lists.proofs.Scan.{both, all-append}
-use Rattle.lists.proofs.More.{contra}
+use Rattle.lists.proofs.Scan.{both}
+use Rattle.lists.proofs.More.{contra, all-weaker}
+use Rattle.lists.proofs.Flat.{all-flat}
 use Rattle.grammar.specs.Meaning.{Entry, put, puts, idName, className}
 use Rattle.grammar.proofs.Views.{puts-append}
 use Rattle.sets.specs.Types.{Texts, valueBytes, zeroRow}
 use Rattle.sets.specs.Rows.{Rows, Put, isThere, idValues, slotEntry, meant}
-use Rattle.sets.specs.Shape.{isPresent, isAllowed, allAllowed}
+use Rattle.sets.specs.Shape.{isPresent, isAllowed}
 use Rattle.sets.specs.declared.Id as ids
 use Rattle.sets.specs.declared.Id.the-variants as id
 use Rattle.sets.specs.declared.Slot.{Slot}
@@ -23,7 +24,7 @@ use Rattle.sets.proofs.Items.{entry, classes-puts}
 use Rattle.values.specs.Values.{identOk, classOk, keyOk}
 use Rattle.wellformed.proofs.Shape.{Passed, all-at, slots-named, keyed}
 use Rattle.wellformed.proofs.PutsKept.{putOk}
-use Rattle.merge.specs.Merge.{putsOfId, putsAt, putsFrom, putsBy}
+use Rattle.merge.specs.Merge.{putsOfId, putsAt, putsBy}
 
 module _ {t : Texts} {s : Rows} (h : Passed t s) where
   -- ---- what is put is good, and so may be put
@@ -41,13 +42,8 @@ module _ {t : Texts} {s : Rows} (h : Passed t s) where
       go (c ∷ cs) k = let z = both (classOk t c) (all (classOk t) cs) k in rw (z .0) (go cs (z .1))
   good-at (Key k) p = rw (all-at (keyOk t) zeroRow (s .keys) (h .keys) k (ltb-true k (length (s .keys)) p))
 
-  good-from : (o : List Slot) → all (isPresent s) o ≡ true → all (putOk t) (putsFrom s o) ≡ true
-  unfolding putsFrom all
-  good-from [] a = refl
-  good-from (x ∷ o) a = let z = both (isPresent s x) (all (isPresent s) o) a in all-append (putOk t) (putsAt s x) (putsFrom s o) (good-at x (z .0)) (good-from o (z .1))
-
   pub good-puts : all (putOk t) (putsBy s) ≡ true
-  good-puts = good-from (s .order) (slots-named s (h .slots))
+  good-puts = all-flat (isPresent s) (putOk t) (putsAt s) good-at (s .order) (slots-named s (h .slots))
 
   -- ---- what is put says what the slots mean
   says-at : (m : List Entry) (x : Slot) → isPresent s x ≡ true → puts m (map (putEntry t) (putsAt s x)) ≡ put m (slotEntry t s x)
@@ -68,12 +64,12 @@ module _ {t : Texts} {s : Rows} (h : Passed t s) where
       go (c ∷ cs) q = rw (each (c ∷ cs)) (classes-puts (map (valueBytes t) cs) (valueBytes t c) m)
   says-at m (Key k) p = refl
 
-  says-from : (o : List Slot) (m : List Entry) → all (isPresent s) o ≡ true → puts m (map (putEntry t) (putsFrom s o)) ≡ puts m (map (slotEntry t s) o)
-  unfolding putsFrom puts all
+  says-from : (o : List Slot) (m : List Entry) → all (isPresent s) o ≡ true → puts m (map (putEntry t) (flatMap (putsAt s) o)) ≡ puts m (map (slotEntry t s) o)
+  unfolding flatMap puts all
   says-from [] m a = refl
   says-from (x ∷ o) m a =
       let z = both (isPresent s x) (all (isPresent s) o) a in
-      rw (map-append, puts-append m (map (putEntry t) (putsAt s x)) (map (putEntry t) (putsFrom s o)), says-at m x (z .0)) (says-from o (put m (slotEntry t s x)) (z .1))
+      rw (map-append, puts-append m (map (putEntry t) (putsAt s x)) (map (putEntry t) (flatMap (putsAt s) o)), says-at m x (z .0)) (says-from o (put m (slotEntry t s x)) (z .1))
 
   pub says : (m : List Entry) → puts m (map (putEntry t) (putsBy s)) ≡ puts m (meant t s)
   unfolding meant
@@ -86,7 +82,5 @@ allowed t (Put.ident v) h = refl
 allowed t (Put.class v) h = refl
 allowed t (Put.key n v) h = keyed h .free
 
-pub all-allowed : (t : Texts) (ps : List Put) → all (putOk t) ps ≡ true → allAllowed t ps ≡ true
-unfolding all allAllowed
-all-allowed t [] h = refl
-all-allowed t (p ∷ ps) h = let z = both (putOk t p) (all (putOk t) ps) h in rw (allowed t p (z .0)) (all-allowed t ps (z .1))
+pub all-allowed : (t : Texts) (ps : List Put) → all (putOk t) ps ≡ true → all (isAllowed t) ps ≡ true
+all-allowed t ps h = all-weaker (putOk t) (isAllowed t) (allowed t) ps h

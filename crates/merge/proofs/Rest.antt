@@ -2,7 +2,7 @@
 -- Assumes nothing.
 use mathlib.Core.Path.{_≡_, refl, sym, _∙_, ap}
 use mathlib.Core.Bool.{Bool, true, false, cond}
-use mathlib.Core.List.{List, [], _∷_, map}
+use mathlib.Core.List.{List, [], _∷_, map, flatMap}
 use Prim.Native.Nat.{ℕ, zero, suc, _+_, _<_, _≤_}
 use native.Mathlib.Numerals.{add-one}
 use native.Mathlib.Omega.{arith}
@@ -29,7 +29,7 @@ use Rattle.fill.specs.declared.Outcome.the-variants.{Done}
 use Rattle.fill.specs.Fill.{refusing, limited}
 use Rattle.fill.proofs.Slots.{key-count, one-le, slots}
 use Rattle.merge.specs.declared.Step.{Step}
-use Rattle.merge.specs.Merge.{putsOfId, putsAt, putsFrom, putsBy}
+use Rattle.merge.specs.Merge.{putsOfId, putsAt, putsBy}
 use Rattle.merge.specs.Walk.{Held, Steps, Sound, Fits, Present}
 use Rattle.merge.proofs.Tables.{holds, nclass, puts-after}
 
@@ -68,20 +68,20 @@ module _ (t : Texts) where
     unfolding putsAt
     here s e = rw (← e) (all-classes s (b .classes))
 
-    none-from : (o : List Slot) (s : Rows) → times Class o ≡ 0 → length (withPuts t s (putsFrom b o) .classes) ≡ length (s .classes)
-    unfolding putsFrom times withPuts
+    none-from : (o : List Slot) (s : Rows) → times Class o ≡ 0 → length (withPuts t s (flatMap (putsAt b) o) .classes) ≡ length (s .classes)
+    unfolding flatMap times withPuts
     none-from [] s e = refl
-    none-from (x ∷ o) s e = rw (puts-after t s (putsAt b x) (putsFrom b o)) (go (isSlot Class x) refl e (none-from o (withPuts t s (putsAt b x))))
+    none-from (x ∷ o) s e = rw (puts-after t s (putsAt b x) (flatMap (putsAt b) o)) (go (isSlot Class x) refl e (none-from o (withPuts t s (putsAt b x))))
       where
         go : {n : ℕ} (q : Bool) → isSlot Class x ≡ q → cond q (suc (times Class o)) (times Class o) ≡ 0
             → (times Class o ≡ 0 → n ≡ length (withPuts t s (putsAt b x) .classes)) → n ≡ length (s .classes)
         go true q e ih = absurd (omega arith)
         go false q e ih = ih e ∙ none-at s x q
 
-    once-from : (o : List Slot) (s : Rows) → times Class o ≡ 1 → length (withPuts t s (putsFrom b o) .classes) ≡ length (s .classes) + length (b .classes)
-    unfolding putsFrom times
+    once-from : (o : List Slot) (s : Rows) → times Class o ≡ 1 → length (withPuts t s (flatMap (putsAt b) o) .classes) ≡ length (s .classes) + length (b .classes)
+    unfolding flatMap times
     once-from [] s e = absurd (omega arith)
-    once-from (x ∷ o) s e = rw (puts-after t s (putsAt b x) (putsFrom b o)) (go (isSlot Class x) refl e (none-from o (withPuts t s (putsAt b x))) (once-from o (withPuts t s (putsAt b x))))
+    once-from (x ∷ o) s e = rw (puts-after t s (putsAt b x) (flatMap (putsAt b) o)) (go (isSlot Class x) refl e (none-from o (withPuts t s (putsAt b x))) (once-from o (withPuts t s (putsAt b x))))
       where
         go : {n : ℕ} (q : Bool) → isSlot Class x ≡ q → cond q (suc (times Class o)) (times Class o) ≡ 1
             → (times Class o ≡ 0 → n ≡ length (withPuts t s (putsAt b x) .classes)) → (times Class o ≡ 1 → n ≡ length (withPuts t s (putsAt b x) .classes) + length (b .classes))
@@ -116,10 +116,10 @@ module _ (t : Texts) where
         let r = getD (b .keys) k zeroRow in
         rw (ne-eqb 0 (suc (suc k)) (omega arith), ne-eqb 1 (suc (suc k)) (omega arith)) (omega (arith, key-count t (r .name) (r .value) (s .keys)))
 
-    keys-from : (o : List Slot) (s : Rows) → length (withPuts t s (putsFrom b o) .keys) + times Id o + times Class o ≤ length (s .keys) + length o
-    unfolding putsFrom times withPuts
+    keys-from : (o : List Slot) (s : Rows) → length (withPuts t s (flatMap (putsAt b) o) .keys) + times Id o + times Class o ≤ length (s .keys) + length o
+    unfolding flatMap times withPuts
     keys-from [] s = omega arith
-    keys-from (x ∷ o) s = rw (puts-after t s (putsAt b x) (putsFrom b o)) (omega (arith, keys-at s x, keys-from o (withPuts t s (putsAt b x)), more (isSlot Id x) (times Id o), more (isSlot Class x) (times Class o)))
+    keys-from (x ∷ o) s = rw (puts-after t s (putsAt b x) (flatMap (putsAt b) o)) (omega (arith, keys-at s x, keys-from o (withPuts t s (putsAt b x)), more (isSlot Id x) (times Id o), more (isSlot Class x) (times Class o)))
       where
         more : (q : Bool) (n : ℕ) → cond q (suc n) n ≡ n + cond q 1 0
         more true n = omega arith
@@ -170,7 +170,7 @@ module _ (w : Rows) where
 pub record Merges (t : Texts) (a b : Attrs) (set : Attrs) (i : ℕ) : Type 0 where
   pub few : length (withPuts t (rowsIn a) (putsBy (rowsIn b)) .classes) ≤ maxClasses
   pub held : Held set
-  pub rest : withPuts t (rowsIn set) (putsFrom (rowsIn b) (drop i (rowsIn b .order))) ≡ withPuts t (rowsIn a) (putsBy (rowsIn b))
+  pub rest : withPuts t (rowsIn set) (flatMap (putsAt (rowsIn b)) (drop i (rowsIn b .order))) ≡ withPuts t (rowsIn a) (putsBy (rowsIn b))
 
 module _ (t : Texts) {a b : Attrs} (h : Held a) (g : Sound b) (c : length (b .classes) ≡ maxClasses) where
   class-count : length (withPuts t (rowsIn a) (putsBy (rowsIn b)) .classes) ≡ a .nclass + b .nclass
@@ -184,7 +184,7 @@ module _ (t : Texts) {a b : Attrs} (h : Held a) (g : Sound b) (c : length (b .cl
 
 module _ {t : Texts} {a b set : Attrs} {i : ℕ} (inv : Merges t a b set i) where
   pub end : length (b .order) ≡ maxSlots → b .norder ≤ maxSlots → b .norder ≤ i → record { outcome = Done; set = set } ≡ limited (withPuts t (rowsIn a) (putsBy (rowsIn b)))
-  unfolding putsFrom withPuts
+  unfolding flatMap withPuts
   end o n l = none-many (withPuts t (rowsIn a) (putsBy (rowsIn b))) (inv .held) (rw (drop-of-length-le (rowsIn b .order) {i = i} (omega (arith, slot-rows b o n))) at (inv .rest))
 
   -- a slot more
@@ -192,13 +192,13 @@ module _ {t : Texts} {a b set : Attrs} {i : ℕ} (inv : Merges t a b set i) wher
     cut : drop i (rowsIn b .order) ≡ getD (b .order) i zeroSlot .slot ∷ drop (suc i) (rowsIn b .order)
     cut = drop-cons (rowsIn b .order) i Id (omega (arith, slot-rows b o (g .norder))) ∙ (rw (slot-at b i l))
 
-    parted : withPuts t (withPuts t (rowsIn set) (putsAt (rowsIn b) (getD (b .order) i zeroSlot .slot))) (putsFrom (rowsIn b) (drop (suc i) (rowsIn b .order))) ≡ withPuts t (rowsIn a) (putsBy (rowsIn b))
-    unfolding putsFrom
-    parted = sym (puts-after t (rowsIn set) (putsAt (rowsIn b) (getD (b .order) i zeroSlot .slot)) (putsFrom (rowsIn b) (drop (suc i) (rowsIn b .order)))) ∙ (rw cut at (inv .rest))
+    parted : withPuts t (withPuts t (rowsIn set) (putsAt (rowsIn b) (getD (b .order) i zeroSlot .slot))) (flatMap (putsAt (rowsIn b)) (drop (suc i) (rowsIn b .order))) ≡ withPuts t (rowsIn a) (putsBy (rowsIn b))
+    unfolding flatMap
+    parted = sym (puts-after t (rowsIn set) (putsAt (rowsIn b) (getD (b .order) i zeroSlot .slot)) (flatMap (putsAt (rowsIn b)) (drop (suc i) (rowsIn b .order)))) ∙ (rw cut at (inv .rest))
 
     grown : (length (withPuts t (rowsIn set) (putsAt (rowsIn b) (getD (b .order) i zeroSlot .slot)) .classes) ≤ length (withPuts t (rowsIn a) (putsBy (rowsIn b)) .classes))
         × (length (withPuts t (rowsIn set) (putsAt (rowsIn b) (getD (b .order) i zeroSlot .slot)) .keys) ≤ length (withPuts t (rowsIn a) (putsBy (rowsIn b)) .keys))
-    grown = rw (← parted) (puts-grow t (withPuts t (rowsIn set) (putsAt (rowsIn b) (getD (b .order) i zeroSlot .slot))) (putsFrom (rowsIn b) (drop (suc i) (rowsIn b .order))))
+    grown = rw (← parted) (puts-grow t (withPuts t (rowsIn set) (putsAt (rowsIn b) (getD (b .order) i zeroSlot .slot))) (flatMap (putsAt (rowsIn b)) (drop (suc i) (rowsIn b .order))))
 
     pub next : {s : Step} → Steps t set (putsAt (rowsIn b) (getD (b .order) i zeroSlot .slot)) s → s .fits ≡ true → Merges t a b (s .set) (i + 1)
     next h e = let z = h .done e in record { few = inv .few; held = z .held; rest = rw (add-one, z .rows) parted }

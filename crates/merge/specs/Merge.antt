@@ -1,7 +1,7 @@
 -- Two sets over one text made into one: "Merging: a later id wins, classes are joined, later key values win, new slots go behind."
 use Prim.Native.Nat.{ℕ}
 use mathlib.Core.Bool.{cond, _&&_}
-use mathlib.Core.List.{List, [], _∷_, _++_, map}
+use mathlib.Core.List.{List, [], _∷_, map, flatMap}
 use lib.ListN.{getD}
 use Rattle.refusals.specs.declared.Refusal.the-variants.{NotWellFormed}
 use Rattle.checks.specs.Check.{checkOf}
@@ -33,12 +33,8 @@ putsAt s slot.Id = putsOfId (s .ident)
 putsAt s slot.Class = map Put.class (s .classes)
 putsAt s (slot.Key k) = putOfRow (getD (s .keys) k zeroRow) ∷ []
 
-unfoldable pub putsFrom : Rows → List Slot → List Put
-putsFrom s [] = []
-putsFrom s (x ∷ o) = putsAt s x ++ putsFrom s o
-
 abbrev pub putsBy : Rows → List Put
-putsBy s = putsFrom s (s .order)
+putsBy s = flatMap (putsAt s) (s .order)
 
 -- ---- the merge: "merge 1, 2, 11 (either set), 6, 7, 8"
 

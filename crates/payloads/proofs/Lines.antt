@@ -16,10 +16,10 @@ use Rattle.lines.specs.declared.Range.{Range}
 use Rattle.lines.specs.Trim.{trimRange}
 pub use Rattle.lines.proofs.Trim.{core-from, core-to, core-is}
 use Rattle.checks.specs.Check.{isText}
-use Rattle.payloads.specs.Payloads.{lastIs, endsInClose, behindFrom, behindLast, continues, isContinuation}
+use Rattle.payloads.specs.Payloads.{endsInClose, behindFrom, behindLast, continues, isContinuation}
 
-last-at : (a : ℕ) (s : List ℕ) → lastIs a s ≡ eqb (getD (a ∷ s) (length s) 0) 125
-unfolding lastIs
+last-at : (a : ℕ) (s : List ℕ) → endsInClose (a ∷ s) ≡ eqb (getD (a ∷ s) (length s) 0) 125
+unfolding endsInClose
 last-at a [] = refl
 last-at a (b ∷ s) = last-at b s
 
@@ -80,7 +80,7 @@ module _ {s : List ℕ} {best i : ℕ} (inv : Behinds s best i) where
 
 -- ---- each way to say whether a line continues a run
 pub none : (l : List ℕ) → length l ≡ 0 → false ≡ continues l
-unfolding continues behindLast behindFrom readPayload readFrom
+unfolding endsInClose continues behindLast behindFrom readPayload readFrom
 none [] h = refl
 none (a ∷ s) h = absurd (omega arith)
 

@@ -1,15 +1,15 @@
 -- "payload entries only say yes or no, and no for 1, 2, 5."
 use Prim.Native.Nat.{ℕ}
 use mathlib.Core.Bool.{Bool, false, cond, _&&_, _||_}
-use mathlib.Core.List.{List, [], _∷_}
+use mathlib.Core.List.{List, [], _∷_, tail}
 use lib.Dec.{eqb}
-use Rattle.lists.specs.Lists.{begins}
+use Rattle.lists.specs.Lists.{begins, beginsPair}
 use Rattle.ascii.specs.declared.Mode.{Mode}
 use Rattle.ascii.specs.declared.Mode.the-variants.{Loose}
 use Rattle.checks.specs.Check.{isText}
 use Rattle.grammar.specs.Read.{readPayload}
 use Rattle.tokens.specs.Shown.{accepted}
-use Rattle.lines.specs.Trim.{trim}
+use Rattle.lines.specs.Trim.{trim, trimStart}
 
 -- a reading of the payload exists
 unfoldable pub isPayload : Mode → List ℕ → Bool
@@ -17,26 +17,23 @@ isPayload m s = isText s && accepted (readPayload m 0 s)
 
 -- ---- a later line of a wrapped run, trimmed
 
--- the last byte is `}`; `last` is the byte before the list
-unfoldable pub lastIs : ℕ → List ℕ → Bool
-lastIs last [] = eqb last 125
-lastIs last (b ∷ s) = lastIs b s
-
-abbrev pub endsInClose : List ℕ → Bool
+-- the last byte is `}`
+unfoldable pub endsInClose : List ℕ → Bool
 endsInClose [] = false
-endsInClose (b ∷ s) = lastIs b s
+endsInClose (b ∷ []) = eqb b 125
+endsInClose (b ∷ c ∷ s) = endsInClose (c ∷ s)
 
 abbrev pub beginsOpen : List ℕ → Bool
 beginsOpen s = begins s 123
 
-abbrev pub withoutFirst : List ℕ → List ℕ
-withoutFirst [] = []
-withoutFirst (b ∷ s) = s
+-- a line's first byte that is no whitespace is `{`
+abbrev pub opens : List ℕ → Bool
+opens l = beginsOpen (trimStart l)
 
 -- what stands behind the last `}{`, where `best` stands behind the last of those before; all of it where there is none
 unfoldable pub behindFrom : List ℕ → List ℕ → List ℕ
 behindFrom best [] = best
-behindFrom best (b ∷ s) = behindFrom (cond (eqb b 125 && beginsOpen s) (withoutFirst s) best) s
+behindFrom best (b ∷ s) = behindFrom (cond (beginsPair 125 123 (b ∷ s)) (tail s) best) s
 
 unfoldable pub behindLast : List ℕ → List ℕ
 behindLast s = behindFrom s s

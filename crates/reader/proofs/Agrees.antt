@@ -21,9 +21,9 @@ use Rattle.refusals.specs.Numbers.{maxText, numberOf}
 use Rattle.grammar.specs.Meaning.{Entry, meaning}
 use Rattle.grammar.specs.Close.{findClose}
 use Rattle.grammar.proofs.Close.{close-complete, found, payload-is}
-use Rattle.canon.specs.Canon as canons
-use Rattle.canon.specs.Canon.{AtBrace, readAt, canon, wf}
+use Rattle.canon.specs.Canon.{canon, wf}
 use Rattle.canon.proofs.AtBrace as rules
+use Rattle.canon.proofs.AtBrace.{AtBrace, readAt}
 use Rattle.canon.proofs.Again.{again, well-formed}
 use Rattle.sets.specs.Types.{one, maxClasses, maxKeys}
 use Rattle.sets.specs.Rows.{meaningOf}
@@ -36,11 +36,11 @@ use Rattle.reader.proofs.Counts.{class-meaning, key-meaning}
 use Rattle.reader.proofs.Meaning.{meantAt, Gives, given, only, read-means}
 
 -- what was read, by the refusal's number, or by the set's meaning and the place behind the close
-abbrev pub seenAs : Answer → List Entry → canons.Answer
-seenAs (Refused r) s = canons.Answer.refused (numberOf r)
-seenAs (Next n) s = canons.Answer.read s n
+abbrev pub seenAs : Answer → List Entry → rules.Answer
+seenAs (Refused r) s = rules.Answer.refused (numberOf r)
+seenAs (Next n) s = rules.Answer.read s n
 
-abbrev pub seen : List ℕ → Read → canons.Answer
+abbrev pub seen : List ℕ → Read → rules.Answer
 seen t r = seenAs (r .answer) (meaningOf (one t) (r .set))
 
 -- a brace stands in the text
@@ -81,10 +81,10 @@ block-utf8 {t} {i} {e} u b =
 
 -- ======== what is read there within sizes and limits is read here
 module _ {m : Mode} {t : List ℕ} {i : ℕ} {s : List Entry} {n : ℕ} where
-  pub reads-as : readAt m t i ≡ canons.Answer.read s n → length t ≤ maxText → isUtf8 t ≡ true → classCount s ≤ maxClasses → keyCount s ≤ maxKeys → Gives m t i (Next n) s
+  pub reads-as : readAt m t i ≡ rules.Answer.read s n → length t ≤ maxText → isUtf8 t ≡ true → classCount s ≤ maxClasses → keyCount s ≤ maxKeys → Gives m t i (Next n) s
   reads-as e l u c k = go (rules.by-rules m t i) e
     where
-      go : {r : canons.Answer} → AtBrace m t i r → r ≡ canons.Answer.read s n → Gives m t i (Next n) s
+      go : {r : rules.Answer} → AtBrace m t i r → r ≡ rules.Answer.read s n → Gives m t i (Next n) s
       go (AtBrace.none x) q = contra true refl (cc)
       go (AtBrace.unclosed b x) q = contra true refl (cc)
       go (AtBrace.unread b x y) q = contra true refl (cc)
@@ -96,7 +96,7 @@ module _ {m : Mode} {t : List ℕ} {i : ℕ} {s : List Entry} {n : ℕ} where
 
 -- ======== what was read is well-formed, and its canonical text, where it is within the sizes, is read back as the same
 module _ (m : Mode) (t : List ℕ) (i : ℕ) {n : ℕ} (e : readAttrsAt m t i .answer ≡ Next n) where
-  was-read : readAt m t i ≡ canons.Answer.read (meantAt m t i) n
+  was-read : readAt m t i ≡ rules.Answer.read (meantAt m t i) n
   was-read = agrees m t i (rw e) ∙ (rw e)
 
   pub read-well : (wf (meantAt m t i) ≡ true) × (meantAt m t i ≡ [] → ⊥)

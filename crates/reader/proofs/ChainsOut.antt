@@ -8,6 +8,7 @@ use native.Mathlib.Omega.{arith}
 use lib.Dec.{ltb}
 use lib.ListN.{length}
 use lib.Seq.{slice}
+use Rattle.checks.proofs.Texts.{text-utf8}
 use Rattle.lists.specs.Lists.{all}
 use Rattle.ascii.specs.declared.Mode.{Mode}
 use Rattle.utf8.specs.Utf8.{isUtf8}
@@ -26,7 +27,7 @@ use Rattle.wellformed.proofs.PutsParts.{Part, low-ends}
 use Rattle.wellformed.proofs.PutsItems.{items-ok, more-ok}
 use Rattle.wellformed.proofs.PutsRead.{block-inside, block-behind}
 use Rattle.fill.specs.Fill as fills
-use Rattle.reader.proofs.HandedOut.{empty-ok, filled-ok, text-utf8}
+use Rattle.reader.proofs.HandedOut.{empty-ok, filled-ok}
 
 -- blocks begin with `{` and end with `}`
 first : {m : Mode} {at : ℕ} {s : List ℕ} {is : List Placed} → Blocks m at s is → (x : List ℕ) × (s ≡ 123 ∷ x)

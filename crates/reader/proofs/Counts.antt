@@ -7,12 +7,12 @@ use Prim.Native.Nat.{ℕ, zero, suc, _+_, _<_}
 use native.Mathlib.Omega.{arith}
 use lib.ListN.{length, length-append, length-map}
 use borrow.Author.Tests.{not-true, ne-eqb, ltb-true}
-use Rattle.lists.specs.Lists.{same, isSome}
+use Rattle.lists.specs.Lists.{all, same, isSome}
 use Rattle.lists.proofs.Scan.{both}
 use Rattle.lists.proofs.Same.{same-refl, same-true}
 use Rattle.lists.proofs.More.{same-sym}
 use Rattle.grammar.specs.Grammar.{Placed}
-use Rattle.grammar.specs.Meaning.{Entry, idName, className, isClass, over, putAt, put, puts, entriesOf, absent, distinct, meaning}
+use Rattle.grammar.specs.Meaning.{Entry, idName, className, isClass, over, put, puts, entriesOf, absent, distinct, meaning}
 use Rattle.grammar.proofs.Places.{Standing}
 use Rattle.grammar.proofs.Views.{absent-put, put-distinct}
 use Rattle.sets.specs.Types.{Texts, one}
@@ -40,7 +40,7 @@ unfolding classCount put
 class-put [] e = omega arith
 class-put (f ∷ m) e = go (same (f .name) (e .name)) refl (class-put m e)
   where
-    go : (x : Bool) → same (f .name) (e .name) ≡ x → classCount (put m e) ≡ classCount m + classesIn e → classCount (putAt x f m e (put m e)) ≡ classesIn f + classCount m + classesIn e
+    go : (x : Bool) → same (f .name) (e .name) ≡ x → classCount (put m e) ≡ classCount m + classesIn e → classCount (cond x (over f (e .values) ∷ m) (f ∷ put m e)) ≡ classesIn f + classCount m + classesIn e
     go true q ih = omega (arith, class-over f e (same-true (f .name) (e .name) q))
     go false q ih = omega (arith, ih)
 
@@ -51,18 +51,18 @@ class-puts m (e ∷ es) = omega (arith, class-puts (put m e) es, class-put m e)
 
 -- ======== keys: a put of a name that is there adds none
 absent-append : (n : List ℕ) (m es : List Entry) → absent n m ≡ true → absent n (m ++ es) ≡ absent n es
-unfolding absent
+unfolding absent all
 absent-append n [] es h = refl
 absent-append n (e ∷ m) es h = let g = both (not (same (e .name) n)) (absent n m) h in rw (g .0) (absent-append n m es (g .1))
 
 -- behind others, an entry of a name that they don't have takes nothing from their count
 skipped : (n : List ℕ) (m : List Entry) (e : Entry) (es : List Entry) → same (e .name) n ≡ false → absent n (m ++ (e ∷ es)) ≡ absent n (m ++ es)
-unfolding absent
+unfolding absent all
 skipped n [] e es q = rw q
 skipped n (k ∷ m) e es q = rw (skipped n m e es q)
 
 key-behind : (m : List Entry) (e : Entry) (es : List Entry) → absent (e .name) m ≡ true → keyCount (m ++ (e ∷ es)) ≡ keysIn e es + keyCount (m ++ es)
-unfolding keyCount absent
+unfolding keyCount absent all
 key-behind [] e es h = refl
 key-behind (f ∷ m) e es h =
     let g = both (not (same (f .name) (e .name))) (absent (e .name) m) h in
@@ -70,7 +70,7 @@ key-behind (f ∷ m) e es h =
 
 -- said again, a key counts there
 key-again : (f e : Entry) (m es : List Entry) → f .name ≡ e .name → absent (e .name) m ≡ true → keysIn f (m ++ es) + keyCount (m ++ es) ≡ keysIn f (m ++ (e ∷ es)) + keyCount (m ++ (e ∷ es))
-unfolding absent
+unfolding absent all
 key-again f e m es q a = rw (q, key-behind m e es a, absent-append (e .name) m es a, absent-append (e .name) m (e ∷ es) a, same-refl (e .name)) (go (isFree (e .name)))
   where
     go : (b : Bool) → cond (b && absent (e .name) es) 1 0 + keyCount (m ++ es) ≡ cond (b && false) 1 0 + (cond (b && absent (e .name) es) 1 0 + keyCount (m ++ es))
@@ -78,14 +78,14 @@ key-again f e m es q a = rw (q, key-behind m e es a, absent-append (e .name) m e
     go false = omega arith
 
 key-put : (m : List Entry) (e : Entry) (es : List Entry) → distinct m ≡ true → keyCount (put m e ++ es) ≡ keyCount (m ++ (e ∷ es))
-unfolding keyCount absent distinct put
+unfolding keyCount absent all distinct put
 key-put [] e es h = refl
 key-put (f ∷ m) e es h =
     let g = both (absent (f .name) m) (distinct m) h in
     go (same (f .name) (e .name)) refl (g .0) (key-put m e es (g .1))
   where
     go : (x : Bool) → same (f .name) (e .name) ≡ x → absent (f .name) m ≡ true → keyCount (put m e ++ es) ≡ keyCount (m ++ (e ∷ es))
-        → keyCount (putAt x f m e (put m e) ++ es) ≡ keysIn f (m ++ (e ∷ es)) + keyCount (m ++ (e ∷ es))
+        → keyCount (cond x (over f (e .values) ∷ m) (f ∷ put m e) ++ es) ≡ keysIn f (m ++ (e ∷ es)) + keyCount (m ++ (e ∷ es))
     go true q a ih = let z = same-true (f .name) (e .name) q in key-again f e m es z (rw z at a)
     go false q a ih =
         let p = same-sym (e .name) (f .name) ∙ q in

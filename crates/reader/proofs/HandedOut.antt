@@ -10,10 +10,10 @@ use lib.Dec.{ltb, eqb}
 use lib.ListN.{length, getD}
 use Rattle.lists.specs.Lists.{all}
 use Rattle.lists.proofs.Scan.{both}
-use Rattle.lists.proofs.More.{contra}
 use Rattle.ascii.specs.declared.Mode.{Mode}
 use Rattle.utf8.specs.Utf8.{isUtf8}
 use Rattle.checks.specs.Check.{isText}
+use Rattle.checks.proofs.Texts.{text-utf8}
 use Rattle.refusals.specs.Numbers.{maxText}
 use Rattle.refusals.specs.declared.Refusal.the-variants.{NotUtf8, NothingThere, TextTooLong, TooManyClasses, TooManyKeys, TooManySlots}
 use Rattle.grammar.specs.Grammar.{Placed}
@@ -29,10 +29,9 @@ use Rattle.wellformed.specs.WellFormed.{rowsOk, tableOk, wellFormed}
 use Rattle.wellformed.proofs.PutsKept.{putOk, rows-none, rows-puts, table-ok}
 use Rattle.wellformed.proofs.PutsRead.{read-ok, brace-part, brace-flat}
 use Rattle.fill.specs.Fill as fills
-use Rattle.fill.specs.declared.Outcome as outcomes
 use Rattle.fill.specs.declared.Outcome.the-variants as outcome
 use Rattle.fill.specs.declared.Filled.{Filled}
-use Rattle.reader.specs.Brace.{refusing, braceAt, payloadOf, handedOut, finished, readTo, atBrace, readAttrsAt}
+use Rattle.reader.specs.Brace.{refusing, braceAt, payloadOf, finished, readTo, atBrace, readAttrsAt}
 
 -- ---- sets that were filled
 pub empty-ok : (t : Texts) → tableOk t emptySet ≡ true
@@ -55,24 +54,9 @@ filled-ok t Reading.refused h = empty-ok t
 filled-ok t (Reading.items is) h = limited-ok t (withPuts t noRows (putsIn is)) (rows-puts t noRows (putsIn is) (rows-none t) (h is refl))
 
 -- ---- at a brace
-finished-ok : (t : Texts) (f : Filled) (next : ℕ) → tableOk t (f .set) ≡ true → tableOk t (finished f next .set) ≡ true
-unfolding finished
-finished-ok t f next h = go (f .outcome)
-  where
-    go : (o : outcomes.Outcome) → tableOk t (handedOut o (f .set) next .set) ≡ true
-    go (outcome.Refused r) = empty-ok t
-    go outcome.Done = h
-
-pub text-utf8 : (t : List ℕ) → isText t ≡ true → isUtf8 t ≡ true
-unfolding isText
-text-utf8 t = go (ltb maxText (length t))
-  where
-    go : (a : Bool) → cond a false (isUtf8 t) ≡ true → isUtf8 t ≡ true
-    go true e = contra false e refl
-    go false e = e
 
 pub handed-out-ok : (m : Mode) (t : List ℕ) (i : ℕ) → isText t ≡ true → wellFormed t (readAttrsAt m t i .set) ≡ true
-unfolding wellFormed readAttrsAt atBrace braceAt fills.filledOf
+unfolding wellFormed readAttrsAt atBrace braceAt finished fills.filledOf
 handed-out-ok m t i h = rw h (go (ltb maxText (length t)) (braceAt t i) refl)
   where
     payload : (e : ℕ) → braceAt t i ≡ true → findClose t (suc i) ≡ At e → (is : List Placed) → readPayload m (suc i) (payloadOf t i e) ≡ Reading.items is → all (putOk (one t)) (putsIn is) ≡ true
@@ -85,7 +69,7 @@ handed-out-ok m t i h = rw h (go (ltb maxText (length t)) (braceAt t i) refl)
     closed (At e) o c = cut (isUtf8 (payloadOf t i e))
       where
         cut : (b : Bool) → tableOk (one t) (cond b (finished (fills.filledOf m (one t) (suc i) (payloadOf t i e)) (suc e)) (refusing NotUtf8) .set) ≡ true
-        cut true = finished-ok (one t) (fills.filledOf m (one t) (suc i) (payloadOf t i e)) (suc e) (filled-ok (one t) (readPayload m (suc i) (payloadOf t i e)) (payload e o c))
+        cut true = filled-ok (one t) (readPayload m (suc i) (payloadOf t i e)) (payload e o c)
         cut false = empty-ok (one t)
 
     go : (a b : Bool) → braceAt t i ≡ b → tableOk (one t) (cond a (refusing TextTooLong) (cond b (readTo m t i (findClose t (suc i))) (refusing NothingThere)) .set) ≡ true

@@ -26,10 +26,8 @@ use Rattle.grammar.proofs.Quick.{quick-passes}
 use Rattle.sets.specs.Types.{one}
 use Rattle.fill.specs.Fill as fills
 use Rattle.fill.specs.declared.Filled.{Filled}
-use Rattle.fill.proofs.Settled.{Settled, fill-settled}
 use Rattle.lines.specs.declared.Range.{Range}
 use Rattle.reader.specs.Brace.{refusing, braceAt, payloadOf, finished, readTo, atBrace, front, partTo, payloadAt}
-use Rattle.reader.specs.Steps.{answerBy}
 
 -- ---- 1, 3, and then the close: one law for whatever is answered
 module _ {A : Type 0} (long none : A) (to : Place → A) (t : List ℕ) (i : ℕ) where
@@ -67,12 +65,6 @@ module _ (t : List ℕ) (i e : ℕ) where
   pub part-good : isUtf8 (take (e - (i + 1)) (drop (i + 1) t)) ≡ true → record { from = i + 1; to = e } ≡ partTo t i (At e)
   part-good u = rw (rw part at u, add-one i)
 
--- a refusal's set is the empty one already
-handed : {f : Filled} → Settled f → (next : ℕ) → record { answer = answerBy (f .outcome) next; set = f .set } ≡ finished f next
-unfolding finished
-handed (Settled.refused r) next = refl
-handed (Settled.done a) next = refl
-
 module _ (m : Mode) (t : List ℕ) (i e : ℕ) where
   pub not-utf8 : isUtf8 (take (e - (i + 1)) (drop (i + 1) t)) ≡ false → refusing NotUtf8 ≡ readTo m t i (At e)
   not-utf8 u = rw (rw part at u)
@@ -91,12 +83,11 @@ module _ (m : Mode) (t : List ℕ) (i e : ℕ) where
   unfolding finished fills.filledOf
   quick u h q = rw (rw part at u, unread h q (readPayload m (suc i) (payloadOf t i e)) refl)
 
-  pub filled : isUtf8 (take (e - (i + 1)) (drop (i + 1) t)) ≡ true → length t ≤ maxText → {f : Filled} → f ≡ fills.fillAt m t (i + 1) e → record { answer = answerBy (f .outcome) (e + 1); set = f .set } ≡ readTo m t i (At e)
+  pub filled : isUtf8 (take (e - (i + 1)) (drop (i + 1) t)) ≡ true → length t ≤ maxText → {f : Filled} → f ≡ fills.fillAt m t (i + 1) e → finished f (e + 1) ≡ readTo m t i (At e)
   unfolding fills.fillAt
   filled u h {f} k =
       let z : f ≡ fills.filledOf m (one t) (suc i) (payloadOf t i e) = k ∙ (rw (le-ltb maxText (length t) h, add-one i)) in
-      let y : Settled f = rw k (fill-settled m t (i + 1) e) in
-      handed y (e + 1) ∙ (rw (rw part at u, z, add-one e))
+      rw (rw part at u, z, add-one e)
 
 -- ---- the range that is handed back lies in the text
 pub record Inside (t : List ℕ) (r : Range) : Type 0 where

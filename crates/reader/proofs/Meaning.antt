@@ -34,9 +34,10 @@ use Rattle.sets.specs.Puts.{putsIn}
 use Rattle.sets.proofs.Slots.{slots-fit}
 use Rattle.sets.proofs.Meant.{shaped-none}
 use Rattle.sets.proofs.Items.{rows-mean, rows-shaped}
-use Rattle.sets.proofs.Whole.{table-means, past-classes, past-keys, past-slots, empty-table, empty-means}
+use Rattle.sets.proofs.Whole.{table-means, empty-table, empty-means}
 use Rattle.sets.proofs.Table.{padded-length}
 use Rattle.fill.specs.Fill as fills
+use Rattle.fill.proofs.Zeroed.{Zeroed, table-zeroed}
 use Rattle.reader.specs.declared.Answer.{Answer}
 use Rattle.reader.specs.declared.Answer.the-variants.{Refused, Next}
 use Rattle.reader.specs.declared.Read.{Read}
@@ -248,9 +249,7 @@ pub record Tidy (a : Attrs) : Type 0 where
   pub classes : (a .nclass ≤ maxClasses) × (length (a .classes) ≡ maxClasses)
   pub keys : (a .nkey ≤ maxKeys) × (length (a .keys) ≡ maxKeys)
   pub slots : (a .norder ≤ maxSlots) × (length (a .order) ≡ maxSlots)
-  pub past-classes : (k : ℕ) → a .nclass ≤ k → getD (a .classes) k zeroValue ≡ zeroValue
-  pub past-keys : (k : ℕ) → a .nkey ≤ k → getD (a .keys) k zeroRow ≡ zeroRow
-  pub past-slots : (k : ℕ) → a .norder ≤ k → getD (a .order) k zeroSlot ≡ zeroSlot
+  pub past : Zeroed a
 
 tidy-table : (s : Rows) → length (s .classes) ≤ maxClasses → length (s .keys) ≤ maxKeys → length (s .order) ≤ maxSlots → Tidy (tableOf s)
 unfolding tableOf
@@ -259,9 +258,7 @@ tidy-table s c k o =
       classes = (c, padded-length maxClasses zeroValue (s .classes) c);
       keys = (k, padded-length maxKeys zeroRow (s .keys) k);
       slots = (o, padded-length maxSlots zeroSlot (map held (s .order)) (rw length-map o));
-      past-classes = past-classes s;
-      past-keys = past-keys s;
-      past-slots = past-slots s;
+      past = table-zeroed s;
     }
 
 module _ (m : Mode) (t : List ℕ) (i : ℕ) where

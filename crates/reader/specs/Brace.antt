@@ -14,7 +14,6 @@ use Rattle.grammar.specs.Close.{findClose}
 use Rattle.grammar.specs.declared.Place.{Place}
 use Rattle.grammar.specs.declared.Place.the-variants.{Nothing, At}
 use Rattle.sets.specs.Types.{one, emptySet}
-use Rattle.sets.specs.declared.Attrs.{Attrs}
 use Rattle.fill.specs.Fill.{filledOf}
 use Rattle.fill.specs.declared.Filled.{Filled}
 use Rattle.fill.specs.declared.Outcome as outcomes
@@ -33,7 +32,7 @@ answerNo (Next n) = 0
 abbrev pub refusing : Refusal → Read
 refusing r = record { answer = Refused r; set = emptySet }
 
--- "no `{` at the place"
+-- a `{` stands there; else 3: "no `{` at the place"
 unfoldable pub braceAt : List ℕ → ℕ → Bool
 braceAt t i = ltb i (length t) && eqb (getD t i 0) 123
 
@@ -41,13 +40,14 @@ braceAt t i = ltb i (length t) && eqb (getD t i 0) 123
 abbrev pub payloadOf : List ℕ → ℕ → ℕ → List ℕ
 payloadOf t i e = slice (suc i) e t
 
--- the set, and the place behind the close
-abbrev pub handedOut : outcomes.Outcome → Attrs → ℕ → Read
-handedOut (outcome.Refused r) s next = refusing r
-handedOut outcome.Done s next = record { answer = Next next; set = s }
+-- a refusal, or the place behind the close
+abbrev pub answerBy : outcomes.Outcome → ℕ → Answer
+answerBy (outcome.Refused r) next = Refused r
+answerBy outcome.Done next = Next next
 
+-- the set as it was filled: a refusal's is the empty one already
 unfoldable pub finished : Filled → ℕ → Read
-finished f next = handedOut (f .outcome) (f .set) next
+finished f next = record { answer = answerBy (f .outcome) next; set = f .set }
 
 -- 4, then 2 of the payload alone, then 5 to 8
 abbrev pub readTo : Mode → List ℕ → ℕ → Place → Read

@@ -1,4 +1,3 @@
 -- The definitions that the contracts of reader cite.
 pub mod Brace
 pub mod Table
-pub mod Steps

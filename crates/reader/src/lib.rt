@@ -14,8 +14,7 @@ ghost use Rattle.ascii.specs.declared.Mode.the-variants.{Strict};
 ghost use Rattle.refusals.specs.Numbers.{maxText};
 ghost use Rattle.grammar.specs.Close.{findClose};
 ghost use Rattle.grammar.specs.declared.Place.the-variants.{At};
-ghost use Rattle.reader.specs.Brace.{refusing, braceAt, readTo, readAttrsAt, partTo, payloadAt};
-ghost use Rattle.reader.specs.Steps.{answerBy};
+ghost use Rattle.reader.specs.Brace.{refusing, braceAt, answerBy, finished, readTo, readAttrsAt, partTo, payloadAt};
 
 // A refusal, or the place behind the block.
 pub enum Answer {
@@ -63,7 +62,7 @@ fn answer_of(outcome: Outcome, next: usize) -> Answer
 
 // The set is handed on as it was filled: a refusal's is the empty one already.
 fn handed_out(filled: Filled, next: usize) -> Read
-    ensures { λ r. ⌜ r ≡ record { answer = answerBy (filled .outcome) next; set = filled .set } ⌝ }
+    ensures { λ r. ⌜ r ≡ finished filled next ⌝ }
 {
     let outcome = filled.outcome;
     let set = filled.set;

@@ -9,6 +9,8 @@ use borrow.Author.Tests.{lt-ltb, le-ltb, ltb-false}
 use lib.Dec.{eqb, ltb}
 use lib.ListN.{length, drop}
 use lib.Seq.{take-at, take-length}
+use Rattle.payloads.specs.Payloads.{opens}
+use Rattle.lists.specs.Lists.{over, beginsPair}
 use Rattle.lists.proofs.More.{contra}
 use Rattle.utf8.specs.Utf8.{isUtf8}
 use Rattle.refusals.specs.Numbers.{maxText}
@@ -27,7 +29,7 @@ use Rattle.lines.proofs.Lines.{lines-end, line-found}
 use Rattle.columns.specs.Columns.{indentColumns, capped}
 use Rattle.columns.proofs.Laws.{indent-le, indent-whole}
 use Rattle.chain.specs.Chain.{goodLine}
-use Rattle.runs.specs.Runs.{Run, runOf, over}
+use Rattle.runs.specs.Runs.{Run, runOf}
 use Rattle.refused.specs.declared.Answer.{Answer}
 use Rattle.refused.specs.declared.Answer.the-variants.{No, Refused}
 use Rattle.refused.specs.declared.RefusedRun.{RefusedRun}
@@ -35,7 +37,6 @@ use Rattle.refused.specs.declared.Ran.{Ran}
 use Rattle.refused.specs.declared.Walk.{Walk}
 use Rattle.refused.specs.declared.Walk.the-variants as walks
 use Rattle.refused.specs.Refused.{Found, commentFrom, Told, unjoined, answerBy, judged, foundIn, refusedOf, refusedAt, refusedRun, handedOut}
-use Rattle.spots.specs.Spots.{opens, beginsPair}
 use Rattle.refused.specs.Shown.{walkAt, shownWalk, isBlock, linesIn, paddedRun, ranOf}
 use Rattle.refused.proofs.Walking.{line, line-in, line-first, line-long}
 

@@ -7,6 +7,7 @@ use Prim.Native.Nat.{ℕ, suc, _-_, _≤_, zero-le}
 use native.Mathlib.Omega.{arith}
 use lib.Dec.{ltb}
 use lib.ListN.{length, drop, length-drop}
+use Rattle.payloads.specs.Payloads.{opens}
 use Rattle.checks.specs.Check.{checkOf}
 use Rattle.checks.specs.declared.Check as checks
 use Rattle.checks.specs.declared.Check.the-variants as check
@@ -15,14 +16,14 @@ use Rattle.lines.specs.Lines.{lines, lineOf}
 use Rattle.lines.specs.declared.Line as places
 use Rattle.lines.specs.declared.Line.the-variants as place
 use Rattle.lines.proofs.Trim.{trim-start}
-use Rattle.lists.specs.Lists.{run}
+use Rattle.lists.specs.Lists.{run, beginsPair}
 use Rattle.ascii.specs.Bytes.{isSpace}
 use Rattle.columns.specs.Columns.{indentColumns}
 use Rattle.runs.specs.Runs.{Lined, asIs, runOf, sizes, start}
 use Rattle.runs.proofs.Bounds.{lookahead-sum, sizes-take, sizes-lines, costs, grows, costs-lines}
 use Rattle.spots.specs.declared.Spot.{Spot}
 use Rattle.refused.specs.declared.Answer.the-variants.{No}
-use Rattle.spots.specs.Spots.{isStray, spotAfter, opens, beginsPair}
+use Rattle.spots.specs.Spots.{isStray, spotAfter}
 use Rattle.refused.specs.Refused.{Found, onto, walkLine, On, halts, padded, enteredAt, onAfter, behind, walkFrom, onFirst, Told, unjoined, foundIn, commentFrom, refusedOf, refusedBy, refusedRun}
 use Rattle.refused.specs.Shown.{linesIn}
 use Rattle.lists.proofs.More.{or-right}

@@ -10,11 +10,12 @@ use borrow.Author.Tests.{ne-eqb, lt-ltb, le-ltb}
 use lib.Dec.{eqb}
 use lib.ListN.{length, getD, drop, drop-of-length-le}
 use lib.Seq.{drop-cons}
+use Rattle.payloads.specs.Payloads.{opens}
 use Rattle.lines.specs.Trim.{isBlankLine}
 use Rattle.columns.proofs.Laws.{after-le}
 use Rattle.scanners.specs.Scanners.{columnBehind}
 use Rattle.spots.specs.declared.Spot.{Spot}
-use Rattle.spots.specs.Spots.{spotAfter, opens}
+use Rattle.spots.specs.Spots.{spotAfter}
 use Rattle.refused.specs.Refused.{halts}
 use Rattle.refused.specs.Shown.{spotsFrom}
 

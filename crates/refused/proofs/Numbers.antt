@@ -9,6 +9,8 @@ use native.Mathlib.Omega.{arith}
 use borrow.Author.Tests.{eqb-true}
 use lib.Dec.{eqb, ltb}
 use lib.ListN.{length, drop, length-map}
+use Rattle.payloads.specs.Payloads.{opens}
+use Rattle.lists.specs.Lists.{beginsPair}
 use Rattle.lists.proofs.More.{contra}
 use Rattle.utf8.specs.Utf8.{isUtf8}
 use Rattle.refusals.specs.Numbers.{maxText, numberOf}
@@ -23,7 +25,7 @@ use Rattle.columns.specs.Columns.{indentColumns}
 use Rattle.runs.specs.Runs.{asIs, Run, stopNo, runOf}
 use Rattle.runs.specs.declared.Stop as stops
 use Rattle.runs.specs.declared.Stop.the-variants as stop
-use Rattle.spots.specs.Spots.{opens, shallowOr, beginsPair, closesComment}
+use Rattle.spots.specs.Spots.{shallowOr, closesComment}
 use Rattle.refused.specs.declared.Answer.{Answer}
 use Rattle.refused.specs.declared.Answer.the-variants.{No, Lines, NoEnd, Refused}
 use Rattle.refused.specs.Refused.{answerNo, answerLines, Found, walkFrom, onFirst, unjoined, answerBy, foundIn, commentBy, commentFrom, refusedOf, refusedBy, refusedRun}

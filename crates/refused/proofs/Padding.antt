@@ -10,7 +10,7 @@ use borrow.Author.Tests.{leb-true, leb-false}
 use lib.Dec.{eqb, leb}
 use lib.ListN.{length, take, drop, length-append}
 use lib.Seq.{sets, length-sets, length-slice}
-use Rattle.lists.specs.Lists.{run}
+use Rattle.lists.specs.Lists.{run, over}
 use Rattle.lists.proofs.More.{contra}
 use Rattle.lists.proofs.Parts.{slice-part}
 use Rattle.ascii.specs.Bytes.{isSpace}
@@ -28,7 +28,7 @@ use Rattle.runs.specs.declared.Stop.the-variants.{Closed, Refused}
 use Rattle.joins.specs.declared.State.{State}
 use Rattle.joins.specs.declared.Step.{Step}
 use Rattle.joins.specs.declared.Step.the-variants.{Broken, Full, Go, Closes}
-use Rattle.runs.specs.Runs.{Lined, So, start, Run, ended, isFirst, after, runFrom, over}
+use Rattle.runs.specs.Runs.{Lined, So, start, Run, ended, isFirst, after, runFrom}
 use Rattle.joins.specs.Joins.{added, stepOf, laid, joinAfter}
 use Rattle.runs.proofs.Joining.{Shows, Meets, meets, over-long, over-sets}
 use Rattle.spots.specs.declared.Spot.{Spot}

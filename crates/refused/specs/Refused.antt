@@ -4,6 +4,7 @@ use mathlib.Core.Bool.{Bool, true, false, cond, _&&_, _||_, not}
 use mathlib.Core.List.{List, [], _∷_}
 use lib.Dec.{eqb, ltb}
 use lib.ListN.{length, drop}
+use Rattle.payloads.specs.Payloads.{opens}
 use Rattle.checks.specs.Check.{checkOf}
 use Rattle.checks.specs.declared.Check as checks
 use Rattle.checks.specs.declared.Check.the-variants as check
@@ -20,7 +21,7 @@ use Rattle.runs.specs.Runs.{Lined, Run, runOf}
 use Rattle.runs.specs.declared.Stop as stops
 use Rattle.runs.specs.declared.Stop.the-variants as stop
 use Rattle.spots.specs.declared.Spot.{Spot}
-use Rattle.spots.specs.Spots.{isStray, spotAfter, opens, shallowOr, beginsPair, closesComment}
+use Rattle.spots.specs.Spots.{isStray, spotAfter, shallowOr, closesComment, opensComment}
 use Rattle.refused.specs.declared.Answer.{Answer}
 use Rattle.refused.specs.declared.Answer.the-variants.{No, Lines, NoEnd, Refused}
 use Rattle.refused.specs.declared.RefusedRun.{RefusedRun}
@@ -144,7 +145,7 @@ unfoldable pub refusedOf : ℕ → List (List ℕ) → Told
 refusedOf cap [] = unjoined (No 0)
 refusedOf cap (l ∷ ls) =
     cond (opens l)
-    (cond (beginsPair 123 37 (trimStart l)) (unjoined (commentFrom (indentColumns l) 0 false (l ∷ ls)))
+    (cond (opensComment l) (unjoined (commentFrom (indentColumns l) 0 false (l ∷ ls)))
     (foundIn cap (walkFrom (indentColumns l) (onFirst (indentColumns l)) (l ∷ ls))))
     (unjoined (No 0))
 

@@ -1,7 +1,7 @@
 -- What private functions promise as they walk over a run: nothing that a reader of the public promises has to believe.
 use Prim.Native.Nat.{ℕ}
 use mathlib.Core.Bool.{Bool, true, false}
-use mathlib.Core.List.{List, [], _∷_}
+use mathlib.Core.List.{List, [], foldl}
 use lib.ListN.{length, drop}
 use Rattle.lines.specs.Lines.{lines}
 use Rattle.runs.specs.Runs.{Lined, Run, runOf}
@@ -14,8 +14,7 @@ use Rattle.spots.specs.Spots.{spotAfter}
 
 -- over a line without a stray brace
 unfoldable pub spotsFrom : Spot → List ℕ → Spot
-spotsFrom p [] = p
-spotsFrom p (b ∷ s) = spotsFrom (spotAfter p b) s
+spotsFrom p s = foldl spotAfter p s
 
 unfoldable pub walkAt : ℕ → List ℕ → ℕ → Found
 walkAt opener t at = walkFrom opener (onFirst opener) (lines (drop at t))

@@ -2,13 +2,14 @@
 -- Assumes nothing.
 use mathlib.Core.Path.{_≡_, refl, sym, _∙_, ap}
 use mathlib.Core.Bool.{Bool, true, false, cond}
-use mathlib.Core.List.{List, [], _∷_, _++_, append-assoc, append-nil}
+use mathlib.Core.List.{List, [], _∷_, _++_, append-assoc, append-nil, flatMap}
 use Prim.Native.Nat.{ℕ, zero, suc, _+_, _-_, _≤_, _<_}
 use native.Mathlib.Omega.{arith}
 use borrow.Author.Tests.{ltb-true, ltb-false, le-ltb}
 use lib.Dec.{ltb}
 use lib.ListN.{length, take, drop, length-append}
 use lib.Seq.{take-append-seam}
+use Rattle.lists.specs.Lists.{over}
 use Rattle.utf8.specs.Utf8.{isUtf8}
 use Rattle.refusals.specs.Numbers.{maxText}
 use Rattle.refusals.specs.declared.Refusal.the-variants.{TextTooLong, NotUtf8}
@@ -17,7 +18,7 @@ use Rattle.checks.specs.declared.Check as checks
 use Rattle.checks.specs.declared.Check.the-variants as check
 use Rattle.lines.specs.Lines.{lineFrom}
 use Rattle.lines.proofs.Lines.{next-beyond}
-use Rattle.runs.specs.Runs.{over, pastLines}
+use Rattle.runs.specs.Runs.{pastLines}
 use Rattle.blocks.specs.Blocks.{Found, linesOf}
 use Rattle.lengths.specs.Lengths.{flushLeft}
 use Rattle.sheets.specs.Sheets.{Try, triesAt, isBlock, onlyBlocks}
@@ -34,7 +35,7 @@ use Rattle.report.proofs.Lays.{lay-on, lay-here, lay-stop}
 -- ---- the report of tries
 
 report-first : (t : List ℕ) (x : Try) (xs : List Try) → reportOf t (onlyBlocks (x ∷ xs)) ≡ tryLine t x ++ reportOf t (onlyBlocks xs)
-unfolding onlyBlocks reportOf tryLine
+unfolding onlyBlocks reportOf flatMap tryLine
 report-first t x xs = go (isBlock (x .found))
   where
     go : (b : Bool) → reportOf t (cond b (x ∷ onlyBlocks xs) (onlyBlocks xs)) ≡ cond b (blockLine t x) [] ++ reportOf t (onlyBlocks xs)
@@ -42,7 +43,7 @@ report-first t x xs = go (isBlock (x .found))
     go false = refl
 
 report-append : (t : List ℕ) (xs ys : List Try) → reportOf t (onlyBlocks (xs ++ ys)) ≡ reportOf t (onlyBlocks xs) ++ reportOf t (onlyBlocks ys)
-unfolding onlyBlocks reportOf
+unfolding onlyBlocks reportOf flatMap
 report-append t [] ys = refl
 report-append t (x ∷ xs) ys =
     report-first t x (xs ++ ys) ∙ ap (λ (l : List ℕ). tryLine t x ++ l) (report-append t xs ys)
@@ -50,7 +51,7 @@ report-append t (x ∷ xs) ys =
 
 -- what a call lays is the report of the tries that it goes past
 pub lay-text : (t : List ℕ) (room : ℕ) (xs : List Try) → layFrom t room xs .text ≡ reportOf t (onlyBlocks (layFrom t room xs .past))
-unfolding layFrom onlyBlocks reportOf
+unfolding layFrom onlyBlocks reportOf flatMap
 lay-text t room [] = refl
 lay-text t room (x ∷ xs) = go (ltb room maxLine) (lay-text t (room - length (tryLine t x)) xs)
   where

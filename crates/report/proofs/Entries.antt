@@ -10,6 +10,7 @@ use borrow.Author.Tests.{eq-eqb, eqb-true, le-leb, lt-leb, leb-true, le-ltb, lt-
 use lib.Dec.{eqb, leb, ltb}
 use lib.ListN.{length, getD, drop, length-drop}
 use lib.Seq.{sets-eq, getD-drop}
+use Rattle.lists.specs.Lists.{over}
 use Rattle.lists.proofs.Scan.{both}
 use Rattle.refusals.specs.Numbers.{maxText}
 use Rattle.refusals.specs.declared.Refusal.{Refusal}
@@ -18,7 +19,7 @@ use Rattle.checks.specs.Check.{checkOf}
 use Rattle.checks.specs.declared.Check as checks
 use Rattle.checks.specs.declared.Check.the-variants as check
 use Rattle.lines.specs.Lines.{eol, lineFrom}
-use Rattle.runs.specs.Runs.{over, pastLines}
+use Rattle.runs.specs.Runs.{pastLines}
 use Rattle.sheets.specs.Sheets.{triesAt, joinBehind}
 use Rattle.report.specs.declared.Told.{Told}
 use Rattle.report.specs.declared.Told.the-variants.{Refused, Done}

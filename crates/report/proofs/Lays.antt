@@ -10,6 +10,7 @@ use borrow.Author.Tests.{le-ltb, lt-ltb}
 use lib.Dec.{eqb, eqb·suc-zero}
 use lib.ListN.{length, take, drop, length-append}
 use lib.Seq.{take-append-seam}
+use Rattle.lists.specs.Lists.{over}
 use Rattle.lists.proofs.More.{contra}
 use Rattle.refusals.specs.Numbers.{maxText}
 use Rattle.chain.specs.Chain.{readBlocks, blocksFrom, goodLine}
@@ -20,7 +21,6 @@ use Rattle.sets.specs.Rows.{meaningOf}
 use Rattle.sets.specs.declared.Attrs.{Attrs}
 use Rattle.fill.specs.declared.Outcome as outcomes
 use Rattle.fill.specs.declared.Outcome.the-variants as outcome
-use Rattle.runs.specs.Runs.{over}
 use Rattle.runs.proofs.Joining.{over-long, over-sets}
 use Rattle.blocks.specs.Blocks.{Found, joinedIn, textIn, joinHolds, blockOf}
 use Rattle.lengths.specs.Lengths.{flushLeft}

@@ -64,8 +64,8 @@ abbrev pub beginsLine : List ℕ → ℕ → Bool
 beginsLine t zero = true
 beginsLine t (suc i) = eqb (getD t i 0) 10
 
--- "no such line": a line begins at the place, and its number can be n, since each line before it has a byte. Behind the last line there is nothing to report, and the
--- report is whole.
+-- "no such line": a line begins at the place, and its number can be n, since each line before it has a byte. Behind an LF that ends the text no line begins: there
+-- nothing is left to report, and the report is whole.
 abbrev pub mayBegin : List ℕ → ℕ → ℕ → Bool
 mayBegin t at n = leb at (length t) && (leb 1 n && (leb n (suc at) && beginsLine t at))
 

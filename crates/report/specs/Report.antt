@@ -1,7 +1,7 @@
 -- "The sheet program": what is written for a sheet.
 use Prim.Native.Nat.{ℕ}
 use mathlib.Core.Bool.{cond}
-use mathlib.Core.List.{List, [], _∷_, _++_}
+use mathlib.Core.List.{List, [], _∷_, _++_, flatMap}
 use lib.Dec.{ltb}
 use lib.ListN.{length}
 use Rattle.refusals.specs.Numbers.{maxText, numberOf}
@@ -55,8 +55,7 @@ blockLine t x = lineBy (x .line) (linesOf (x .found)) (textIn t (x .found)) (fil
 
 -- "On a block it writes ..": a line for each
 unfoldable pub reportOf : List ℕ → List Try → List ℕ
-reportOf t [] = []
-reportOf t (x ∷ xs) = blockLine t x ++ reportOf t xs
+reportOf t xs = flatMap (blockLine t) xs
 
 -- "For 1 or 2 the only output is `refused`, 0, 0, number."
 abbrev pub reportBy : List ℕ → checks.Check → List ℕ

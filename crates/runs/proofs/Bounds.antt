@@ -15,7 +15,7 @@ use Rattle.lists.proofs.Scan.{run-le}
 use Rattle.lists.proofs.More.{contra}
 use Rattle.ascii.specs.Bytes.{isSpace, isIndent}
 use Rattle.lines.specs.Trim.{trim}
-use Rattle.lines.specs.Lines.{onLine, isDropped, lines}
+use Rattle.lines.specs.Lines.{onto, isDropped, lines}
 use Rattle.lines.proofs.Trim.{trim-rest, trim-end-le}
 use Rattle.columns.specs.Columns.{indentFrom, capped, most}
 use Rattle.columns.proofs.Laws.{capped-id, capped-le, capped-top, indent-front, columns-le}
@@ -92,7 +92,7 @@ unfolding sizes lines
 sizes-lines [] = zero-le
 sizes-lines (b ∷ s) = go (eqb b 10) (isDropped b s) (lines s) (sizes-lines s)
   where
-    go : (x y : Bool) (ls : List (List ℕ)) → sizes (map asIs ls) ≤ length s → sizes (map asIs (onLine x y b ls)) ≤ length (b ∷ s)
+    go : (x y : Bool) (ls : List (List ℕ)) → sizes (map asIs ls) ≤ length s → sizes (map asIs (cond x ([] ∷ ls) (cond y ls (onto b ls)))) ≤ length (b ∷ s)
     go true y ls h = omega arith
     go false true ls h = omega arith
     go false false [] h = omega arith
@@ -167,7 +167,7 @@ unfolding costs lines
 costs-lines [] = zero-le
 costs-lines (b ∷ s) = go (eqb b 10) (isDropped b s) (lines s) (costs-lines s)
   where
-    go : (x y : Bool) (ls : List (List ℕ)) → costs (map asIs ls) ≤ suc (length s) → costs (map asIs (onLine x y b ls)) ≤ suc (length (b ∷ s))
+    go : (x y : Bool) (ls : List (List ℕ)) → costs (map asIs ls) ≤ suc (length s) → costs (map asIs (cond x ([] ∷ ls) (cond y ls (onto b ls)))) ≤ suc (length (b ∷ s))
     go true y ls h = omega arith
     go false true ls h = omega arith
     go false false [] h = omega arith

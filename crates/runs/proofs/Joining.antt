@@ -10,7 +10,7 @@ use borrow.Author.Tests.{eqb-false, ne-eqb, ltb-false, not-true}
 use lib.Dec.{eqb, ltb}
 use lib.ListN.{length, take, drop, length-append, length-drop}
 use lib.Seq.{length-slice, take-at, drop-at, drop-drop, sets, sets-eq, length-sets}
-use Rattle.lists.specs.Lists.{isIn}
+use Rattle.lists.specs.Lists.{isIn, over}
 use Rattle.lists.proofs.Scan.{both}
 use Rattle.lists.proofs.Parts.{slice-part}
 use Rattle.lines.specs.declared.LineEnd.{LineEnd}
@@ -32,7 +32,7 @@ use Rattle.joins.specs.declared.State.{State}
 use Rattle.joins.specs.declared.Step.{Step}
 use Rattle.joins.specs.declared.Step.the-variants.{Broken, Full, Go, Closes}
 use Rattle.runs.specs.declared.Joined.{Joined}
-use Rattle.runs.specs.Runs.{Lined, asIs, So, start, Run, ended, isFirst, mayJoin, after, runFrom, runAt, pastLines, joinedOf, over}
+use Rattle.runs.specs.Runs.{Lined, asIs, So, start, Run, ended, isFirst, mayJoin, after, runFrom, runAt, pastLines, joinedOf}
 use Rattle.joins.specs.Joins.{passes, spaced, added, braceAfter, nextState, isLast, lengthAfter, stepOf, laid, joinAfter}
 
 -- ---- one line, by code and by definition

@@ -20,7 +20,7 @@ use Rattle.utf8.proofs.Laws.{past-ascii}
 use Rattle.utf8.proofs.Grammar.{utf8-append}
 use Rattle.utf8.proofs.Boundaries.{parts, before-ascii, after-ascii}
 use Rattle.lines.specs.Trim.{trim, trimStart, trimEnd}
-use Rattle.lines.specs.Lines.{onLine, isDropped, lines, eol, firstOf, lineFrom, rangesFrom, ranges, pick, lineOf}
+use Rattle.lines.specs.Lines.{onto, isDropped, lines, eol, firstOf, lineFrom, rangesFrom, ranges, pick, lineOf}
 use Rattle.lines.specs.declared.Range.{Range}
 use Rattle.lines.specs.declared.Line.{Line}
 use Rattle.lines.specs.declared.Line.the-variants.{Missing, At}
@@ -78,7 +78,7 @@ unfolding Each lines all
 no-lf-lines [] = refl
 no-lf-lines (b ∷ s) = go (eqb b 10) refl (isDropped b s) (lines s) (no-lf-lines s)
   where
-    go : (x : Bool) → eqb b 10 ≡ x → (y : Bool) (ls : List (List ℕ)) → Each NoLf (map asIs ls) → Each NoLf (map asIs (onLine x y b ls))
+    go : (x : Bool) → eqb b 10 ≡ x → (y : Bool) (ls : List (List ℕ)) → Each NoLf (map asIs ls) → Each NoLf (map asIs (cond x ([] ∷ ls) (cond y ls (onto b ls))))
     go true e y ls h = (refl, h)
     go false e true ls h = h
     go false e false [] h = (rw e, h)

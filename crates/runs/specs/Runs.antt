@@ -110,10 +110,6 @@ abbrev pub joinedOf : List ℕ → ℕ → Run → Joined
 joinedOf t at r =
     record { stop = r .stop; len = length (r .text); lines = r .lines; lookahead = r .lookahead; next = pastLines (r .lines) t at }
 
--- "After every call the join buffer holds the joined lines at its front, the rest untouched"
-abbrev pub over : List ℕ → List ℕ → List ℕ
-over xs buf = xs ++ drop (length xs) buf
-
 -- the untrimmed lengths of lines together
 unfoldable pub sizes : List Lined → ℕ
 sizes [] = 0

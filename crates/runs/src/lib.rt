@@ -5,8 +5,9 @@ use joins::Step;
 use refusals::Refusal;
 ghost use mathlib.Core.Path.{_≡_};
 ghost use lib.ListN.{length};
+ghost use Rattle.lists.specs.Lists.{over};
 ghost use Rattle.runs.specs.declared.Stop.the-variants.{Closed, Refused};
-ghost use Rattle.runs.specs.Runs.{runAt, joinedOf, over};
+ghost use Rattle.runs.specs.Runs.{runAt, joinedOf};
 
 // How a run ends.
 pub enum Stop {

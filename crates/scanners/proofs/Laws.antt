@@ -2,7 +2,7 @@
 -- Assumes nothing.
 use mathlib.Core.Path.{_≡_, refl, sym, _∙_, ap}
 use mathlib.Core.Bool.{Bool, true, false, cond, _&&_}
-use mathlib.Core.List.{List, [], _∷_, _++_}
+use mathlib.Core.List.{List, [], _∷_, _++_, foldl-append}
 use Prim.Native.Nat.{ℕ, suc, _+_, _<_, _≤_}
 use native.Mathlib.Numerals.{add-one}
 use lib.Dec.{eqb}
@@ -27,18 +27,15 @@ use Rattle.scanners.specs.Steps.{cappedSeek}
 
 pub scan-append : (o : Bool) (st : Scan) (a b : List ℕ) → scanFrom o st (a ++ b) ≡ scanFrom o (scanFrom o st a) b
 unfolding scanFrom
-scan-append o st [] b = refl
-scan-append o st (x ∷ a) b = scan-append o (passed o st x) a b
+scan-append o = foldl-append (passed o)
 
 pub seek-append : (k : Seek) (a b : List ℕ) → seekFrom k (a ++ b) ≡ seekFrom (seekFrom k a) b
 unfolding seekFrom
-seek-append k [] b = refl
-seek-append k (x ∷ a) b = seek-append (seekStep k x) a b
+seek-append = foldl-append seekStep
 
 pub hold-append : (h : Hold) (a b : List ℕ) → holdFrom h (a ++ b) ≡ holdFrom (holdFrom h a) b
 unfolding holdFrom
-hold-append h [] b = refl
-hold-append h (x ∷ a) b = hold-append (holdStep h x) a b
+hold-append = foldl-append holdStep
 
 pub holds-append : (a b : List ℕ) → holdsOpen (a ++ b) ≡ isHeld (holdFrom (holdFrom holdStart a) b)
 unfolding holdsOpen

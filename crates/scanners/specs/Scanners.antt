@@ -1,7 +1,7 @@
 -- The three scanners of wrapped runs, each a left fold over the bytes. They are defined for any bytes; on UTF-8 text they go by characters: what
 -- a character's first byte does, the character does, and its later bytes do nothing.
 use mathlib.Core.Bool.{Bool, true, false, cond, not, _&&_, _||_}
-use mathlib.Core.List.{List, [], _∷_}
+use mathlib.Core.List.{List, foldl}
 use Prim.Native.Nat.{ℕ}
 use lib.Dec.{eqb}
 use Rattle.columns.specs.Columns.{columnAfter, capped}
@@ -34,8 +34,7 @@ passed outside st b =
 
 -- a text, byte by byte
 unfoldable pub scanFrom : Bool → Scan → List ℕ → Scan
-scanFrom outside st [] = st
-scanFrom outside st (b ∷ s) = scanFrom outside (passed outside st b) s
+scanFrom outside st s = foldl (passed outside) st s
 
 -- "`open_quote_at_end` honours a backslash outside quotes; `last_open_brace_column` and `holds_open_attr_block` don't."
 abbrev pub honoured : Bool
@@ -68,8 +67,7 @@ seekStep k b =
     }
 
 unfoldable pub seekFrom : Seek → List ℕ → Seek
-seekFrom k [] = k
-seekFrom k (b ∷ s) = seekFrom (seekStep k b) s
+seekFrom k s = foldl seekStep k s
 
 -- the first byte stands in the quote q and in column `start`
 abbrev pub seekStart : Quote → ℕ → Seek
@@ -100,8 +98,7 @@ holdStep Dead b = Dead
 holdStep (Live h) b = heldStep h b
 
 unfoldable pub holdFrom : Hold → List ℕ → Hold
-holdFrom h [] = h
-holdFrom h (b ∷ s) = holdFrom (holdStep h b) s
+holdFrom h s = foldl holdStep h s
 
 abbrev pub holdStart : Hold
 holdStart = live fresh false

@@ -2,29 +2,29 @@
 -- Assumes nothing.
 use mathlib.Core.Path.{_≡_, refl, sym, _∙_, ap}
 use mathlib.Core.Bool.{Bool, true, false, cond}
-use mathlib.Core.List.{List, [], _∷_, _++_, map, map-append, map-id, append-assoc}
+use mathlib.Core.List.{List, [], _∷_, _++_, map, map-append, map-id, append-assoc, flatMap}
 use Prim.Native.Nat.{ℕ, _+_, _-_}
 use native.Mathlib.Omega.{arith}
 use lib.ListN.{length, take, drop, length-append}
 use lib.Seq.{take-append-seam}
-use Rattle.lists.specs.Lists.{same}
+use Rattle.lists.specs.Lists.{all, same}
 use Rattle.lists.proofs.Parts.{slice-part, slice-add, drop-past}
-use Rattle.lists.proofs.Scan.{both}
+use Rattle.lists.proofs.Scan.{all-append}
 use Rattle.lists.proofs.Same.{same-refl, same-true}
 use Rattle.lists.proofs.More.{contra}
 use Rattle.ascii.specs.declared.Mode.{Mode}
 use Rattle.escapes.specs.Unescape.{unescape}
 use Rattle.grammar.specs.Grammar.{Item, Placed}
 use Rattle.grammar.specs.Read.{Reading, text, readPayload}
-use Rattle.grammar.specs.Meaning.{Entry, Range, rangesFrom, piecesFrom, classesOf, valuesOf, isClass, idName, className, said, putAt, put, puts, entriesOf, meaning, orWhole}
+use Rattle.grammar.specs.Meaning.{Entry, Range, rangesFrom, piecesFrom, classesOf, valuesOf, isClass, idName, className, said, over, put, puts, entriesOf, meaning, orWhole}
 use Rattle.grammar.proofs.Payload.{sound}
 use Rattle.grammar.proofs.Places.{Standing, standing}
 use Rattle.grammar.proofs.Pieces.{cut, cut-pieces, unescapes, pieces-unescape}
 use Rattle.grammar.proofs.Views.{puts-append}
-use Rattle.sets.specs.Types.{Texts, one, rangeBytes, nameBytes, textBytes, valueBytes}
+use Rattle.sets.specs.Types.{one, rangeBytes, nameBytes, textBytes, valueBytes}
 use Rattle.sets.specs.Rows.{Rows, Put, noRows, withPuts, meant}
 use Rattle.sets.specs.Puts.{valueOf, pieceOf, byName, valued, putsOf, putsIn}
-use Rattle.sets.specs.Shape.{isFree, isAllowed, allAllowed, Shaped}
+use Rattle.sets.specs.Shape.{isFree, isAllowed, Shaped}
 use Rattle.sets.specs.declared.Text.{Text}
 use Rattle.sets.specs.declared.Text.the-variants as texts
 use Rattle.sets.specs.declared.Name.the-variants as name
@@ -42,7 +42,7 @@ put-join [] n vs ws h = rw (same-refl n, h)
 put-join (e ∷ m) n vs ws h = go (same (e .name) n) refl (put-join m n vs ws h)
   where
     go : (b : Bool) → same (e .name) n ≡ b → put (put m (entry n vs)) (entry n ws) ≡ put m (entry n (vs ++ ws))
-        → put (putAt b e m (entry n vs) (put m (entry n vs))) (entry n ws) ≡ putAt b e m (entry n (vs ++ ws)) (put m (entry n (vs ++ ws)))
+        → put (cond b (over e vs ∷ m) (e ∷ put m (entry n vs))) (entry n ws) ≡ cond b (over e (vs ++ ws) ∷ m) (e ∷ put m (entry n (vs ++ ws)))
     go true q ih = rw (q, same-true (e .name) n q, h, append-assoc)
     go false q ih = rw (q, ih)
 
@@ -63,13 +63,13 @@ unescapes-map (p ∷ ps) = rw (unescapes-map ps)
 -- ======== the puts ps, over the text w, say the entry e
 record Says (w : List ℕ) (ps : List Put) (e : Entry) : Type 0 where
   means : (m : List Entry) → puts m (map (putEntry (one w)) ps) ≡ put m e
-  allowed : allAllowed (one w) ps ≡ true
+  allowed : all (isAllowed (one w)) ps ≡ true
 
 module _ (w : List ℕ) where
   -- under the name k, which stands at `at`, the text x says its bytes u, or its classes if the name is `class`
   by-name : (at : ℕ) (k rest : List ℕ) → drop at w ≡ k ++ rest → (x : Text) (u : List ℕ) → textBytes (one w) x ≡ u
       → (classes : List Put) → Says w classes (entry className (classesOf u)) → Says w (byName at k x classes) (entry k (valuesOf k u))
-  unfolding puts putEntry byName valuesOf isClass same nameBytes valueBytes allAllowed isAllowed isFree
+  unfolding puts putEntry byName valuesOf isClass same nameBytes valueBytes all isAllowed isFree
   by-name at k rest d x u e classes c = go (same k idName) refl (same k className) refl
     where
       go : (a : Bool) → same k idName ≡ a → (b : Bool) → same k className ≡ b
@@ -87,15 +87,15 @@ module _ (w : List ℕ) where
     pieces [] = refl
     pieces (r ∷ rs) = rw (reads (r .from) (r .to), slice-part (r .from) (r .to) w, pieces rs)
 
-    pieces-allowed : (rs : List Range) → allAllowed (one w) (map (pieceOf kind) rs) ≡ true
-    unfolding allAllowed isAllowed
+    pieces-allowed : (rs : List Range) → all (isAllowed (one w)) (map (pieceOf kind) rs) ≡ true
+    unfolding all isAllowed
     pieces-allowed [] = refl
     pieces-allowed (r ∷ rs) = pieces-allowed rs
 
     -- the value v of the key k stands at `from`
     value-says : (at : ℕ) (k rest : List ℕ) → drop at w ≡ k ++ rest → (from : ℕ) (v post : List ℕ) → drop from w ≡ v ++ post
         → Says w (valued at k kind from v) (entry k (valuesOf k (f v)))
-    unfolding valued classesOf puts putEntry valueBytes allAllowed isAllowed
+    unfolding valued classesOf puts putEntry valueBytes all isAllowed
     value-says at k rest d from v post e =
         let c : Says w (orWhole (Put.class (valueOf (kind from (from + length v)))) (map (pieceOf kind) (rangesFrom from from v))) (entry className (classesOf (f v))) = rw (splits v, ← cut-pieces w post v from e) (go (rangesFrom from from v)) in
         by-name at k rest d (kind from (from + length v)) (f v) is (orWhole (Put.class (valueOf (kind from (from + length v)))) (map (pieceOf kind) (rangesFrom from from v))) c
@@ -112,7 +112,7 @@ module _ (w : List ℕ) where
   word c at n rest d = range-is w n rest (at + 1) (drop-past w (c ∷ []) (n ++ rest) at (at + 1) d refl)
 
   says : (at : ℕ) (i : Item) (rest : List ℕ) → drop at w ≡ text i ++ rest → Says w (putsOf at i) (said i)
-  unfolding text putsOf said puts putEntry valueBytes nameBytes allAllowed isAllowed isFree same classesOf piecesFrom
+  unfolding text putsOf said puts putEntry valueBytes nameBytes all isAllowed isFree same classesOf piecesFrom
   says at (Item.tag t) rest d = record { means = λ m. rw (word 58 at t rest d); allowed = refl }
   says at (Item.id n) rest d = record { means = λ m. rw (word 35 at n rest d); allowed = refl }
   says at (Item.class n) rest d = record { means = λ m. rw (word 46 at n rest d); allowed = refl }
@@ -125,18 +125,13 @@ module _ (w : List ℕ) where
   says at (Item.bare n) rest d = by-name at n rest d texts.Empty [] refl (Put.class (valueOf texts.Empty) ∷ []) (record { means = λ m. refl; allowed = refl })
 
 -- ======== all items
-allowed-append : (t : Texts) (ps qs : List Put) → allAllowed t ps ≡ true → allAllowed t qs ≡ true → allAllowed t (ps ++ qs) ≡ true
-unfolding allAllowed
-allowed-append t [] qs a b = b
-allowed-append t (p ∷ ps) qs a b = let z = both (isAllowed t p) (allAllowed t ps) a in rw (z .0) (allowed-append t ps qs (z .1) b)
-
-pub items-allowed : {w : List ℕ} {is : List Placed} → Standing w is → allAllowed (one w) (putsIn is) ≡ true
-unfolding putsIn allAllowed
+pub items-allowed : {w : List ℕ} {is : List Placed} → Standing w is → all (isAllowed (one w)) (putsIn is) ≡ true
+unfolding putsIn flatMap all
 items-allowed Standing.none = refl
-items-allowed {w} (Standing.and {p = p} {is = is} rest d h) = allowed-append (one w) (putsOf (p .at) (p .item)) (putsIn is) (says w (p .at) (p .item) rest d .allowed) (items-allowed h)
+items-allowed {w} (Standing.and {p = p} {is = is} rest d h) = all-append (isAllowed (one w)) (putsOf (p .at) (p .item)) (putsIn is) (says w (p .at) (p .item) rest d .allowed) (items-allowed h)
 
 pub items-mean : {w : List ℕ} {is : List Placed} → Standing w is → (m : List Entry) → puts m (map (putEntry (one w)) (putsIn is)) ≡ puts m (entriesOf is)
-unfolding putsIn entriesOf puts
+unfolding putsIn flatMap entriesOf puts
 items-mean Standing.none m = refl
 items-mean {w} (Standing.and {p = p} {is = is} rest d h) m =
     rw (map-append, puts-append, says w (p .at) (p .item) rest d .means m) (items-mean h (put m (said (p .item))))

@@ -8,13 +8,13 @@ use native.Mathlib.Omega.{arith}
 use lib.Dec.{eqb}
 use lib.ListN.{length}
 use borrow.Author.Tests.{eqb-true, ltb-true, lt-ltb, le-ltb}
-use Rattle.lists.specs.Lists.{same}
+use Rattle.lists.specs.Lists.{all, same}
 use Rattle.lists.proofs.Scan.{both}
 use Rattle.lists.proofs.More.{contra, same-sym}
 use Rattle.grammar.specs.Meaning.{Entry, put, puts}
 use Rattle.sets.specs.Types.{Texts, nameBytes}
 use Rattle.sets.specs.Rows.{Rows, Put, noRows, slotUnless, withPut, withPuts, slotEntry, meant}
-use Rattle.sets.specs.Shape.{isSlot, times, isPresent, nameAt, isFree, isAllowed, allAllowed, Shaped}
+use Rattle.sets.specs.Shape.{isSlot, times, isPresent, nameAt, isFree, isAllowed, Shaped}
 use Rattle.sets.specs.declared.Name.{Name}
 use Rattle.sets.specs.declared.Row.{Row}
 use Rattle.sets.specs.declared.Slot.{Slot}
@@ -28,9 +28,9 @@ data All (s : Rows) : List Slot → Type 0 where
   none : All s []
   and : {y : Slot} {o : List Slot} → isPresent s y ≡ true → All s o → All s (y ∷ o)
 
-all : (s : Rows) (o : List Slot) → ((y : Slot) → 0 < times y o → isPresent s y ≡ true) → All s o
-all s [] h = All.none
-all s (y ∷ o) h = All.and (h y (omega (arith, times-head y o))) (all s o (λ z i. h z (omega (arith, times-le z y o))))
+each : (s : Rows) (o : List Slot) → ((y : Slot) → 0 < times y o → isPresent s y ≡ true) → All s o
+each s [] h = All.none
+each s (y ∷ o) h = All.and (h y (omega (arith, times-head y o))) (each s o (λ z i. h z (omega (arith, times-le z y o))))
 
 module _ {t : Texts} {s s′ : Rows} {x : Slot} {new : Entry} (g : Slotted t s s′ x new) where
   -- an order without x stays as it is, and what is new goes behind it
@@ -68,7 +68,7 @@ module _ {t : Texts} {s s′ : Rows} {x : Slot} {new : Entry} (g : Slotted t s s
   -- ---- the set behind the put
   module _ (h : Shaped t s) where
     all-present : All s (s .order)
-    all-present = all s (s .order) (λ y i. go y (isPresent s y) (h .once y) i)
+    all-present = each s (s .order) (λ y i. go y (isPresent s y) (h .once y) i)
       where
         go : (y : Slot) (b : Bool) → times y (s .order) ≡ cond b 1 0 → 0 < times y (s .order) → b ≡ true
         go y true e i = refl
@@ -143,15 +143,15 @@ module _ {t : Texts} {s : Rows} (h : Shaped t s) where
   put-meant (Put.class v) a = meant-put (slotted-class h v) h
   put-meant (Put.key n v) a = meant-put (slotted-key h n v a) h
 
-pub shaped-puts : {t : Texts} {s : Rows} → Shaped t s → (ps : List Put) → allAllowed t ps ≡ true → Shaped t (withPuts t s ps)
-unfolding withPuts allAllowed
+pub shaped-puts : {t : Texts} {s : Rows} → Shaped t s → (ps : List Put) → all (isAllowed t) ps ≡ true → Shaped t (withPuts t s ps)
+unfolding withPuts all
 shaped-puts h [] a = h
-shaped-puts {t} h (p ∷ ps) a = let z = both (isAllowed t p) (allAllowed t ps) a in shaped-puts (shaped-put h p (z .0)) ps (z .1)
+shaped-puts {t} h (p ∷ ps) a = let z = both (isAllowed t p) (all (isAllowed t) ps) a in shaped-puts (shaped-put h p (z .0)) ps (z .1)
 
 -- what puts add, one after the other
-pub puts-meant : {t : Texts} {s : Rows} → Shaped t s → (ps : List Put) → allAllowed t ps ≡ true → meant t (withPuts t s ps) ≡ puts (meant t s) (map (putEntry t) ps)
-unfolding withPuts puts allAllowed
+pub puts-meant : {t : Texts} {s : Rows} → Shaped t s → (ps : List Put) → all (isAllowed t) ps ≡ true → meant t (withPuts t s ps) ≡ puts (meant t s) (map (putEntry t) ps)
+unfolding withPuts puts all
 puts-meant h [] a = refl
 puts-meant {t} h (p ∷ ps) a =
-    let z = both (isAllowed t p) (allAllowed t ps) a in
+    let z = both (isAllowed t p) (all (isAllowed t) ps) a in
     puts-meant (shaped-put h p (z .0)) ps (z .1) ∙ ap (λ m. puts m (map (putEntry t) ps)) (put-meant h p (z .0))

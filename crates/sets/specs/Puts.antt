@@ -1,7 +1,7 @@
 -- What the items of a payload put into a set, as ranges of the text: each item's parts stand at its place.
 use Prim.Native.Nat.{ℕ, _+_}
 use mathlib.Core.Bool.{cond}
-use mathlib.Core.List.{List, [], _∷_, _++_, map}
+use mathlib.Core.List.{List, [], _∷_, map, flatMap}
 use lib.ListN.{length}
 use Rattle.lists.specs.Lists.{same}
 use Rattle.grammar.specs.Grammar.{Item, Placed}
@@ -39,5 +39,4 @@ putsOf at (Item.quoted k q v) = valued at k (λ f e. text.Quoted f e) (at + leng
 putsOf at (Item.bare n) = byName at n text.Empty (Put.class (valueOf text.Empty) ∷ [])
 
 unfoldable pub putsIn : List Placed → List Put
-putsIn [] = []
-putsIn (p ∷ is) = putsOf (p .at) (p .item) ++ putsIn is
+putsIn is = flatMap (λ p. putsOf (p .at) (p .item)) is

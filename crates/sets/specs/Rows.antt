@@ -1,7 +1,7 @@
 -- The rows of a set without its limits, how a set is put together row by row, and what it means.
 use Prim.Native.Nat.{ℕ, suc, _-_}
 use mathlib.Core.Bool.{Bool, true, false, cond, _||_}
-use mathlib.Core.List.{List, [], _∷_, _++_, map}
+use mathlib.Core.List.{List, [], _∷_, _++_, map, foldl}
 use lib.ListN.{length, getD, take, replicate}
 use Rattle.lists.specs.Lists.{isSome, same}
 use Rattle.grammar.specs.Meaning.{Entry, idName, className}
@@ -66,8 +66,7 @@ withPut t s (Put.class v) = record { ident = s .ident; classes = s .classes ++ (
 withPut t s (Put.key n v) = record { ident = s .ident; classes = s .classes; keys = putRow t n v (s .keys); order = slotUnless (hasKey t n (s .keys)) (s .order) (slot.Key (length (s .keys))) }
 
 unfoldable pub withPuts : Texts → Rows → List Put → Rows
-withPuts t s [] = s
-withPuts t s (p ∷ ps) = withPuts t (withPut t s p) ps
+withPuts t s ps = foldl (withPut t) s ps
 
 -- ---- what the rows mean: the slots in order, each with its name and values, as bytes
 

@@ -51,7 +51,3 @@ unfoldable pub isAllowed : Texts → Put → Bool
 isAllowed t (Put.ident v) = true
 isAllowed t (Put.class v) = true
 isAllowed t (Put.key n v) = isFree (nameBytes t n)
-
-unfoldable pub allAllowed : Texts → List Put → Bool
-allAllowed t [] = true
-allAllowed t (p ∷ ps) = isAllowed t p && allAllowed t ps

@@ -1,4 +1,4 @@
--- A set's limits, its empty value, and the bytes that its names stand for.
+-- A set's limits, its empty value, the text that it is over, and the bytes that its names and values stand for.
 use Prim.Native.Nat.{ℕ}
 use mathlib.Core.Bool.{cond}
 use mathlib.Core.List.{List, []}

@@ -1,4 +1,5 @@
--- A block of a sheet is read, or refused for a limit: "or for 6, 7 or 10 `refused`", where 10 is the writer's.
+-- A block of a sheet is read, or refused for a limit: "or for 6, 7 or 10 `refused`", where 10 is the writer's. "Rows past the counts are zero in every set
+-- handed out".
 -- Assumes nothing.
 use mathlib.Core.Path.{_≡_, refl}
 use mathlib.Core.Bool.{Bool, true, false, cond}
@@ -13,7 +14,7 @@ use Rattle.lists.specs.Lists.{isIn}
 use Rattle.lists.proofs.More.{contra}
 use Rattle.ascii.specs.declared.Mode.the-variants.{Loose}
 use Rattle.refusals.specs.Numbers.{maxText, numberOf}
-use Rattle.refusals.specs.declared.Refusal.the-variants.{TooManyClasses, TooManyKeys, TooManySlots}
+use Rattle.refusals.specs.declared.Refusal.the-variants.{TextTooLong, TooManyClasses, TooManyKeys, TooManySlots, JoinFull}
 use Rattle.grammar.specs.Read.{Reading}
 use Rattle.tokens.specs.Shown.{accepted}
 use Rattle.chain.specs.Chain.{readBlocks, goodLine}
@@ -23,11 +24,13 @@ use Rattle.fill.specs.Fill as fill
 use Rattle.fill.specs.declared.Outcome as outcomes
 use Rattle.fill.specs.declared.Outcome.the-variants.{Done, Refused}
 use Rattle.fill.proofs.Slots.{Shaped, shaped-puts, shaped-none, slots}
+use Rattle.fill.proofs.Zeroed.{Zeroed, empty-zeroed}
 use Rattle.runs.specs.Runs.{runAt}
 use Rattle.runs.proofs.Bounds.{text-short}
 use Rattle.blocks.specs.Blocks.{Found, filledBy, blockOf}
+use Rattle.blocks.proofs.SetsOk.{block-zeroed}
 use Rattle.lengths.specs.Lengths.{flushLeft}
-use Rattle.sheets.specs.Sheets.{isBlock}
+use Rattle.sheets.specs.Sheets.{Try, triesAt, isBlock, onlyBlocks, nowhere, firstBlock, nextOf}
 use Rattle.sheets.proofs.Tries.{found-by, run-found-by, flush-by}
 
 -- read, or refused 6 or 7
@@ -65,3 +68,14 @@ block-limited t cap at k =
 
     short : length (runAt cap 0 t at .text) ≤ maxText
     short = omega (arith, k, text-short cap 0 t at)
+
+-- the set of the next block, or of the refusal where there is none
+pub next-zeroed : (t : List ℕ) (cap at : ℕ) → Zeroed (nextOf t cap at .block .set)
+unfolding nextOf
+next-zeroed t cap at = go (ltb maxText (length t)) (ltb cap maxText) (onlyBlocks (triesAt t cap 0 at))
+  where
+    go : (x y : Bool) (bs : List Try) → Zeroed (cond x (nowhere TextTooLong at) (cond y (nowhere JoinFull at) (firstBlock t at bs)) .block .set)
+    go true y bs = empty-zeroed
+    go false true bs = empty-zeroed
+    go false false [] = empty-zeroed
+    go false false (b ∷ bs) = block-zeroed t (b .at) (b .found)

@@ -2,7 +2,7 @@
 -- Assumes nothing.
 use mathlib.Core.Path.{_≡_, refl, _∙_, ap}
 use mathlib.Core.Bool.{Bool, true, false, cond}
-use mathlib.Core.List.{List, [], _∷_, _++_, map}
+use mathlib.Core.List.{List, [], _∷_, _++_, map, foldl-append}
 use Prim.Native.Nat.{ℕ, zero, suc, _+_, _-_, _<_, _≤_, zero-le}
 use native.Mathlib.Nat.{add-zero, zero-add}
 use native.Mathlib.Omega.{arith}
@@ -120,8 +120,7 @@ module _ (t : List ℕ) (cap : ℕ) where
 
 pub join-append : (buf : List ℕ) (xs ys : List Try) → joinBehind buf (xs ++ ys) ≡ joinBehind (joinBehind buf xs) ys
 unfolding joinBehind
-join-append buf [] ys = refl
-join-append buf (x ∷ xs) ys = join-append (joinHolds buf (x .found)) xs ys
+join-append = foldl-append (λ b x. joinHolds b (x .found))
 
 -- the numbers of the lines don't count
 numbers : (t : List ℕ) (cap n m k : ℕ) (rs : List Range) (buf : List ℕ) → joinBehind buf (upToBlock (triesFrom t cap n k rs)) ≡ joinBehind buf (upToBlock (triesFrom t cap m k rs))

@@ -5,3 +5,4 @@ pub mod Goes
 pub mod Rooms
 pub mod Answers
 pub mod Order
+pub mod SetsOk

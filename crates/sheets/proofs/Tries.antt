@@ -20,18 +20,18 @@ use types.Run.{OneOf}
 use Rattle.ascii.specs.Bytes.{isSpace, isIndent}
 use Rattle.refusals.specs.declared.Refusal.{Refusal}
 use Rattle.refusals.specs.declared.Refusal.the-variants.{NothingThere, NoReading}
-use Rattle.lines.specs.Lines.{beforeLf, lines, isDropped, firstOf, lineFrom, rangesFrom}
-use Rattle.lines.specs.Trim.{trim, trimStart, trimEnd}
+use Rattle.lines.specs.Lines.{beforeLf, lines, isDropped, firstOf, lineFrom, rangesFrom, lineAt}
+use Rattle.lines.specs.Trim.{trimStart}
 use Rattle.lines.proofs.First.{first-cons}
 use Rattle.lines.proofs.Lines.{to-from, to-next, ranges-end, ranges-at}
-use Rattle.payloads.specs.Payloads.{beginsOpen, endsInClose}
+use Rattle.payloads.specs.Payloads.{opens}
 use Rattle.chain.specs.Chain.{readBlocks, blocksFrom, goodLine}
 use Rattle.runs.specs.Runs as runs
 use Rattle.runs.specs.declared.Stop as stops
 use Rattle.runs.specs.declared.Stop.the-variants as stop
 use Rattle.runs.proofs.Bounds.{run-by, text-le}
 use Rattle.runs.proofs.Joining.{over-long}
-use Rattle.fronts.specs.Fronts.{lineAt, frontOf, opensAt, beginsIndented}
+use Rattle.fronts.specs.Fronts.{frontOf, opensAt, beginsIndented}
 use Rattle.blocks.specs.Blocks.{Found, nothing, closedRun, ended, runFound, found, joinedIn, linesOf, joinHolds}
 use Rattle.lengths.specs.Lengths.{flushLeft}
 use Rattle.fronts.proofs.Trimmed.{line-none, indent-is}
@@ -44,7 +44,7 @@ use Rattle.sheets.specs.Steps.{mayOpen}
 module _ (P : Found → Type 0) (t : List ℕ) (at base cap : ℕ) where
   pub found-by : (goodLine t (frontOf t at .from) (frontOf t at .to) ≡ true → P Found.line) → P (nothing NoReading) → P (nothing NothingThere) → P (runFound t at base cap) → P (found t at base cap)
   unfolding found
-  found-by l n o r = go (opensAt t at) (goodLine t (frontOf t at .from) (frontOf t at .to)) refl (endsInClose (trim (lineAt t at)))
+  found-by l n o r = go (opensAt t at) (goodLine t (frontOf t at .from) (frontOf t at .to)) refl (frontOf t at .closes)
     where
       go : (o g : Bool) → goodLine t (frontOf t at .from) (frontOf t at .to) ≡ g → (c : Bool) → P (cond o (cond g Found.line (cond c (nothing NoReading) (runFound t at base cap))) (nothing NothingThere))
       go true true e c = l e
@@ -184,7 +184,7 @@ module _ (t : List ℕ) (at : ℕ) (h : at < length t) where
 
   -- the line is indented or doesn't open with a brace
   quiet : mayOpen (drop at t) ≡ false → cond (beginsIndented (lineAt t at)) false (opensAt t at) ≡ false
-  unfolding opensAt lineAt trim trimStart trimEnd all
+  unfolding opensAt trimStart
   quiet m = rw (drop-cons t at 0 h, first-cons) (go (eqb b 10) refl (isDropped b s) (opener-is ∙ m))
     where
       b : ℕ
@@ -193,12 +193,12 @@ module _ (t : List ℕ) (at : ℕ) (h : at < length t) where
       s : List ℕ
       s = drop (suc at) t
 
-      front : (l : List ℕ) (x : Bool) → isIndent b ≡ x → eqb b 10 ≡ false → isIn (12 ∷ 13 ∷ 123 ∷ []) b ≡ false → cond (beginsIndented (b ∷ l)) false (beginsOpen (trim (b ∷ l))) ≡ false
+      front : (l : List ℕ) (x : Bool) → isIndent b ≡ x → eqb b 10 ≡ false → isIn (12 ∷ 13 ∷ 123 ∷ []) b ≡ false → cond (beginsIndented (b ∷ l)) false (opens (b ∷ l)) ≡ false
       front l true i e m = rw i
-      front l false i e m = let p = plain b e i m in rw (i, p .0, p .0) (p .1)
+      front l false i e m = let p = plain b e i m in rw (i, p .0) (p .1)
 
       go : (x : Bool) → eqb b 10 ≡ x → (y : Bool) → (isIn (12 ∷ 13 ∷ 123 ∷ []) b && not y) ≡ false
-          → cond (beginsIndented (cond x [] (cond y [] (b ∷ firstOf (lines s))))) false (beginsOpen (trim (cond x [] (cond y [] (b ∷ firstOf (lines s)))))) ≡ false
+          → cond (beginsIndented (cond x [] (cond y [] (b ∷ firstOf (lines s))))) false (opens (cond x [] (cond y [] (b ∷ firstOf (lines s))))) ≡ false
       go true e y m = refl
       go false e true m = refl
       go false e false m = front (firstOf (lines s)) (isIndent b) refl e (only (isIn (12 ∷ 13 ∷ 123 ∷ []) b) m)
@@ -226,7 +226,7 @@ lf-none t at h = rw (drop-of-length-le t h)
 
 -- behind the text nothing is found
 pub none-there : (t : List ℕ) (at base cap : ℕ) → length t ≤ at → found t at base cap ≡ nothing NothingThere
-unfolding opensAt trim trimStart trimEnd
+unfolding opensAt trimStart
 none-there t at base cap h = found-none t at base cap (rw (line-none t at h))
 
 -- ---- what comes behind a line

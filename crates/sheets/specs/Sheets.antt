@@ -1,7 +1,7 @@
 -- "The sheet program": the blocks of a sheet, and how a caller goes from one to the next.
 use Prim.Native.Nat.{ℕ, zero, suc, _-_}
 use mathlib.Core.Bool.{Bool, true, false, cond}
-use mathlib.Core.List.{List, [], _∷_}
+use mathlib.Core.List.{List, [], _∷_, foldl}
 use lib.Dec.{ltb}
 use lib.ListN.{length, drop}
 use Rattle.refusals.specs.Numbers.{maxText}
@@ -9,8 +9,7 @@ use Rattle.refusals.specs.declared.Refusal.{Refusal}
 use Rattle.refusals.specs.declared.Refusal.the-variants.{TextTooLong, NothingThere, JoinFull}
 use Rattle.lines.specs.Lines.{rangesFrom, ranges}
 use Rattle.lines.specs.declared.Range.{Range}
-use Rattle.fill.specs.Fill.{refusing}
-use Rattle.blocks.specs.Blocks.{Found, linesOf, joinHolds, blockOf, blockBy}
+use Rattle.blocks.specs.Blocks.{Found, linesOf, joinHolds, blockOf, unread}
 use Rattle.lengths.specs.Lengths.{flushLeft}
 use Rattle.sheets.specs.declared.Next.{Next}
 
@@ -53,8 +52,7 @@ blocksOf t = onlyBlocks (triesFrom t maxText 1 0 (ranges t))
 
 -- ---- "a second run in one call writes over the front of what the first left": the join buffer behind tries
 unfoldable pub joinBehind : List ℕ → List Try → List ℕ
-joinBehind buf [] = buf
-joinBehind buf (x ∷ xs) = joinBehind (joinHolds buf (x .found)) xs
+joinBehind buf xs = foldl (λ b x. joinHolds b (x .found)) buf xs
 
 -- ---- the next block
 
@@ -65,7 +63,7 @@ upToBlock (x ∷ xs) = x ∷ cond (isBlock (x .found)) [] (upToBlock xs)
 
 -- no block: it has no lines
 abbrev pub nowhere : Refusal → ℕ → Next
-nowhere r at = record { skipped = 0; at = at; block = blockBy (refusing r) 0 0 0 at }
+nowhere r at = record { skipped = 0; at = at; block = unread r 0 0 at }
 
 -- the first of blocks whose lines are numbered from 0, so that its number says how many lines are gone past before it
 abbrev pub firstBlock : List ℕ → ℕ → List Try → Next

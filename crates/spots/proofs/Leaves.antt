@@ -10,12 +10,12 @@ use borrow.Author.Tests.{eq-eqb, ne-eqb}
 use lib.Dec.{eqb}
 use lib.ListN.{length, getD, drop, drop-of-length-le, length-drop}
 use lib.Seq.{drop-cons}
-use Rattle.lists.specs.Lists.{run}
+use Rattle.lists.specs.Lists.{run, beginsPair}
 use Rattle.ascii.specs.Bytes.{isSpace}
 use Rattle.lines.specs.Trim.{trimStart}
 use Rattle.lines.proofs.Trim.{trim-start}
-use Rattle.payloads.specs.Payloads.{beginsOpen}
-use Rattle.spots.specs.Spots.{opens, beginsPair, closesComment}
+use Rattle.payloads.specs.Payloads.{beginsOpen, opens}
+use Rattle.spots.specs.Spots.{closesComment}
 
 -- ---- the front
 
@@ -33,7 +33,11 @@ module _ (l : List ℕ) {from : ℕ} (e : from ≡ run isSpace l) where
 
 pair-short : (b c : ℕ) (s : List ℕ) → length s < 2 → false ≡ beginsPair b c s
 pair-short b c [] h = refl
-pair-short b c (x ∷ []) h = refl
+pair-short b c (x ∷ []) h = go (eqb x b)
+  where
+    go : (y : Bool) → false ≡ (y && false)
+    go true = refl
+    go false = refl
 pair-short b c (x ∷ y ∷ s) h = absurd (omega arith)
 
 module _ (s : List ℕ) (i b c : ℕ) where

@@ -2,11 +2,11 @@
 use Prim.Native.Nat.{ℕ}
 use mathlib.Core.Bool.{Bool, false, cond, _&&_, _||_, not}
 use mathlib.Core.List.{List, [], _∷_}
-use lib.Dec.{eqb, leb}
+use lib.Dec.{leb}
 use Rattle.lines.specs.Trim.{trimStart}
-use Rattle.payloads.specs.Payloads.{beginsOpen}
 use Rattle.scanners.specs.Scanners.{passed, ignored, isBare, columnBehind}
 use Rattle.spots.specs.declared.Spot.{Spot}
+use Rattle.lists.specs.Lists.{beginsPair}
 
 -- ---- the walk in a line, from its first byte that is no whitespace on
 
@@ -32,18 +32,13 @@ spotAfter p b =
 
 -- ---- a line
 
-abbrev pub opens : List ℕ → Bool
-opens l = beginsOpen (trimStart l)
-
 -- "a continuation at or below its `{` column" (000)
 abbrev pub shallowOr : Bool → Bool → ℕ → ℕ → Bool
 shallowOr shallow first column brace = shallow || (not first && leb column brace)
 
--- the list begins with b and then c
-abbrev pub beginsPair : ℕ → ℕ → List ℕ → Bool
-beginsPair b c [] = false
-beginsPair b c (x ∷ []) = false
-beginsPair b c (x ∷ y ∷ s) = eqb x b && eqb y c
+-- 000: it opens with `{%`
+abbrev pub opensComment : List ℕ → Bool
+opensComment l = beginsPair 123 37 (trimStart l)
 
 -- `%}` stands in it
 unfoldable pub closesComment : List ℕ → Bool

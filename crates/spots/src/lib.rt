@@ -4,8 +4,9 @@ ghost use mathlib.Core.Path.{_≡_};
 ghost use Prim.Native.Nat.{_≤_};
 ghost use lib.Dec.{eqb};
 ghost use lib.ListN.{length, drop};
-ghost use Rattle.lines.specs.Trim.{trimStart};
-ghost use Rattle.spots.specs.Spots.{isStray, insideAfter, opensBy, spotAfter, opens, beginsPair, closesComment, shallowOr};
+ghost use Rattle.payloads.specs.Payloads.{opens};
+ghost use Rattle.lists.specs.Lists.{beginsPair};
+ghost use Rattle.spots.specs.Spots.{isStray, insideAfter, opensBy, spotAfter, closesComment, shallowOr, opensComment};
 
 // Where a walk stands in a line: the column of the next byte, whether a block is open, and the column of the last brace that opened one.
 pub struct Spot {
@@ -82,7 +83,7 @@ fn pair_at(s: &[u8], i: usize, b: u8, c: u8) -> bool
 
 // Whether the line opens a comment.
 pub fn opens_comment(line: &[u8]) -> bool
-    ensures { λ r. ⌜ r ≡ beginsPair 123 37 (trimStart (now (line .entry))) ⌝ }
+    ensures { λ r. ⌜ r ≡ opensComment (now (line .entry)) ⌝ }
 {
     let from = lines::trim_ascii_start(line);
     pair_at(line, from, b'{', b'%')

@@ -1,6 +1,7 @@
 -- Where the line of a number begins: "elsewhere 1, 2, 3, .."
 use Prim.Native.Nat.{ℕ}
 use mathlib.Core.List.{List}
+use Rattle.refusals.specs.Numbers.{numberOf}
 use Rattle.refusals.specs.declared.Refusal.{Refusal}
 use Rattle.refusals.specs.declared.Refusal.the-variants.{NothingThere}
 use Rattle.checks.specs.Check.{checkOf}
@@ -28,3 +29,7 @@ onStart f g (start.At at) = g at
 -- the line's place, 0 where there is none
 abbrev pub placeOf : List ℕ → ℕ → ℕ
 placeOf t n = onStart (λ r. 0) (λ at. at) (startAt t n)
+
+-- the number of an answer: 0 where the line begins
+abbrev pub startNo : starts.Start → ℕ
+startNo s = onStart numberOf (λ at. 0) s

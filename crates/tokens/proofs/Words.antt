@@ -10,7 +10,7 @@ use lib.Dec.{eqb, ltb, leb}
 use lib.ListN.{length, getD, take, drop, drop-of-length-le, length-drop, length-take}
 use lib.Seq.{drop-cons, drop-drop, length-take-le}
 use borrow.Author.Tests.{ne-eqb, lt-ltb, le-ltb, leb-true, leb-false}
-use Rattle.lists.specs.Lists.{all, headed, run}
+use Rattle.lists.specs.Lists.{all, headed, run, firstIs}
 use Rattle.lists.proofs.Scan.{run-le}
 use Rattle.lists.proofs.More.{contra}
 use Rattle.ascii.specs.declared.Mode.{Mode}
@@ -23,7 +23,7 @@ use Rattle.grammar.specs.declared.Place.the-variants.{Nothing}
 use Rattle.tokens.specs.declared.Token.{Token}
 use Rattle.tokens.specs.declared.Token.the-variants.{Bad, Plain, Quoted}
 use Rattle.tokens.specs.Shown.{shownItem, shown}
-use Rattle.tokens.specs.Steps.{tagToken, idToken, classToken, quotedFrom, part, firstIs, startsEq, shutAt}
+use Rattle.tokens.specs.Steps.{tagToken, idToken, classToken, quotedFrom, part, startsEq, shutAt}
 use Rattle.tokens.proofs.Quotes.{Closed}
 
 shown-finish : (i : ℕ) (m : Mode) (good : Bool) (it : Item) (rest : List ℕ) → shown i (finish m good it rest) ≡ cond (good && ends m rest) (shownItem i it) Bad

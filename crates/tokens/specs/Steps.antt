@@ -1,8 +1,7 @@
 -- What the code's own functions read of a token. No definition of a public promise rests on these.
 use mathlib.Core.Bool.{Bool, false}
-use mathlib.Core.List.{List, [], _∷_}
+use mathlib.Core.List.{List}
 use Prim.Native.Nat.{ℕ, _+_, _-_}
-use lib.Dec.{eqb}
 use lib.ListN.{take, drop}
 use Rattle.ascii.specs.declared.Mode.{Mode}
 use Rattle.names.specs.Names.{isName}
@@ -11,6 +10,7 @@ use Rattle.grammar.specs.Grammar.{Item}
 use Rattle.grammar.specs.Read.{First, Shut, shutOf, wordToken, quotedToken}
 use Rattle.grammar.specs.declared.Place.{Place}
 use Rattle.grammar.specs.declared.Place.the-variants.{Nothing, At}
+use Rattle.lists.specs.Lists.{begins}
 
 abbrev pub tagToken : Mode → List ℕ → First
 tagToken m s = wordToken m isLanguage (λ t. Item.tag t) s
@@ -28,13 +28,8 @@ quotedFrom m k q s = quotedToken m k q s (shutOf q s false)
 abbrev pub part : ℕ → ℕ → List ℕ → List ℕ
 part i k s = take (k - i) (drop i s)
 
--- the first byte is there and passes the test
-abbrev pub firstIs : (ℕ → Bool) → List ℕ → Bool
-firstIs f [] = false
-firstIs f (b ∷ s) = f b
-
 abbrev pub startsEq : List ℕ → Bool
-startsEq s = firstIs (λ b. eqb b 61) s
+startsEq s = begins s 61
 
 -- where a quote closes whose text begins at i
 abbrev pub shutAt : ℕ → Shut → Place

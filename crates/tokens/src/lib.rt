@@ -3,11 +3,11 @@ ghost use mathlib.Core.Path.{_≡_};
 ghost use mathlib.Core.Bool.{false, cond, _&&_};
 ghost use Prim.Native.Nat.{_+_, _-_, _<_, _≤_};
 ghost use lib.ListN.{length, getD, drop};
-ghost use Rattle.lists.specs.Lists.{run};
+ghost use Rattle.lists.specs.Lists.{run, firstIs};
 ghost use Rattle.ascii.specs.Bytes.{isLetter, isNameStart, isNamePart, isKeyStart, isPlain, isBlank};
 ghost use Rattle.grammar.specs.Read.{ends, shutOf, nameToken, valueToken, tokenOf, readPayload};
 ghost use Rattle.tokens.specs.Shown.{accepted, shown, behind};
-ghost use Rattle.tokens.specs.Steps.{startsEq, tagToken, idToken, classToken, quotedFrom, part, firstIs, shutAt};
+ghost use Rattle.tokens.specs.Steps.{startsEq, tagToken, idToken, classToken, quotedFrom, part, shutAt};
 use ascii::Mode;
 use grammar::Place;
 

@@ -18,7 +18,8 @@ use Rattle.names.specs.Names.{isKey}
 use Rattle.grammar.specs.Close.{noLf}
 use Rattle.grammar.specs.Meaning.{idName, className, isClass, absent, distinct}
 use Rattle.canon.specs.Canon as canon
-use Rattle.canon.specs.Canon.{isClassValue, entryOk, entriesOk, wf, Answer, readAt}
+use Rattle.canon.specs.Canon.{isClassValue, entryOk, wf}
+use Rattle.canon.proofs.AtBrace.{Answer, readAt}
 use Rattle.canon.proofs.Back.{back}
 use Rattle.canon.proofs.Parts.{entry-ok, classes-ok, value-ok, joined}
 use Rattle.sets.specs.Types.{Texts, valueBytes, zeroRow}
@@ -94,8 +95,8 @@ module _ {t : Texts} {s : Rows} (p : Passed t s) where
   slot-entry Class h = class-entry (s .classes) h (p .classes)
   slot-entry (Key k) h = key-entry k (ltb-true k (length (s .keys)) h)
 
-  entries : (o : List Slot) → all (isPresent s) o ≡ true → entriesOk (map (slotEntry t s) o) ≡ true
-  unfolding all entriesOk
+  entries : (o : List Slot) → all (isPresent s) o ≡ true → all entryOk (map (slotEntry t s) o) ≡ true
+  unfolding all
   entries [] h = refl
   entries (x ∷ o) h = let z = both (isPresent s x) (all (isPresent s) o) h in rw (slot-entry x (z .0)) (entries o (z .1))
 

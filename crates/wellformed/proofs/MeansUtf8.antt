@@ -2,16 +2,17 @@
 -- Assumes nothing.
 use mathlib.Core.Path.{_≡_, refl, _∙_}
 use mathlib.Core.Bool.{Bool, true, false, cond, _&&_}
-use mathlib.Core.List.{List, [], _∷_, _++_, map}
+use mathlib.Core.List.{List, [], _∷_, _++_, map, flatMap}
 use Prim.Native.Nat.{ℕ, _≤_}
 use native.Mathlib.Omega.{arith}
-use lib.Dec.{leb, eqb, ltb}
+use lib.Dec.{leb, eqb}
 use lib.ListN.{length}
 use borrow.Author.Tests.{ltb-true, leb-true, leb-false, le-leb, lt-leb, ne-eqb}
 use Rattle.lists.specs.Lists.{all, isIn}
-use Rattle.lists.proofs.Scan.{both, all-append}
+use Rattle.lists.proofs.Scan.{both}
 use Rattle.lists.proofs.More.{contra, all-weaker}
-use Rattle.ascii.specs.Bytes.{within, isLetter, isDigit, isAlnum, isNamePart, isPunct}
+use Rattle.lists.proofs.Flat.{all-flat}
+use Rattle.ascii.specs.Bytes.{within, isLetter, isDigit, isAlnum, isNamePart, isPunct, isMarked}
 use Rattle.names.specs.Names.{isKey}
 use Rattle.utf8.specs.Grammar as utf8
 use Rattle.utf8.specs.Utf8.{isUtf8, isBoundary}
@@ -19,7 +20,7 @@ use Rattle.utf8.proofs.Laws.{past-ascii}
 use Rattle.utf8.proofs.Grammar.{char, sound, utf8-append}
 use Rattle.utf8.proofs.Boundaries.{ascii, slice-utf8}
 use Rattle.checks.specs.Check.{isText}
-use Rattle.refusals.specs.Numbers.{maxText}
+use Rattle.checks.proofs.Texts as texts
 use Rattle.escapes.specs.Unescape.{unescape, unescapeFrom}
 use Rattle.grammar.specs.Close.{noLf}
 use Rattle.grammar.specs.Meaning.{Entry, idName, className}
@@ -89,7 +90,7 @@ high-unescape [] s e = refl
 high-unescape (a ∷ k) s e = let h = both (isHigh a) (all isHigh k) e in rw (high-other 92 a (omega arith) (h .0), high-unescape k s (h .1))
 
 high-escape : (k s : List ℕ) → all isHigh k ≡ true → escape (k ++ s) ≡ k ++ escape s
-unfolding all marked escape isIn
+unfolding all marked isMarked escape flatMap isIn
 high-escape [] s e = refl
 high-escape (a ∷ k) s e = let h = both (isHigh a) (all isHigh k) e in rw (high-other 34 a (omega arith) (h .0), high-other 92 a (omega arith) (h .0), high-escape k s (h .1))
 
@@ -125,7 +126,7 @@ unfolding unescape
 unescape-utf8 s e = unescaped (sound s e .octets) false
 
 escaped : {ks : List (List ℕ)} {s : List ℕ} → utf8.Octets ks s → isUtf8 (escape s) ≡ true
-unfolding marked escape all
+unfolding marked isMarked escape flatMap all
 escaped utf8.Octets.none = ascii [] refl
 escaped (utf8.Octets.more {k} {s} c o) = go k (kind c) (char c) (escaped o)
   where
@@ -154,7 +155,7 @@ pair-utf8 p e =
     append-utf8 (p .name) _ (h .0) (low-utf8 61 _ (omega arith) (low-utf8 34 _ (omega arith) (append-utf8 (escape (p .value)) (34 ∷ []) (escape-utf8 (p .value) (h .1)) (ascii (34 ∷ []) refl))))
 
 more-utf8 : (ps : List Pair) → all pairUtf8 ps ≡ true → isUtf8 (moreText ps) ≡ true
-unfolding moreText all
+unfolding moreText flatMap all
 more-utf8 [] e = ascii [] refl
 more-utf8 (p ∷ ps) e =
     let h = both (pairUtf8 p) (all pairUtf8 ps) e in
@@ -171,12 +172,8 @@ values-utf8 n [] e h = refl
 values-utf8 n (v ∷ vs) e h = let z = both (isUtf8 v) (all isUtf8 vs) h in rw (e, z .0) (values-utf8 n vs e (z .1))
 
 pairs-utf8 : (m : List Entry) → all entryUtf8 m ≡ true → all pairUtf8 (pairs m) ≡ true
-unfolding all pairs
-pairs-utf8 [] e = refl
-pairs-utf8 (x ∷ m) e =
-    let h = both (entryUtf8 x) (all entryUtf8 m) e in
-    let z = both (isUtf8 (x .name)) (all isUtf8 (x .values)) (h .0) in
-    all-append pairUtf8 (pairsOf (x .name) (x .values)) (pairs m) (values-utf8 (x .name) (x .values) (z .0) (z .1)) (pairs-utf8 m (h .1))
+unfolding pairs
+pairs-utf8 m e = all-flat entryUtf8 pairUtf8 (λ x. pairsOf (x .name) (x .values)) (λ x h. let z = both (isUtf8 (x .name)) (all isUtf8 (x .values)) h in values-utf8 (x .name) (x .values) (z .0) (z .1)) m e
 
 pub canon-utf8 : (m : List Entry) → all entryUtf8 m ≡ true → isUtf8 (canon m) ≡ true
 unfolding canon all
@@ -236,12 +233,8 @@ module _ (t : Texts) (u : isUtf8 (t .text) ≡ true) where
 -- ======== of a table
 module _ (t : List ℕ) (a : Attrs) (e : wellFormed t a ≡ true) where
   pub text-utf8 : isUtf8 t ≡ true
-  unfolding wellFormed isText
-  text-utf8 = go (ltb maxText (length t)) (both (cond (ltb maxText (length t)) false (isUtf8 t)) (tableOk (one t) a) e .0)
-    where
-      go : (b : Bool) → cond b false (isUtf8 t) ≡ true → isUtf8 t ≡ true
-      go true h = contra false h refl
-      go false h = h
+  unfolding wellFormed
+  text-utf8 = texts.text-utf8 t (both (isText t) (tableOk (one t) a) e .0)
 
   pub table-ok : tableOk (one t) a ≡ true
   unfolding wellFormed

@@ -2,7 +2,7 @@
 -- Assumes nothing.
 use mathlib.Core.Path.{_≡_, refl, _∙_}
 use mathlib.Core.Bool.{Bool, true, false, cond, _&&_}
-use mathlib.Core.List.{List, [], _∷_, _++_, map, append-nil, append-assoc}
+use mathlib.Core.List.{List, [], _∷_, _++_, map, append-nil, append-assoc, flatMap}
 use Prim.Native.Nat.{ℕ, suc, _+_, _<_, _≤_}
 use native.Mathlib.Omega.{arith}
 use lib.Dec.{leb, ltb}
@@ -11,6 +11,7 @@ use borrow.Author.Tests.{leb-false, lt-ltb, le-ltb}
 use Rattle.lists.specs.Lists.{all, headed, same}
 use Rattle.lists.proofs.Scan.{both, all-append}
 use Rattle.lists.proofs.More.{contra, among-not, all-parts}
+use Rattle.lists.proofs.Flat.{flat-append}
 use Rattle.ascii.specs.declared.Mode.{Mode}
 use Rattle.ascii.specs.Bytes.{within, isLetter, isDigit, isAlnum, isNamePart, isKeyStart, isSpace, isQuote, isBlank}
 use Rattle.names.specs.Names.{isKey}
@@ -179,7 +180,7 @@ module _ (w : List ℕ) where
   last-part m {t = t} (b ∷ e) h p = before t b e (blank-low m b (both (isBlank m b) (all (isBlank m) e) h .0)) p
 
   chain-ok : {m : Mode} {at : ℕ} {s : List ℕ} {is : List Placed} → Chain m at s is → {rest : List ℕ} → Part w at s rest → noLf s ≡ true → all (putOk (one w)) (putsIn is) ≡ true
-  unfolding noLf all putsIn
+  unfolding noLf all putsIn flatMap
   chain-ok {m} (Chain.blank {b = b} {s = s} h c) p f = chain-ok c (behind [] b s (blank-low m b h) p (omega arith)) (both (notLf b) (all notLf s) f .1)
   chain-ok {m} {at} (Chain.last {t = t} {e = e} {i = i} h b) p f =
       all-append (putOk (one w)) (putsOf at i) [] (token-ok h (last-part m e (b .each) p) (all-parts notLf t e f .0)) refl
@@ -195,5 +196,4 @@ module _ (w : List ℕ) where
   -- items one after the other
   pub more-ok : (is js : List Placed) → all (putOk (one w)) (putsIn is) ≡ true → all (putOk (one w)) (putsIn js) ≡ true → all (putOk (one w)) (putsIn (is ++ js)) ≡ true
   unfolding putsIn
-  more-ok [] js h k = k
-  more-ok (p ∷ is) js h k = let z = all-parts (putOk (one w)) (putsOf (p .at) (p .item)) (putsIn is) h in all-append (putOk (one w)) (putsOf (p .at) (p .item)) (putsIn (is ++ js)) (z .0) (more-ok is js (z .1) k)
+  more-ok is js h k = rw (flat-append (λ p. putsOf (p .at) (p .item)) is js) (all-append (putOk (one w)) (putsIn is) (putsIn js) h k)

@@ -2,7 +2,7 @@
 -- Assumes nothing.
 use mathlib.Core.Path.{_≡_, refl, sym, _∙_, ap}
 use mathlib.Core.Bool.{Bool, true, false}
-use mathlib.Core.List.{List, [], _∷_, _++_, append-assoc, append-nil}
+use mathlib.Core.List.{List, [], _∷_, _++_, append-assoc, append-nil, flatMap}
 use Prim.Native.Nat.{ℕ, suc, _+_, _≤_, _<_}
 use native.Mathlib.Nat.{add-zero, add-suc}
 use native.Mathlib.Omega.{arith}
@@ -15,6 +15,7 @@ use Rattle.grammar.specs.Meaning.{Entry}
 use Rattle.canon.specs.Canon.{Pair, escape, pairText, moreText, pairsText, pairs, canon}
 use Rattle.refusals.specs.Numbers.{maxText}
 use Rattle.lists.proofs.Sets.{sets-append}
+use Rattle.lists.proofs.Flat.{flat-append}
 use Rattle.marks.proofs.Values.{escape-short, bytes-short, raw-value}
 use Rattle.sets.specs.Types.{Texts, valueBytes}
 use Rattle.sets.specs.declared.Value.{Value}
@@ -23,11 +24,10 @@ use Rattle.marks.specs.Marks.{bytesIn, rawBytes, isQuoted}
 
 more-append : (ps qs : List Pair) → moreText (ps ++ qs) ≡ moreText ps ++ moreText qs
 unfolding moreText
-more-append [] qs = refl
-more-append (p ∷ ps) qs = rw (more-append ps qs) (ap (λ (l : List ℕ). 32 ∷ l) (sym (append-assoc (pairText p) (moreText ps) (moreText qs))))
+more-append ps qs = flat-append (λ p. 32 ∷ pairText p) ps qs
 
 items-suc : (n : ℕ) (ps : List Pair) → itemsText (suc n) ps ≡ moreText ps
-unfolding moreText pairsText leadOf
+unfolding moreText flatMap pairsText leadOf
 items-suc n [] = refl
 items-suc n (p ∷ ps) = rw (ne-eqb (suc n) 0 (λ e. omega arith))
 
@@ -38,7 +38,7 @@ items-append n (p ∷ ps) qs =
     rw (add-suc, items-suc, more-append ps qs) (ap (λ (l : List ℕ). leadOf n ∷ l) (sym (append-assoc (pairText p) (moreText ps) (moreText qs))))
 
 pub items-one : (n : ℕ) (p : Pair) → itemsText n (p ∷ []) ≡ itemText n (p .name) (p .value)
-unfolding pairsText moreText
+unfolding pairsText moreText flatMap
 items-one n p = ap (λ (l : List ℕ). leadOf n ∷ l) (append-nil (pairText p))
 
 -- items behind n bytes and the close
@@ -47,7 +47,7 @@ textFrom n [] = closing n
 textFrom n (p ∷ ps) = leadOf n ∷ (pairsText (p ∷ ps) ++ (125 ∷ []))
 
 from-suc : (n : ℕ) (ps : List Pair) → textFrom (suc n) ps ≡ moreText ps ++ (125 ∷ [])
-unfolding moreText pairsText leadOf closing
+unfolding moreText flatMap pairsText leadOf closing
 from-suc n [] = rw (ne-eqb (suc n) 0 (λ e. omega arith))
 from-suc n (p ∷ ps) = rw (ne-eqb (suc n) 0 (λ e. omega arith))
 

@@ -2,7 +2,7 @@
 -- Assumes nothing.
 use mathlib.Core.Path.{_≡_, refl, sym, _∙_, ap, subst}
 use mathlib.Core.Bool.{Bool, true, false, cond}
-use mathlib.Core.List.{List, [], _∷_, _++_, map, append-nil}
+use mathlib.Core.List.{List, [], _∷_, _++_, map, append-nil, flatMap}
 use Prim.Native.Nat.{ℕ, suc, _+_, _*_, _≤_, _<_, min}
 use native.Mathlib.Nat.{zero-add, add-zero}
 use native.Mathlib.Numerals.{add-one}
@@ -116,7 +116,7 @@ module _ {t : Texts} {really : Bool} {buf₀ : List ℕ} {at n : ℕ} {classes :
 -- ---- the slots
 
 pairs-step : (m : List Entry) (p : ℕ) (d : Entry) → p < length m → pairs (drop p m) ≡ pairsOf (getD m p d .name) (getD m p d .values) ++ pairs (drop (p + 1) m)
-unfolding pairs
+unfolding pairs flatMap
 pairs-step m p d h = rw (drop-cons m p d h, add-one p)
 
 module _ (t : Texts) (a : Attrs) where
@@ -185,7 +185,7 @@ module _ {t : Texts} {a : Attrs} {really : Bool} {buf₀ : List ℕ} {cap : ℕ}
 
   module _ (h : min (a .norder) maxSlots ≤ p) where
     none : textFrom n (pairs (drop p (meaningOf t a))) ≡ closing n ++ []
-    unfolding pairs
+    unfolding pairs flatMap
     none = rw (drop-of-length-le (meaningOf t a) {i = p} (omega (arith, slots-length t a (inv .long)))) (sym (append-nil (closing n)))
 
     pub close-room : cap ≤ length buf₀ → really ≡ true → (n + length (closing n) ≤ length buf) × (n + length (closing n) ≤ cap)

@@ -1,10 +1,10 @@
 -- What the writer answers and what then stands in the lent memory, where xs is the canonical text.
 use Prim.Native.Nat.{ℕ}
 use mathlib.Core.Bool.{Bool, true, false, cond, _&&_}
-use mathlib.Core.List.{List, _++_}
+use mathlib.Core.List.{List}
 use lib.Dec.{leb}
-use lib.ListN.{length, drop}
-use Rattle.lists.specs.Lists.{isSome}
+use lib.ListN.{length}
+use Rattle.lists.specs.Lists.{isSome, over}
 use Rattle.refusals.specs.Numbers.{maxText, numberOf}
 use Rattle.refusals.specs.declared.Refusal.{Refusal}
 use Rattle.refusals.specs.declared.Refusal.the-variants.{CanonTooLong, NotWellFormed, EmptySet}
@@ -33,7 +33,7 @@ wroteOf xs size = cond (hasRoom size (length xs)) (Bytes (length xs)) (Refused C
 
 -- "The writer changes only the bytes it counts."
 unfoldable pub contentAfter : List ℕ → List ℕ → List ℕ
-contentAfter buf xs = cond (hasRoom (length buf) (length xs)) (xs ++ drop (length xs) buf) buf
+contentAfter buf xs = cond (hasRoom (length buf) (length xs)) (over xs buf) buf
 
 -- ---- a set that a caller gives
 

@@ -6,6 +6,7 @@ use borrow.Author.Tests.{le-leb}
 use Rattle.lists.specs.Lists.{isIn}
 use Rattle.lists.proofs.Steady.{met}
 use Rattle.grammar.specs.Quick as quick
+use Rattle.grammar.specs.declared.Walk.{Walk}
 use Rattle.close.proofs.Walks as walks
 use borrow.Author.Needs.{needs}
 use Rattle.close.proofs.edge_turn.Statement.{statement}
@@ -26,11 +27,11 @@ returns-3 c = record { goes = λ rest. met (λ x. quick.edge x rest) false (10 �
 
 returns-4 : tie.Need-returns-4
 unfolding isIn
-returns-4 c = record { goes = λ rest. met (λ x. quick.edge x rest) (rest quick.Walk.Edge) (9 ∷ 13 ∷ 32 ∷ []) (c .before .before .args .c) (c .match .keys2) refl }
+returns-4 c = record { goes = λ rest. met (λ x. quick.edge x rest) (rest Walk.Edge) (9 ∷ 13 ∷ 32 ∷ []) (c .before .before .args .c) (c .match .keys2) refl }
 
 returns-5 : tie.Need-returns-5
 unfolding isIn
-returns-5 c = record { goes = λ rest. met (λ x. quick.edge x rest) (rest quick.Walk.Sigil) (35 ∷ 46 ∷ []) (c .before .before .args .c) (c .match .keys3) refl }
+returns-5 c = record { goes = λ rest. met (λ x. quick.edge x rest) (rest Walk.Sigil) (35 ∷ 46 ∷ []) (c .before .before .args .c) (c .match .keys3) refl }
 
 returns-6 : tie.Need-returns-6
 returns-6 c = record { goes = λ rest. walks.other _ rest (omega arith) (c .before .before .match .rest .0 .0 .1) (c .before .before .match .rest .0 .1) (c .before .before .match .rest .1) (sym (c .if2 .left) ∙ c .before .is-attr-ident-start .ensures) }

@@ -2,18 +2,19 @@ use mathlib.Core.Path.{refl}
 use mathlib.Core.Bool.{true, false}
 use mathlib.Core.List.{[], _∷_}
 use native.Mathlib.Omega.{arith}
+use Rattle.ascii.specs.Bytes.{isMarked}
 use Rattle.lists.specs.Lists.{isIn}
 use Rattle.lists.proofs.Steady.{met, missed}
 use Rattle.marks.proofs.is_marked.Statement.{statement}
 use Rattle.marks.proofs.is_marked.Tie as tie
 
 returns : tie.Need-returns
-unfolding isIn
-returns c = met (isIn (34 ∷ 92 ∷ [])) true (34 ∷ 92 ∷ []) ((c .before .args .b)) ((c .match .keys1)) refl
+unfolding isMarked isIn
+returns c = met isMarked true (34 ∷ 92 ∷ []) ((c .before .args .b)) ((c .match .keys1)) refl
 
 returns-2 : tie.Need-returns-2
-unfolding isIn
-returns-2 c = missed (isIn (34 ∷ 92 ∷ [])) false (34 ∷ 92 ∷ []) 0 256 ((c .before .args .b)) ((c .match .rest .1)) refl (omega arith) (omega arith)
+unfolding isMarked isIn
+returns-2 c = missed isMarked false (34 ∷ 92 ∷ []) 0 256 ((c .before .args .b)) ((c .match .rest .1)) refl (omega arith) (omega arith)
 
 pub is-marked-spec : {M : Type 1} → statement M
 is-marked-spec = tie.close (tie.spec returns returns-2)

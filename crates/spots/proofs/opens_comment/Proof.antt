@@ -1,8 +1,8 @@
 use mathlib.Core.Path.{_∙_, ap}
 use native.Mathlib.Omega.{arith}
+use Rattle.lists.specs.Lists.{beginsPair}
 use Rattle.lists.proofs.Scan.{run-le}
 use Rattle.ascii.specs.Bytes.{isSpace}
-use Rattle.spots.specs.Spots.{beginsPair}
 use Rattle.spots.proofs.Leaves as laws
 use borrow.Author.Needs.{needs}
 use Rattle.spots.proofs.opens_comment.Statement.{statement}
