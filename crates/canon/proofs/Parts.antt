@@ -1,4 +1,4 @@
--- What `wf` says of a meaning, taken split-wf and put together.
+-- What `wf` says of a meaning, taken apart and put together.
 -- Assumes nothing.
 use mathlib.Core.Path.{_≡_, refl}
 use mathlib.Core.Bool.{Bool, true, false, _&&_}

@@ -1,3 +1,3 @@
--- What private functions promise: of the search for the close, and the quick test's states and answers as the code has them.
+-- What private functions promise: of the search for the close, and of the quick test.
 pub mod Steps
 pub mod Walks

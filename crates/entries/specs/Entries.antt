@@ -1,4 +1,4 @@
--- The line of blocks by line number: "elsewhere 1, 2, 3, .."
+-- The line of blocks at a place, and by line number: "elsewhere 1, 2, 3, .."
 use Prim.Native.Nat.{ℕ}
 use mathlib.Core.Bool.{cond}
 use mathlib.Core.List.{List}

@@ -1,5 +1,5 @@
 -- "`unescape_title`: a backslash before an ASCII punctuation byte is dropped; any other stays (CommonMark 2.4)."
-use Prim.Native.Nat.{ℕ, _+_, _-_}
+use Prim.Native.Nat.{ℕ, _+_}
 use mathlib.Core.Bool.{Bool, true, false, cond, _&&_}
 use mathlib.Core.List.{List, [], _∷_}
 use lib.Dec.{eqb, leb}

@@ -15,13 +15,7 @@ use Rattle.lines.specs.Trim.{trim, trimStart}
 unfoldable pub isPayload : Mode → List ℕ → Bool
 isPayload m s = isText s && accepted (readPayload m 0 s)
 
--- ---- a later line of a wrapped run, trimmed
-
--- the last byte is `}`
-unfoldable pub endsInClose : List ℕ → Bool
-endsInClose [] = false
-endsInClose (b ∷ []) = eqb b 125
-endsInClose (b ∷ c ∷ s) = endsInClose (c ∷ s)
+-- ---- a line's front
 
 abbrev pub beginsOpen : List ℕ → Bool
 beginsOpen s = begins s 123
@@ -29,6 +23,14 @@ beginsOpen s = begins s 123
 -- a line's first byte that is no whitespace is `{`
 abbrev pub opens : List ℕ → Bool
 opens l = beginsOpen (trimStart l)
+
+-- ---- a later line of a wrapped run, trimmed
+
+-- the last byte is `}`
+unfoldable pub endsInClose : List ℕ → Bool
+endsInClose [] = false
+endsInClose (b ∷ []) = eqb b 125
+endsInClose (b ∷ c ∷ s) = endsInClose (c ∷ s)
 
 -- what stands behind the last `}{`, where `best` stands behind the last of those before; all of it where there is none
 unfoldable pub behindFrom : List ℕ → List ℕ → List ℕ

@@ -59,13 +59,13 @@ layFrom t room (x ∷ xs) = cond (ltb room maxLine) (stopped x) (behind (x ∷ [
 
 -- ---- the two entries
 
--- "Lines end at LF": a line begins at the text's front and behind each LF
+-- "Lines end at LF": where a line begins if a byte stands there, at the text's front and behind each LF
 abbrev pub beginsLine : List ℕ → ℕ → Bool
 beginsLine t zero = true
 beginsLine t (suc i) = eqb (getD t i 0) 10
 
--- "no such line": a line begins at the place, and its number can be n, since each line before it has a byte. Behind an LF that ends the text no line begins: there
--- nothing is left to report, and the report is whole.
+-- "no such line": a line begins at the place, and its number can be n, since each line before it has a byte. Behind an LF that ends the text, and in the
+-- empty text, no line begins: there nothing is left to report, and the report is whole.
 abbrev pub mayBegin : List ℕ → ℕ → ℕ → Bool
 mayBegin t at n = leb at (length t) && (leb 1 n && (leb n (suc at) && beginsLine t at))
 

@@ -106,6 +106,7 @@ unfoldable pub pastLines : ℕ → List ℕ → ℕ → ℕ
 pastLines zero t at = at
 pastLines (suc n) t at = pastLines n t (lineFrom t at .next)
 
+-- "After every call the join buffer holds the joined lines at its front, the rest untouched": `over` of lists, of the run's text
 abbrev pub joinedOf : List ℕ → ℕ → Run → Joined
 joinedOf t at r =
     record { stop = r .stop; len = length (r .text); lines = r .lines; lookahead = r .lookahead; next = pastLines (r .lines) t at }
