@@ -33,9 +33,9 @@ extern "C" {
         text: *const u8, len: usize, at: usize, line: usize, join: *mut u8, join_len: usize,
         out: *mut u8, out_len: usize, told: *mut usize, told_len: usize,
     ) -> u8;
-    /// `reader::read_attrs_at_with`, which `bench/run` makes visible: it answers by a struct that the caller has room for, takes a slice by a
+    /// `read_brace::read_attrs_at_with`, which `bench/run` makes visible: it answers by a struct that the caller has room for, takes a slice by a
     /// pointer to its two words, and the mode by a pointer to its number.
-    fn reader__read_attrs_at_with(answer: *mut u8, text: *const Slice, place: usize, mode: *const u8);
+    fn read_brace__read_attrs_at_with(answer: *mut u8, text: *const Slice, place: usize, mode: *const u8);
 }
 
 /// The set of a block at a brace as the reader hands it out: the answer's number stands first, 1 where a set was read.
@@ -72,7 +72,7 @@ pub fn is_utf8(text: &[u8]) -> bool {
 /// The strict reading at a brace, its set left in memory.
 pub fn read_set(text: &[u8], place: usize, set: &mut Set) {
     let slice = Slice { ptr: text.as_ptr(), len: text.len() };
-    unsafe { reader__read_attrs_at_with(set.0.as_mut_ptr(), &slice, place, &0u8) }
+    unsafe { read_brace__read_attrs_at_with(set.0.as_mut_ptr(), &slice, place, &0u8) }
 }
 
 /// The strict reading at a brace, its canonical text left in `out`: its length.

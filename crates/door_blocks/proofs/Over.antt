@@ -7,24 +7,24 @@ use Prim.Native.Nat.{ℕ}
 use lib.Dec.{ltb, eqb·suc-zero}
 use lib.ListN.{length, drop}
 use lib.Seq.{take-at}
-use Rattle.lists.proofs.More.{contra}
-use Rattle.refusals.specs.Numbers.{maxText}
-use Rattle.refusals.specs.declared.Refusal.{Refusal}
-use Rattle.chain.specs.Chain.{blocksFrom, readBlocks, goodLine}
-use Rattle.lists.specs.Lists.{isSome}
-use Rattle.runs.specs.Runs.{Run, runAt}
-use Rattle.runs.specs.declared.Stop as stops
-use Rattle.runs.specs.declared.Stop.the-variants as stop
-use Rattle.fronts.specs.Fronts.{frontOf, opensAt}
-use Rattle.blocks.specs.Blocks.{Found, nothing, closedRun, ended, runFound, found, wrapped, sized, joinHolds, blockOf}
-use Rattle.starts.specs.Starts.{startAt, onStart}
-use Rattle.blocks.specs.ByLine.{blockFound, wrappedFound}
-use Rattle.blocks.specs.declared.Block.{Block}
-use Rattle.starts.specs.declared.Start as starts
-use Rattle.starts.specs.declared.Start.the-variants as start
-use Rattle.tells.specs.Tells.{toldIn}
+use Rattle.base_lists.proofs.More.{contra}
+use Rattle.base_refusals.specs.Numbers.{maxText}
+use Rattle.base_refusals.specs.declared.Refusal.{Refusal}
+use Rattle.block_chain.specs.Chain.{blocksFrom, readBlocks, goodLine}
+use Rattle.base_lists.specs.Lists.{isSome}
+use Rattle.run_lines.specs.Runs.{Run, runAt}
+use Rattle.run_lines.specs.declared.Stop as stops
+use Rattle.run_lines.specs.declared.Stop.the-variants as stop
+use Rattle.block_trimmed_line.specs.Fronts.{frontOf, opensAt}
+use Rattle.read_blocks.specs.Blocks.{Found, nothing, closedRun, ended, runFound, found, wrapped, sized, joinHolds, blockOf}
+use Rattle.text_line_start.specs.Starts.{startAt, onStart}
+use Rattle.read_blocks.specs.ByLine.{blockFound, wrappedFound}
+use Rattle.read_blocks.specs.declared.Block.{Block}
+use Rattle.text_line_start.specs.declared.Start as starts
+use Rattle.text_line_start.specs.declared.Start.the-variants as start
+use Rattle.door_shared.specs.Tells.{toldIn}
 use Rattle.door_blocks.specs.Blocks.{blockBy, blockSaid}
-use Rattle.sets.specs.Types.{textOver}
+use Rattle.set_table.specs.Types.{textOver}
 
 -- ---- a run has joined bytes
 

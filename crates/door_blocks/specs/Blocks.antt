@@ -1,9 +1,9 @@
 -- What a caller from C or Rust is answered of a block.
 use Prim.Native.Nat.{ℕ}
 use mathlib.Core.List.{List, [], _∷_}
-use Rattle.blocks.specs.Blocks.{Found, blockOf, textIn}
-use Rattle.blocks.specs.declared.Block.{Block}
-use Rattle.tells.specs.Tells.{checkOut, Said, setSaid}
+use Rattle.read_blocks.specs.Blocks.{Found, blockOf, textIn}
+use Rattle.read_blocks.specs.declared.Block.{Block}
+use Rattle.door_shared.specs.Tells.{checkOut, Said, setSaid}
 
 -- a block, and then 10: "A set has ranges of one text: the lent one or, for a wrapped run, the joined text, whose length is answered too."
 abbrev pub blockBy : Block → List ℕ → List ℕ → Said

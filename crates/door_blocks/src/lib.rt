@@ -1,12 +1,12 @@
 // What C and Rust call to read a block of one or more lines: the number of its refusal, 0 where nothing is refused; its set as canonical text in lent memory.
-use blocks::Block;
+use read_blocks::Block;
 ghost use mathlib.Core.Path.{_≡_};
 ghost use lib.ListN.{length};
-ghost use Rattle.sets.specs.Types.{textOver};
-ghost use Rattle.blocks.specs.Blocks.{found, sized, joinHolds};
-ghost use Rattle.starts.specs.Starts.{placeOf};
-ghost use Rattle.blocks.specs.ByLine.{blockFound, wrappedFound};
-ghost use Rattle.tells.specs.Tells.{toldIn};
+ghost use Rattle.set_table.specs.Types.{textOver};
+ghost use Rattle.read_blocks.specs.Blocks.{found, sized, joinHolds};
+ghost use Rattle.text_line_start.specs.Starts.{placeOf};
+ghost use Rattle.read_blocks.specs.ByLine.{blockFound, wrappedFound};
+ghost use Rattle.door_shared.specs.Tells.{toldIn};
 ghost use Rattle.door_blocks.specs.Blocks.{blockBy, blockSaid};
 
 // Writes and tells what a block reads.
@@ -22,14 +22,14 @@ fn say_block<'a>(
     ensures { λ r. ⌜ now (told .exit) ≡ toldIn (now (told .entry)) (blockBy block (textOver (now (text .entry)) (now (join .entry)) (block .joined)) (now (out .entry)) .told) ⌝ }
 {
     let outcome = block.outcome;
-    let over = sets::text_over(text, join, block.joined);
-    let w = tells::write_out(tells::check_out(outcome), over, block.set, out);
-    tells::tell(told, 0, block.lines);
-    tells::tell(told, 1, block.next);
-    tells::tell(told, 2, block.lookahead);
-    tells::tell(told, 3, block.joined);
-    tells::tell(told, 4, tells::wrote_len(w));
-    tells::wrote_number(w)
+    let over = set_table::text_over(text, join, block.joined);
+    let w = door_shared::write_out(door_shared::check_out(outcome), over, block.set, out);
+    door_shared::tell(told, 0, block.lines);
+    door_shared::tell(told, 1, block.next);
+    door_shared::tell(told, 2, block.lookahead);
+    door_shared::tell(told, 3, block.joined);
+    door_shared::tell(told, 4, door_shared::wrote_len(w));
+    door_shared::wrote_number(w)
 }
 
 // Reads the block of one or more lines at a line. Tells its lines, the place behind it, the lookahead, how many bytes were joined, and the
@@ -47,7 +47,7 @@ pub extern "C" fn bridlesnow_parse_standalone_attrs_block(
     ensures { λ r. ⌜ now (out .exit) ≡ blockSaid (now (text .entry)) (placeOf (now (text .entry)) line) (blockFound (now (text .entry)) line 0 (length (now (join .entry)))) (now (out .entry)) .out ⌝ }
     ensures { λ r. ⌜ now (told .exit) ≡ toldIn (now (told .entry)) (blockSaid (now (text .entry)) (placeOf (now (text .entry)) line) (blockFound (now (text .entry)) line 0 (length (now (join .entry)))) (now (out .entry)) .told) ⌝ }
 {
-    let block = entries::parse_standalone_attrs_block(text, line, join);
+    let block = read_by_line::parse_standalone_attrs_block(text, line, join);
     say_block(text, block, join, out, told)
 }
 
@@ -66,7 +66,7 @@ pub extern "C" fn bridlesnow_wrapped_attrs_run_at(
     ensures { λ r. ⌜ now (out .exit) ≡ blockSaid (now (text .entry)) (placeOf (now (text .entry)) line) (wrappedFound (now (text .entry)) line base (length (now (join .entry)))) (now (out .entry)) .out ⌝ }
     ensures { λ r. ⌜ now (told .exit) ≡ toldIn (now (told .entry)) (blockSaid (now (text .entry)) (placeOf (now (text .entry)) line) (wrappedFound (now (text .entry)) line base (length (now (join .entry)))) (now (out .entry)) .told) ⌝ }
 {
-    let block = entries::wrapped_attrs_run_at(text, line, base, join);
+    let block = read_by_line::wrapped_attrs_run_at(text, line, base, join);
     say_block(text, block, join, out, told)
 }
 
@@ -84,6 +84,6 @@ pub extern "C" fn bridlesnow_read_block_at(
     ensures { λ r. ⌜ now (out .exit) ≡ blockSaid (now (text .entry)) at (sized (now (text .entry)) (found (now (text .entry)) at 0 (length (now (join .entry))))) (now (out .entry)) .out ⌝ }
     ensures { λ r. ⌜ now (told .exit) ≡ toldIn (now (told .entry)) (blockSaid (now (text .entry)) at (sized (now (text .entry)) (found (now (text .entry)) at 0 (length (now (join .entry))))) (now (out .entry)) .told) ⌝ }
 {
-    let block = blocks::read_at(text, at, join);
+    let block = read_blocks::read_at(text, at, join);
     say_block(text, block, join, out, told)
 }

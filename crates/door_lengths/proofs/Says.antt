@@ -3,10 +3,10 @@
 use mathlib.Core.Path.{_≡_, ap, _∙_}
 use mathlib.Core.List.{List}
 use Prim.Native.Nat.{ℕ}
-use Rattle.blocks.specs.Blocks.{Found, joinHolds}
-use Rattle.lengths.specs.Lengths.{lengthOf, lengthNo, measured}
-use Rattle.lengths.specs.declared.Measure.{Measure}
-use Rattle.tells.specs.Tells.{toldIn}
+use Rattle.read_blocks.specs.Blocks.{Found, joinHolds}
+use Rattle.read_lengths.specs.Lengths.{lengthOf, lengthNo, measured}
+use Rattle.read_lengths.specs.declared.Measure.{Measure}
+use Rattle.door_shared.specs.Tells.{toldIn}
 use Rattle.door_lengths.specs.Lengths.{toldBy, lengthTold}
 
 pub length-says : (t j told : List ℕ) (at : ℕ) (f : Found) {m : Measure} {i v : List ℕ} {r : ℕ} → m ≡ measured t at f → i ≡ joinHolds j f → r ≡ lengthNo (m .length) → v ≡ toldIn told (toldBy m) → (r ≡ lengthNo (lengthOf f)) × ((i ≡ joinHolds j f) × (v ≡ toldIn told (lengthTold t at f)))

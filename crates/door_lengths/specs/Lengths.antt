@@ -1,9 +1,9 @@
 -- What a caller from C or Rust is told of a block that is measured.
 use Prim.Native.Nat.{ℕ}
 use mathlib.Core.List.{List, [], _∷_}
-use Rattle.blocks.specs.Blocks.{Found}
-use Rattle.lengths.specs.Lengths.{measured, linesIn}
-use Rattle.lengths.specs.declared.Measure.{Measure}
+use Rattle.read_blocks.specs.Blocks.{Found}
+use Rattle.read_lengths.specs.Lengths.{measured, linesIn}
+use Rattle.read_lengths.specs.declared.Measure.{Measure}
 
 -- what measuring told: its lines, the place behind them, the lookahead and the bytes joined
 abbrev pub toldBy : Measure → List ℕ

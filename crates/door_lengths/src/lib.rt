@@ -1,13 +1,13 @@
 // What C and Rust call to measure a block: the number of its refusal, 0 where nothing is refused; what was measured is told.
-use lengths::Length;
-use lengths::Measure;
+use read_lengths::Length;
+use read_lengths::Measure;
 ghost use mathlib.Core.Path.{_≡_};
 ghost use lib.ListN.{length};
-ghost use Rattle.blocks.specs.Blocks.{joinHolds};
-ghost use Rattle.lengths.specs.Lengths.{lengthNo, lengthOf, linesIn, standaloneFound, indentedFound};
-ghost use Rattle.starts.specs.Starts.{placeOf};
-ghost use Rattle.blocks.specs.ByLine.{blockFound};
-ghost use Rattle.tells.specs.Tells.{toldIn};
+ghost use Rattle.read_blocks.specs.Blocks.{joinHolds};
+ghost use Rattle.read_lengths.specs.Lengths.{lengthNo, lengthOf, linesIn, standaloneFound, indentedFound};
+ghost use Rattle.text_line_start.specs.Starts.{placeOf};
+ghost use Rattle.read_blocks.specs.ByLine.{blockFound};
+ghost use Rattle.door_shared.specs.Tells.{toldIn};
 ghost use Rattle.door_lengths.specs.Lengths.{toldBy, lengthTold};
 
 // The number of a block's length.
@@ -15,7 +15,7 @@ fn length_number(l: Length) -> u8
     ensures { λ r. ⌜ r ≡ lengthNo l ⌝ }
 {
     match l {
-        Length::Refused(r) => refusals::number(r),
+        Length::Refused(r) => base_refusals::number(r),
         Length::Lines(_) => 0,
     }
 }
@@ -36,10 +36,10 @@ fn say_length(m: Measure, told: &mut [usize]) -> u8
     ensures { λ r. ⌜ now (told .exit) ≡ toldIn (now (told .entry)) (toldBy m) ⌝ }
 {
     let length = m.length;
-    tells::tell(told, 0, lines_in(length));
-    tells::tell(told, 1, m.next);
-    tells::tell(told, 2, m.lookahead);
-    tells::tell(told, 3, m.joined);
+    door_shared::tell(told, 0, lines_in(length));
+    door_shared::tell(told, 1, m.next);
+    door_shared::tell(told, 2, m.lookahead);
+    door_shared::tell(told, 3, m.joined);
     length_number(length)
 }
 
@@ -55,7 +55,10 @@ pub extern "C" fn bridlesnow_standalone_attrs_block_len(
     ensures { λ r. ⌜ now (join .exit) ≡ joinHolds (now (join .entry)) (standaloneFound (now (text .entry)) line (length (now (join .entry)))) ⌝ }
     ensures { λ r. ⌜ now (told .exit) ≡ toldIn (now (told .entry)) (lengthTold (now (text .entry)) (placeOf (now (text .entry)) line) (standaloneFound (now (text .entry)) line (length (now (join .entry))))) ⌝ }
 {
-    say_length(lengths::standalone_attrs_block_len(text, line, join), told)
+    say_length(
+        read_lengths::standalone_attrs_block_len(text, line, join),
+        told,
+    )
 }
 
 // Measures the wrapped block at a line, whatever its indentation. Tells as above.
@@ -71,7 +74,7 @@ pub extern "C" fn bridlesnow_indented_wrapped_attrs_block_len(
     ensures { λ r. ⌜ now (told .exit) ≡ toldIn (now (told .entry)) (lengthTold (now (text .entry)) (placeOf (now (text .entry)) line) (indentedFound (now (text .entry)) line (length (now (join .entry))))) ⌝ }
 {
     say_length(
-        lengths::indented_wrapped_attrs_block_len(text, line, join),
+        read_lengths::indented_wrapped_attrs_block_len(text, line, join),
         told,
     )
 }
@@ -89,5 +92,8 @@ pub extern "C" fn bridlesnow_attrs_block_len_at(
     ensures { λ r. ⌜ now (join .exit) ≡ joinHolds (now (join .entry)) (blockFound (now (text .entry)) line column (length (now (join .entry)))) ⌝ }
     ensures { λ r. ⌜ now (told .exit) ≡ toldIn (now (told .entry)) (lengthTold (now (text .entry)) (placeOf (now (text .entry)) line) (blockFound (now (text .entry)) line column (length (now (join .entry))))) ⌝ }
 {
-    say_length(lengths::attrs_block_len_at(text, line, column, join), told)
+    say_length(
+        read_lengths::attrs_block_len_at(text, line, column, join),
+        told,
+    )
 }

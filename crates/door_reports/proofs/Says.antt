@@ -3,9 +3,9 @@
 use mathlib.Core.Path.{_≡_, ap, _∙_}
 use mathlib.Core.List.{List}
 use Prim.Native.Nat.{ℕ}
-use Rattle.report.specs.Parts.{Laid, toldNo, shown}
-use Rattle.report.specs.declared.Part.{Part}
-use Rattle.tells.specs.Tells.{toldIn}
+use Rattle.sheet_report.specs.Parts.{Laid, toldNo, shown}
+use Rattle.sheet_report.specs.declared.Part.{Part}
+use Rattle.door_shared.specs.Tells.{toldIn}
 use Rattle.door_reports.specs.Reports.{partTold}
 
 pub part-told : (told : List ℕ) (R : Laid) {x : Part} {v : List ℕ} {r : ℕ} {i j o w : List ℕ} → x ≡ shown R → i ≡ j → o ≡ w → r ≡ toldNo (x .told) → v ≡ toldIn told (partTold x) → (r ≡ toldNo (R .told)) × ((i ≡ j) × ((o ≡ w) × (v ≡ toldIn told (partTold (shown R)))))

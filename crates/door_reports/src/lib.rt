@@ -1,12 +1,12 @@
 // What C and Rust call for a report, part by part, into lent memory: the number of its refusal, 0 where nothing is refused.
-use report::Part;
-use report::Told;
+use sheet_report::Part;
+use sheet_report::Told;
 ghost use mathlib.Core.Path.{_≡_};
 ghost use lib.ListN.{length};
-ghost use Rattle.lists.specs.Lists.{over};
-ghost use Rattle.sheets.specs.Sheets.{joinBehind};
-ghost use Rattle.report.specs.Parts.{toldNo, startOf, partOf, shown};
-ghost use Rattle.tells.specs.Tells.{toldIn};
+ghost use Rattle.base_lists.specs.Lists.{over};
+ghost use Rattle.sheet_blocks.specs.Sheets.{joinBehind};
+ghost use Rattle.sheet_report.specs.Parts.{toldNo, startOf, partOf, shown};
+ghost use Rattle.door_shared.specs.Tells.{toldIn};
 ghost use Rattle.door_reports.specs.Reports.{partTold};
 
 // The number of a part of a report.
@@ -14,7 +14,7 @@ fn told_number(t: Told) -> u8
     ensures { λ r. ⌜ r ≡ toldNo t ⌝ }
 {
     match t {
-        Told::Refused(r) => refusals::number(r),
+        Told::Refused(r) => base_refusals::number(r),
         Told::More => 0,
         Told::Done => 0,
     }
@@ -26,9 +26,9 @@ fn say_part(part: Part, told: &mut [usize]) -> u8
     ensures { λ r. ⌜ now (told .exit) ≡ toldIn (now (told .entry)) (partTold part) ⌝ }
 {
     let answer = part.told;
-    tells::tell(told, 0, part.len);
-    tells::tell(told, 1, part.at);
-    tells::tell(told, 2, part.line);
+    door_shared::tell(told, 0, part.len);
+    door_shared::tell(told, 1, part.at);
+    door_shared::tell(told, 2, part.line);
     told_number(answer)
 }
 
@@ -46,7 +46,7 @@ pub extern "C" fn bridlesnow_report_start(
     ensures { λ r. ⌜ now (out .exit) ≡ over (startOf (now (text .entry)) (length (now (join .entry))) (length (now (out .entry))) .text) (now (out .entry)) ⌝ }
     ensures { λ r. ⌜ now (told .exit) ≡ toldIn (now (told .entry)) (partTold (shown (startOf (now (text .entry)) (length (now (join .entry))) (length (now (out .entry)))))) ⌝ }
 {
-    say_part(report::report_start(text, join, out), told)
+    say_part(sheet_report::report_start(text, join, out), told)
 }
 
 // Goes on with a report at a place and a line that the call before has told. Tells as above.
@@ -64,5 +64,5 @@ pub extern "C" fn bridlesnow_report_part(
     ensures { λ r. ⌜ now (out .exit) ≡ over (partOf (now (text .entry)) at line (length (now (join .entry))) (length (now (out .entry))) .text) (now (out .entry)) ⌝ }
     ensures { λ r. ⌜ now (told .exit) ≡ toldIn (now (told .entry)) (partTold (shown (partOf (now (text .entry)) at line (length (now (join .entry))) (length (now (out .entry)))))) ⌝ }
 {
-    say_part(report::report_part(text, at, line, join, out), told)
+    say_part(sheet_report::report_part(text, at, line, join, out), told)
 }

@@ -3,11 +3,11 @@
 use mathlib.Core.Path.{_≡_, ap, _∙_}
 use mathlib.Core.List.{List, [], _∷_}
 use Prim.Native.Nat.{ℕ}
-use Rattle.refused.specs.Refused.{Told, answerNo, answerLines, handedOut}
-use Rattle.refused.specs.declared.RefusedRun.{RefusedRun}
-use Rattle.endings.specs.Endings.{Ended, endsNo, endsShown}
-use Rattle.endings.specs.declared.EndsRun.{EndsRun}
-use Rattle.tells.specs.Tells.{toldIn}
+use Rattle.run_refused.specs.Refused.{Told, answerNo, answerLines, handedOut}
+use Rattle.run_refused.specs.declared.RefusedRun.{RefusedRun}
+use Rattle.run_endings.specs.Endings.{Ended, endsNo, endsShown}
+use Rattle.run_endings.specs.declared.EndsRun.{EndsRun}
+use Rattle.door_shared.specs.Tells.{toldIn}
 use Rattle.door_runs.specs.Runs.{kindOf, endsKind, runTold, endsTold}
 
 module _ (told : List ℕ) where

@@ -2,12 +2,12 @@
 use Prim.Native.Nat.{ℕ}
 use mathlib.Core.List.{List, [], _∷_}
 use lib.ListN.{length}
-use Rattle.refused.specs.Refused.{answerLines, Told}
-use Rattle.refused.specs.declared.Answer as runs
-use Rattle.refused.specs.declared.Answer.the-variants as run
-use Rattle.endings.specs.Endings.{Ended}
-use Rattle.endings.specs.declared.Ends as ends
-use Rattle.endings.specs.declared.Ends.the-variants as end
+use Rattle.run_refused.specs.Refused.{answerLines, Told}
+use Rattle.run_refused.specs.declared.Answer as runs
+use Rattle.run_refused.specs.declared.Answer.the-variants as run
+use Rattle.run_endings.specs.Endings.{Ended}
+use Rattle.run_endings.specs.declared.Ends as ends
+use Rattle.run_endings.specs.declared.Ends.the-variants as end
 
 -- "`refused_brace_run` answers Lines, No with a count, or No to the end": 1 for Lines, else 0
 abbrev pub kindOf : runs.Answer → ℕ

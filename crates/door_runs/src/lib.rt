@@ -1,46 +1,46 @@
 // What C and Rust call about brace runs that are refused only for a line too far left: the number of a refusal, 0 where nothing is refused.
-use endings::Ends;
+use run_endings::Ends;
 ghost use mathlib.Core.Path.{_≡_};
 ghost use lib.ListN.{length};
-ghost use Rattle.lists.specs.Lists.{over};
-ghost use Rattle.refused.specs.Refused.{answerNo, answerLines, refusedRun};
-ghost use Rattle.endings.specs.Endings.{endsNo, endsIn};
-ghost use Rattle.tells.specs.Tells.{toldIn};
+ghost use Rattle.base_lists.specs.Lists.{over};
+ghost use Rattle.run_refused.specs.Refused.{answerNo, answerLines, refusedRun};
+ghost use Rattle.run_endings.specs.Endings.{endsNo, endsIn};
+ghost use Rattle.door_shared.specs.Tells.{toldIn};
 ghost use Rattle.door_runs.specs.Runs.{kindOf, endsKind, runTold, endsTold};
 
 // The number of what is said of a refused run.
-fn answer_number(a: refused::Answer) -> u8
+fn answer_number(a: run_refused::Answer) -> u8
     ensures { λ r. ⌜ r ≡ answerNo a ⌝ }
 {
     match a {
-        refused::Answer::No(_) => 0,
-        refused::Answer::Lines(_) => 0,
-        refused::Answer::NoEnd => 0,
-        refused::Answer::Refused(r) => refusals::number(r),
+        run_refused::Answer::No(_) => 0,
+        run_refused::Answer::Lines(_) => 0,
+        run_refused::Answer::NoEnd => 0,
+        run_refused::Answer::Refused(r) => base_refusals::number(r),
     }
 }
 
 // 1 where a run is refused.
-fn kind_of(a: refused::Answer) -> usize
+fn kind_of(a: run_refused::Answer) -> usize
     ensures { λ r. ⌜ r ≡ kindOf a ⌝ }
 {
     match a {
-        refused::Answer::No(_) => 0,
-        refused::Answer::Lines(_) => 1,
-        refused::Answer::NoEnd => 0,
-        refused::Answer::Refused(_) => 0,
+        run_refused::Answer::No(_) => 0,
+        run_refused::Answer::Lines(_) => 1,
+        run_refused::Answer::NoEnd => 0,
+        run_refused::Answer::Refused(_) => 0,
     }
 }
 
 // How many lines it takes, or were looked at; the largest number where they reach to the end.
-fn lines_of(a: refused::Answer) -> usize
+fn lines_of(a: run_refused::Answer) -> usize
     ensures { λ r. ⌜ r ≡ answerLines a ⌝ }
 {
     match a {
-        refused::Answer::No(n) => n,
-        refused::Answer::Lines(n) => n,
-        refused::Answer::NoEnd => 18446744073709551615,
-        refused::Answer::Refused(_) => 0,
+        run_refused::Answer::No(n) => n,
+        run_refused::Answer::Lines(n) => n,
+        run_refused::Answer::NoEnd => 18446744073709551615,
+        run_refused::Answer::Refused(_) => 0,
     }
 }
 
@@ -57,12 +57,12 @@ pub extern "C" fn bridlesnow_refused_brace_run(
     ensures { λ r. ⌜ now (join .exit) ≡ over (refusedRun (length (now (join .entry))) (now (text .entry)) line .text) (now (join .entry)) ⌝ }
     ensures { λ r. ⌜ now (told .exit) ≡ toldIn (now (told .entry)) (runTold (refusedRun (length (now (join .entry))) (now (text .entry)) line)) ⌝ }
 {
-    let run = refused::refused_brace_run(text, line, join);
+    let run = run_refused::refused_brace_run(text, line, join);
     let answer = run.answer;
-    tells::tell(told, 0, kind_of(answer));
-    tells::tell(told, 1, lines_of(answer));
-    tells::tell(told, 2, run.lookahead);
-    tells::tell(told, 3, run.joined);
+    door_shared::tell(told, 0, kind_of(answer));
+    door_shared::tell(told, 1, lines_of(answer));
+    door_shared::tell(told, 2, run.lookahead);
+    door_shared::tell(told, 3, run.joined);
     answer_number(answer)
 }
 
@@ -73,7 +73,7 @@ fn ends_number(e: Ends) -> u8
     match e {
         Ends::No => 0,
         Ends::Yes => 0,
-        Ends::Refused(r) => refusals::number(r),
+        Ends::Refused(r) => base_refusals::number(r),
     }
 }
 
@@ -99,9 +99,9 @@ pub extern "C" fn bridlesnow_ends_in_refused_brace_run(
     ensures { λ r. ⌜ now (join .exit) ≡ endsIn (now (join .entry)) (now (text .entry)) .join ⌝ }
     ensures { λ r. ⌜ now (told .exit) ≡ toldIn (now (told .entry)) (endsTold (endsIn (now (join .entry)) (now (text .entry)))) ⌝ }
 {
-    let run = endings::ends_in_refused_brace_run(text, join);
+    let run = run_endings::ends_in_refused_brace_run(text, join);
     let answer = run.answer;
-    tells::tell(told, 0, ends_kind(answer));
-    tells::tell(told, 1, run.lookahead);
+    door_shared::tell(told, 0, ends_kind(answer));
+    door_shared::tell(told, 1, run.lookahead);
     ends_number(answer)
 }

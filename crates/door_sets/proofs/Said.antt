@@ -4,22 +4,22 @@ use mathlib.Core.Path.{_≡_, refl, ap, _∙_}
 use mathlib.Core.List.{List, [], _∷_}
 use Prim.Native.Nat.{ℕ, zero, suc}
 use lib.ListN.{length}
-use Rattle.ascii.specs.declared.Mode.{Mode}
-use Rattle.ascii.specs.declared.Mode.the-variants.{Loose}
-use Rattle.checks.specs.Check.{checkOf}
-use Rattle.checks.specs.declared.Check.{Check}
-use Rattle.canon.specs.Canon.{canon}
-use Rattle.sets.specs.Types.{one}
-use Rattle.sets.specs.Rows.{meaningOf}
-use Rattle.fill.specs.declared.Filled.{Filled}
-use Rattle.reader.specs.Brace.{readAttrsAt}
-use Rattle.reader.specs.declared.Read.{Read}
-use Rattle.entries.specs.Entries.{parseStandalone}
-use Rattle.merge.specs.Merge.{mergeOf}
-use Rattle.writer.specs.Write.{wroteNo, wroteOf, contentAfter, orElse, orRefused, orLeft}
-use Rattle.writer.specs.declared.Wrote.{Wrote}
-use Rattle.tells.specs.Tells.{toldIn, checkOut, lenOf}
-use Rattle.tells.proofs.Laws.{Says, set-said}
+use Rattle.base_bytes.specs.declared.Mode.{Mode}
+use Rattle.base_bytes.specs.declared.Mode.the-variants.{Loose}
+use Rattle.text_checks.specs.Check.{checkOf}
+use Rattle.text_checks.specs.declared.Check.{Check}
+use Rattle.set_canon.specs.Canon.{canon}
+use Rattle.set_table.specs.Types.{one}
+use Rattle.set_table.specs.Rows.{meaningOf}
+use Rattle.set_fill.specs.declared.Filled.{Filled}
+use Rattle.read_brace.specs.Brace.{readAttrsAt}
+use Rattle.read_brace.specs.declared.Read.{Read}
+use Rattle.read_by_line.specs.Entries.{parseStandalone}
+use Rattle.set_merge.specs.Merge.{mergeOf}
+use Rattle.set_writer.specs.Write.{wroteNo, wroteOf, contentAfter, orElse, orRefused, orLeft}
+use Rattle.set_writer.specs.declared.Wrote.{Wrote}
+use Rattle.door_shared.specs.Tells.{toldIn, checkOut, lenOf}
+use Rattle.door_shared.proofs.Laws.{Says, set-said}
 use Rattle.door_sets.specs.Sets.{modeOf, checkBy, nextOf, stepOf, braceSaid, lineSaid, mergeSaid}
 
 pub loose-is : (n : ℕ) → (n ≡ 0 → ⊥) → Loose ≡ modeOf n

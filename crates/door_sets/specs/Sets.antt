@@ -1,20 +1,20 @@
 -- What a caller from C or Rust is answered of a set that is read or merged.
 use Prim.Native.Nat.{ℕ, zero, suc}
 use mathlib.Core.List.{List, [], _∷_}
-use Rattle.ascii.specs.declared.Mode.{Mode}
-use Rattle.ascii.specs.declared.Mode.the-variants.{Strict, Loose}
-use Rattle.checks.specs.Check.{checkOf}
-use Rattle.checks.specs.declared.Check.{Check}
-use Rattle.checks.specs.declared.Check.the-variants.{Passed, Refused}
-use Rattle.sets.specs.declared.Attrs.{Attrs}
-use Rattle.reader.specs.Brace.{readAttrsAt}
-use Rattle.reader.specs.declared.Read.{Read}
-use Rattle.reader.specs.declared.Answer as answers
-use Rattle.reader.specs.declared.Answer.the-variants as answer
-use Rattle.entries.specs.Entries.{parseStandalone}
-use Rattle.merge.specs.Merge.{mergeOf}
-use Rattle.writer.specs.Write.{orElse}
-use Rattle.tells.specs.Tells.{checkOut, Said, setSaid}
+use Rattle.base_bytes.specs.declared.Mode.{Mode}
+use Rattle.base_bytes.specs.declared.Mode.the-variants.{Strict, Loose}
+use Rattle.text_checks.specs.Check.{checkOf}
+use Rattle.text_checks.specs.declared.Check.{Check}
+use Rattle.text_checks.specs.declared.Check.the-variants.{Passed, Refused}
+use Rattle.set_table.specs.declared.Attrs.{Attrs}
+use Rattle.read_brace.specs.Brace.{readAttrsAt}
+use Rattle.read_brace.specs.declared.Read.{Read}
+use Rattle.read_brace.specs.declared.Answer as answers
+use Rattle.read_brace.specs.declared.Answer.the-variants as answer
+use Rattle.read_by_line.specs.Entries.{parseStandalone}
+use Rattle.set_merge.specs.Merge.{mergeOf}
+use Rattle.set_writer.specs.Write.{orElse}
+use Rattle.door_shared.specs.Tells.{checkOut, Said, setSaid}
 
 -- "`read_attrs_at` is strict (spaces only), lines are loose": 0 is strict, any other number loose
 abbrev pub modeOf : ℕ → Mode

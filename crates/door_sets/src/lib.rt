@@ -1,11 +1,11 @@
 // What C and Rust call to read or merge a set within a line: the number of its refusal, 0 where nothing is refused; the set as canonical text in lent memory.
-use ascii::Mode;
-use checks::Check;
-use reader::Answer;
+use base_bytes::Mode;
+use read_brace::Answer;
+use text_checks::Check;
 ghost use mathlib.Core.Path.{_≡_};
-ghost use Rattle.checks.specs.Check.{checkOf};
-ghost use Rattle.writer.specs.Write.{orElse};
-ghost use Rattle.tells.specs.Tells.{toldIn};
+ghost use Rattle.text_checks.specs.Check.{checkOf};
+ghost use Rattle.set_writer.specs.Write.{orElse};
+ghost use Rattle.door_shared.specs.Tells.{toldIn};
 ghost use Rattle.door_sets.specs.Sets.{modeOf, checkBy, nextOf, stepOf, braceSaid, lineSaid, mergeSaid};
 
 // 0 is strict, any other number loose.
@@ -44,7 +44,7 @@ fn or_text(c: Check, text: &[u8]) -> Check
 {
     match c {
         Check::Refused(r) => Check::Refused(r),
-        Check::Passed => checks::check_text(text),
+        Check::Passed => text_checks::check_text(text),
     }
 }
 
@@ -61,13 +61,13 @@ pub extern "C" fn bridlesnow_read_attrs_at(
     ensures { λ r. ⌜ now (out .exit) ≡ braceSaid (modeOf loose) (now (text .entry)) place (now (out .entry)) .out ⌝ }
     ensures { λ r. ⌜ now (told .exit) ≡ toldIn (now (told .entry)) (braceSaid (modeOf loose) (now (text .entry)) place (now (out .entry)) .told) ⌝ }
 {
-    let read = reader::read_attrs_at_with(text, place, mode_of(loose));
+    let read = read_brace::read_attrs_at_with(text, place, mode_of(loose));
     let answer = read.answer;
     let c = or_text(check_by(answer), text);
-    let w = tells::write_out(c, text, read.set, out);
-    tells::tell(told, 0, next_of(answer));
-    tells::tell(told, 1, tells::wrote_len(w));
-    tells::wrote_number(w)
+    let w = door_shared::write_out(c, text, read.set, out);
+    door_shared::tell(told, 0, next_of(answer));
+    door_shared::tell(told, 1, door_shared::wrote_len(w));
+    door_shared::wrote_number(w)
 }
 
 // Reads one line of blocks. Tells the length of its canonical text.
@@ -82,11 +82,11 @@ pub extern "C" fn bridlesnow_parse_standalone_attrs(
     ensures { λ r. ⌜ now (out .exit) ≡ lineSaid (now (text .entry)) line (now (out .entry)) .out ⌝ }
     ensures { λ r. ⌜ now (told .exit) ≡ toldIn (now (told .entry)) (lineSaid (now (text .entry)) line (now (out .entry)) .told) ⌝ }
 {
-    let filled = entries::parse_standalone_attrs(text, line);
+    let filled = read_by_line::parse_standalone_attrs(text, line);
     let outcome = filled.outcome;
-    let w = tells::write_out(tells::check_out(outcome), text, filled.set, out);
-    tells::tell(told, 0, tells::wrote_len(w));
-    tells::wrote_number(w)
+    let w = door_shared::write_out(door_shared::check_out(outcome), text, filled.set, out);
+    door_shared::tell(told, 0, door_shared::wrote_len(w));
+    door_shared::wrote_number(w)
 }
 
 // The first of two refusals.
@@ -129,17 +129,17 @@ pub extern "C" fn bridlesnow_merge_lines(
     ensures { λ r. ⌜ now (out .exit) ≡ mergeSaid (now (text .entry)) common variant (now (out .entry)) .out ⌝ }
     ensures { λ r. ⌜ now (told .exit) ≡ toldIn (now (told .entry)) (mergeSaid (now (text .entry)) common variant (now (out .entry)) .told) ⌝ }
 {
-    let first = entries::parse_standalone_attrs(text, common);
-    let second = entries::parse_standalone_attrs(text, variant);
-    let merged = merge::merge_attrs(text, first.set, second.set);
+    let first = read_by_line::parse_standalone_attrs(text, common);
+    let second = read_by_line::parse_standalone_attrs(text, variant);
+    let merged = set_merge::merge_attrs(text, first.set, second.set);
     let x = first.outcome;
     let y = second.outcome;
     let z = merged.outcome;
-    let a = tells::check_out(x);
-    let b = tells::check_out(y);
-    let c = tells::check_out(z);
-    let w = tells::write_out(first_of(a, first_of(b, c)), text, merged.set, out);
-    tells::tell(told, 0, step_of(a, b, c));
-    tells::tell(told, 1, tells::wrote_len(w));
-    tells::wrote_number(w)
+    let a = door_shared::check_out(x);
+    let b = door_shared::check_out(y);
+    let c = door_shared::check_out(z);
+    let w = door_shared::write_out(first_of(a, first_of(b, c)), text, merged.set, out);
+    door_shared::tell(told, 0, step_of(a, b, c));
+    door_shared::tell(told, 1, door_shared::wrote_len(w));
+    door_shared::wrote_number(w)
 }

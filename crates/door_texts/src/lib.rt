@@ -1,17 +1,17 @@
 // What C and Rust call with a text alone: yes or no, or the number of a refusal.
-use checks::Check;
+use text_checks::Check;
 ghost use mathlib.Core.Path.{_≡_};
-ghost use Rattle.ascii.specs.declared.Mode.the-variants.{Strict, Loose};
-ghost use Rattle.utf8.specs.Utf8.{isUtf8};
-ghost use Rattle.checks.specs.Check.{checkNo, checkOf};
-ghost use Rattle.payloads.specs.Payloads.{isPayload, isContinuation};
+ghost use Rattle.base_bytes.specs.declared.Mode.the-variants.{Strict, Loose};
+ghost use Rattle.text_utf8.specs.Utf8.{isUtf8};
+ghost use Rattle.text_checks.specs.Check.{checkNo, checkOf};
+ghost use Rattle.block_payloads.specs.Payloads.{isPayload, isContinuation};
 
 // Whether the bytes are UTF-8.
 #[no_mangle]
 pub extern "C" fn bridlesnow_is_utf8(text: &[u8]) -> bool
     ensures { λ r. ⌜ r ≡ isUtf8 (now (text .entry)) ⌝ }
 {
-    utf8::is_utf8(text)
+    text_utf8::is_utf8(text)
 }
 
 // The number of a check.
@@ -20,7 +20,7 @@ fn check_number(c: Check) -> u8
 {
     match c {
         Check::Passed => 0,
-        Check::Refused(r) => refusals::number(r),
+        Check::Refused(r) => base_refusals::number(r),
     }
 }
 
@@ -29,7 +29,7 @@ fn check_number(c: Check) -> u8
 pub extern "C" fn bridlesnow_check_text(text: &[u8]) -> u8
     ensures { λ r. ⌜ r ≡ checkNo (checkOf (now (text .entry))) ⌝ }
 {
-    check_number(checks::check_text(text))
+    check_number(text_checks::check_text(text))
 }
 
 // Whether the bytes are a payload of an inline block.
@@ -37,7 +37,7 @@ pub extern "C" fn bridlesnow_check_text(text: &[u8]) -> u8
 pub extern "C" fn bridlesnow_parse_attrs(payload: &[u8]) -> bool
     ensures { λ r. ⌜ r ≡ isPayload Strict (now (payload .entry)) ⌝ }
 {
-    payloads::parse_attrs(payload)
+    block_payloads::parse_attrs(payload)
 }
 
 // Whether the bytes are a payload of a block on lines of its own.
@@ -45,7 +45,7 @@ pub extern "C" fn bridlesnow_parse_attrs(payload: &[u8]) -> bool
 pub extern "C" fn bridlesnow_is_valid_attr_payload(payload: &[u8]) -> bool
     ensures { λ r. ⌜ r ≡ isPayload Loose (now (payload .entry)) ⌝ }
 {
-    payloads::is_valid_attr_payload(payload)
+    block_payloads::is_valid_attr_payload(payload)
 }
 
 // Whether a wrapped run can go on with the line.
@@ -53,5 +53,5 @@ pub extern "C" fn bridlesnow_is_valid_attr_payload(payload: &[u8]) -> bool
 pub extern "C" fn bridlesnow_valid_wrapped_attr_continuation(line: &[u8]) -> bool
     ensures { λ r. ⌜ r ≡ isContinuation (now (line .entry)) ⌝ }
 {
-    payloads::valid_wrapped_attr_continuation(line)
+    block_payloads::valid_wrapped_attr_continuation(line)
 }

@@ -65,7 +65,7 @@ fn word_of(line: &[u8]) -> usize {
 
 // Where the word ends.
 fn word_end(line: &[u8]) -> usize {
-    if lists::same_bytes(fields::part(line, 0, 5), b"leaf ") {
+    if base_lists::same_bytes(fields::part(line, 0, 5), b"leaf ") {
         return fields::find(line, 5, b' ');
     }
     fields::find(line, 0, b' ')
@@ -147,7 +147,7 @@ fn number_at(line: &[u8], k: usize) -> Said {
 fn cap_of(line: &[u8], word: usize, count: usize) -> Said {
     let n = fields::count(line, b' ');
     if n == count {
-        return fields::good(refusals::MAX_TEXT);
+        return fields::good(base_refusals::MAX_TEXT);
     }
     if LEAF <= word {
         return fields::bad();
@@ -163,11 +163,11 @@ fn cap_of(line: &[u8], word: usize, count: usize) -> Said {
 
 // The number behind `cap=`, up to the longest text.
 fn cap_at(s: &[u8]) -> Said {
-    if !lists::same_bytes(fields::part(s, 0, 4), b"cap=") {
+    if !base_lists::same_bytes(fields::part(s, 0, 4), b"cap=") {
         return fields::bad();
     }
     let cap = fields::number(fields::part(s, 4, s.len()));
-    if refusals::MAX_TEXT < cap.n {
+    if base_refusals::MAX_TEXT < cap.n {
         return fields::bad();
     }
     cap

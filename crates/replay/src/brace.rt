@@ -2,15 +2,15 @@
 use crate::fields;
 use crate::reply;
 use crate::reply::Reply;
-use ascii::Mode;
-use reader::Answer;
+use base_bytes::Mode;
+use read_brace::Answer;
 
 // A payload, or a place in a text, by the number of the word in the list of `ask`.
 pub(crate) fn answer(word: usize, place: usize, text: &[u8]) -> Reply {
     match word {
-        0 => reply::said(payloads::parse_attrs(text)),
-        1 => reply::said(payloads::is_valid_attr_payload(text)),
-        2 => reply::said(payloads::valid_wrapped_attr_continuation(text)),
+        0 => reply::said(block_payloads::parse_attrs(text)),
+        1 => reply::said(block_payloads::is_valid_attr_payload(text)),
+        2 => reply::said(block_payloads::valid_wrapped_attr_continuation(text)),
         _ => payload(text, place),
     }
 }
@@ -25,7 +25,7 @@ pub(crate) fn answer_read(text: &[u8], place: usize, mode: usize, canon: &mut [u
 }
 
 fn read(text: &[u8], place: usize, mode: Mode, canon: &mut [u8]) -> Reply {
-    let read = reader::read_attrs_at_with(text, place, mode);
+    let read = read_brace::read_attrs_at_with(text, place, mode);
     let answer = read.answer;
     match answer {
         Answer::Refused(r) => reply::refused(reply::REFUSED, r),
@@ -37,9 +37,9 @@ fn read(text: &[u8], place: usize, mode: Mode, canon: &mut [u8]) -> Reply {
 
 // The part that is handed back has no place in it, so the range is asked too.
 fn payload(text: &[u8], place: usize) -> Reply {
-    let r = reader::payload_range(text, place);
-    let handed = reader::payload_at(text, place);
-    if !lists::same_bytes(handed, fields::part(text, r.from, r.to)) {
+    let r = read_brace::payload_range(text, place);
+    let handed = read_brace::payload_at(text, place);
+    if !base_lists::same_bytes(handed, fields::part(text, r.from, r.to)) {
         return reply::alone(reply::ANOTHER);
     }
     reply::paired(reply::FROM, r.from, reply::TO, r.to)

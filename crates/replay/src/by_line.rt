@@ -7,11 +7,11 @@ use crate::merging;
 use crate::refusing;
 use crate::reply;
 use crate::reply::Reply;
-use blocks::Block;
-use fill::Filled;
-use fill::Outcome;
-use lengths::Length;
-use lengths::Measure;
+use read_blocks::Block;
+use read_lengths::Length;
+use read_lengths::Measure;
+use set_fill::Filled;
+use set_fill::Outcome;
 
 // What only measures, and refused runs, by the number of the word in the list of `ask`.
 pub(crate) fn answer(q: Ask, text: &[u8], join: &mut [u8]) -> Reply {
@@ -27,9 +27,9 @@ pub(crate) fn answer(q: Ask, text: &[u8], join: &mut [u8]) -> Reply {
 fn measure(q: Ask, text: &[u8], join: &mut [u8]) -> Measure {
     let word = q.word;
     match word {
-        4 => lengths::standalone_attrs_block_len(text, q.x, join),
-        5 => lengths::indented_wrapped_attrs_block_len(text, q.x, join),
-        _ => lengths::attrs_block_len_at(text, q.y, q.x, join),
+        4 => read_lengths::standalone_attrs_block_len(text, q.x, join),
+        5 => read_lengths::indented_wrapped_attrs_block_len(text, q.x, join),
+        _ => read_lengths::attrs_block_len_at(text, q.y, q.x, join),
     }
 }
 
@@ -42,16 +42,16 @@ pub(crate) fn answer_block(q: Ask, text: &[u8], join: &mut [u8], canon: &mut [u8
 // A line, or a column and a line.
 fn read(q: Ask, text: &[u8], join: &mut [u8]) -> Block {
     if q.word == 9 {
-        return entries::parse_standalone_attrs_block(text, q.x, join);
+        return read_by_line::parse_standalone_attrs_block(text, q.x, join);
     }
-    entries::wrapped_attrs_run_at(text, q.y, q.x, join)
+    read_by_line::wrapped_attrs_run_at(text, q.y, q.x, join)
 }
 
 // A line, two lines that are merged, or a place: sets over the text itself.
 pub(crate) fn answer_set(q: Ask, text: &[u8], canon: &mut [u8]) -> Reply {
     let word = q.word;
     match word {
-        11 => filled(text, entries::parse_standalone_attrs(text, q.x), canon),
+        11 => filled(text, read_by_line::parse_standalone_attrs(text, q.x), canon),
         12 => merging::answer(text, false, canon),
         13 => merging::answer(text, true, canon),
         _ => brace::answer_read(text, q.x, q.mode, canon),

@@ -87,7 +87,7 @@ pub(crate) fn index_of<'a>(list: &'a [u8], word: &'a [u8]) -> usize {
     let n = count(list, b'/');
     let mut k = 0;
     while k < n {
-        if lists::same_bytes(field(list, b'/', k), word) {
+        if base_lists::same_bytes(field(list, b'/', k), word) {
             return k;
         }
         k += 1;
@@ -140,7 +140,7 @@ pub(crate) fn unhex(s: &[u8], text: &mut [u8]) -> Said {
     if s.len() == 0 {
         return bad();
     }
-    if lists::same_bytes(s, b"-") {
+    if base_lists::same_bytes(s, b"-") {
         return good(0);
     }
     unhex_pairs(s, text)

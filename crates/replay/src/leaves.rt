@@ -22,77 +22,82 @@ pub(crate) fn answer(word: usize, x: usize, text: &[u8], b: &mut [u8]) -> Reply 
 // Whether a text is what the word names.
 fn is(word: usize, s: &[u8]) -> bool {
     match word {
-        16 => utf8::is_utf8(s),
-        17 => names::is_identifier(s),
-        18 => names::is_css_identifier(s),
-        19 => names::is_boolean_attr_name(s),
-        20 => names::is_language_tag(s),
-        _ => lines::is_blank_line(s),
+        16 => text_utf8::is_utf8(s),
+        17 => text_names::is_identifier(s),
+        18 => text_names::is_css_identifier(s),
+        19 => text_names::is_boolean_attr_name(s),
+        20 => text_names::is_language_tag(s),
+        _ => text_lines::is_blank_line(s),
     }
 }
 
 // What the leaf of that word counts in a text, or which part of it it takes.
 fn measure(word: usize, s: &[u8]) -> Reply {
     match word {
-        22 => reply::numbered(reply::NUMBER, number_of(checks::check_text(s))),
-        23 => reply::numbered(reply::NUMBER, utf8::char_count(s)),
-        24 => reply::numbered(reply::NUMBER, columns::indent_columns(s)),
-        25 => reply::numbered(reply::NUMBER, columns::columns(0, s)),
-        26 => part(lines::trim_ascii(s)),
-        27 => reply::paired(reply::FROM, lines::trim_ascii_start(s), reply::TO, s.len()),
-        _ => reply::paired(reply::FROM, 0, reply::TO, lines::trim_ascii_end(s)),
+        22 => reply::numbered(reply::NUMBER, number_of(text_checks::check_text(s))),
+        23 => reply::numbered(reply::NUMBER, text_utf8::char_count(s)),
+        24 => reply::numbered(reply::NUMBER, text_tabs::indent_columns(s)),
+        25 => reply::numbered(reply::NUMBER, text_tabs::columns(0, s)),
+        26 => part(text_lines::trim_ascii(s)),
+        27 => reply::paired(
+            reply::FROM,
+            text_lines::trim_ascii_start(s),
+            reply::TO,
+            s.len(),
+        ),
+        _ => reply::paired(reply::FROM, 0, reply::TO, text_lines::trim_ascii_end(s)),
     }
 }
 
 // What the leaf of that word says of a text and a number, or of two texts.
 pub(crate) fn answer_at<'a>(word: usize, k: usize, s: &'a [u8], other: &'a [u8]) -> Reply {
     match word {
-        31 => reply::said(utf8::is_char_boundary(s, k)),
-        32 => line(lines::line_of(s, k)),
-        33 => ends(lines::line_from(s, k)),
-        34 => piece(escapes::piece_at(s, k)),
-        35 => reply::said(escapes::same_unescaped(s, other)),
+        31 => reply::said(text_utf8::is_char_boundary(s, k)),
+        32 => line(text_lines::line_of(s, k)),
+        33 => ends(text_lines::line_from(s, k)),
+        34 => piece(text_escapes::piece_at(s, k)),
+        35 => reply::said(text_escapes::same_unescaped(s, other)),
         _ => reply::alone(reply::ERROR),
     }
 }
 
-fn part(r: lines::Range) -> Reply {
+fn part(r: text_lines::Range) -> Reply {
     reply::paired(reply::FROM, r.from, reply::TO, r.to)
 }
 
-fn line(line: lines::Line) -> Reply {
+fn line(line: text_lines::Line) -> Reply {
     match line {
-        lines::Line::Missing => reply::alone(reply::NONE),
-        lines::Line::At(r) => part(r),
+        text_lines::Line::Missing => reply::alone(reply::NONE),
+        text_lines::Line::At(r) => part(r),
     }
 }
 
-fn ends(l: lines::LineEnd) -> Reply {
+fn ends(l: text_lines::LineEnd) -> Reply {
     reply::paired(reply::ENDS, l.to, reply::NEXT, l.next)
 }
 
-fn piece(p: escapes::Piece) -> Reply {
+fn piece(p: text_escapes::Piece) -> Reply {
     match p {
-        escapes::Piece::End => reply::alone(reply::END),
-        escapes::Piece::Byte(b, next) => {
+        text_escapes::Piece::End => reply::alone(reply::END),
+        text_escapes::Piece::Byte(b, next) => {
             reply::paired(reply::BYTE, fields::wide(b), reply::NEXT, next)
         }
     }
 }
 
 // The number of a refusal, 0 where the text passes.
-fn number_of(c: checks::Check) -> usize {
+fn number_of(c: text_checks::Check) -> usize {
     match c {
-        checks::Check::Passed => 0,
-        checks::Check::Refused(r) => fields::wide(refusals::number(r)),
+        text_checks::Check::Passed => 0,
+        text_checks::Check::Refused(r) => fields::wide(base_refusals::number(r)),
     }
 }
 
 // The text without its escapes, laid into the second buffer.
 fn unescaped(s: &[u8], b: &mut [u8]) -> Reply {
-    match escapes::write_unescaped(b, 0, s) {
-        escapes::Written::Full => reply::alone(reply::ERROR),
-        escapes::Written::To(n) => reply::numbered(reply::BYTES, n),
+    match text_escapes::write_unescaped(b, 0, s) {
+        text_escapes::Written::Full => reply::alone(reply::ERROR),
+        text_escapes::Written::To(n) => reply::numbered(reply::BYTES, n),
     }
 }
 
@@ -109,25 +114,25 @@ fn classes(n: usize, b: &mut [u8]) -> Reply {
 
 fn classes_of_names(byte: u8) -> [u8; 6] {
     [
-        mark(letters::is_letter(byte)),
-        mark(letters::is_digit(byte)),
-        mark(letters::is_alnum(byte)),
-        mark(letters::is_css_ident_start(byte)),
-        mark(letters::is_attr_ident_start(byte)),
-        mark(letters::is_attr_ident_part(byte)),
+        mark(base_letters::is_letter(byte)),
+        mark(base_letters::is_digit(byte)),
+        mark(base_letters::is_alnum(byte)),
+        mark(base_letters::is_css_ident_start(byte)),
+        mark(base_letters::is_attr_ident_start(byte)),
+        mark(base_letters::is_attr_ident_part(byte)),
     ]
 }
 
 fn classes_of_marks(byte: u8) -> [u8; 8] {
     [
-        mark(ascii::is_space(byte)),
-        mark(ascii::is_punct(byte)),
-        mark(ascii::is_quote(byte)),
-        mark(ascii::is_plain(byte)),
-        mark(ascii::is_blank(ascii::Mode::Strict, byte)),
-        mark(ascii::is_blank(ascii::Mode::Loose, byte)),
-        mark(ascii::is_indent(byte)),
-        mark(ascii::is_tail(byte)),
+        mark(base_bytes::is_space(byte)),
+        mark(base_bytes::is_punct(byte)),
+        mark(base_bytes::is_quote(byte)),
+        mark(base_bytes::is_plain(byte)),
+        mark(base_bytes::is_blank(base_bytes::Mode::Strict, byte)),
+        mark(base_bytes::is_blank(base_bytes::Mode::Loose, byte)),
+        mark(base_bytes::is_indent(byte)),
+        mark(base_bytes::is_tail(byte)),
     ]
 }
 

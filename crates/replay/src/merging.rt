@@ -5,9 +5,9 @@ use crate::fields::Said;
 use crate::out;
 use crate::reply;
 use crate::reply::Reply;
-use fill::Filled;
-use fill::Outcome;
-use sets::Attrs;
+use set_fill::Filled;
+use set_fill::Outcome;
+use set_table::Attrs;
 
 // 1 where a text has an LF, else 0.
 fn lf_in(s: &[u8]) -> u8 {
@@ -30,7 +30,7 @@ pub(crate) fn behind(a: &mut [u8], first: Said, second: &[u8]) -> Said {
 
 // The sets of the text's two lines, merged: `leading` says that the second stands before the first.
 pub(crate) fn answer(text: &[u8], leading: bool, canon: &mut [u8]) -> Reply {
-    let first = entries::parse_standalone_attrs(text, 1);
+    let first = read_by_line::parse_standalone_attrs(text, 1);
     let outcome = first.outcome;
     match outcome {
         Outcome::Refused(r) => reply::refused(reply::FIRST, r),
@@ -40,7 +40,7 @@ pub(crate) fn answer(text: &[u8], leading: bool, canon: &mut [u8]) -> Reply {
 
 // The first set is read.
 fn answer_second(text: &[u8], first: Attrs, leading: bool, canon: &mut [u8]) -> Reply {
-    let second = entries::parse_standalone_attrs(text, 2);
+    let second = read_by_line::parse_standalone_attrs(text, 2);
     let outcome = second.outcome;
     match outcome {
         Outcome::Refused(r) => reply::refused(reply::SECOND, r),
@@ -51,7 +51,7 @@ fn answer_second(text: &[u8], first: Attrs, leading: bool, canon: &mut [u8]) -> 
 // The two sets merged.
 fn merged(text: &[u8], first: Attrs, second: Attrs, leading: bool) -> Filled {
     if leading {
-        return merge::merge_leading_attrs(text, first, second);
+        return set_merge::merge_leading_attrs(text, first, second);
     }
-    merge::merge_attrs(text, first, second)
+    set_merge::merge_attrs(text, first, second)
 }

@@ -1,19 +1,19 @@
 // Requests for refused brace runs.
 use crate::reply;
 use crate::reply::Reply;
-use endings::Ends;
-use refused::Answer;
+use run_endings::Ends;
+use run_refused::Answer;
 
 // The run at a line.
 pub(crate) fn run(text: &[u8], line: usize, join: &mut [u8]) -> Reply {
-    let r = refused::refused_brace_run(text, line, join);
+    let r = run_refused::refused_brace_run(text, line, join);
     let answer = r.answer;
     reply::with_run(answered(answer), r.lookahead, join)
 }
 
 // Whether the text ends in one.
 pub(crate) fn ends(text: &[u8], join: &mut [u8]) -> Reply {
-    let r = endings::ends_in_refused_brace_run(text, join);
+    let r = run_endings::ends_in_refused_brace_run(text, join);
     let answer = r.answer;
     reply::with_run(ended(answer), r.lookahead, join)
 }

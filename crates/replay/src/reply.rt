@@ -1,9 +1,9 @@
 // Answers, by value: up to four phrases, and what stands behind each. Only what is written at the end needs the output.
 use crate::fields;
 use crate::out;
-use refusals::Refusal;
-use sets::Attrs;
-use writer::Wrote;
+use base_refusals::Refusal;
+use set_table::Attrs;
+use set_writer::Wrote;
 
 // The number of a phrase and what stands behind it: a number, or how many bytes of a buffer.
 pub(crate) struct Reply {
@@ -148,7 +148,7 @@ pub(crate) fn said(yes: bool) -> Reply {
 
 // The number of a refusal behind a phrase.
 pub(crate) fn refused(first: usize, r: Refusal) -> Reply {
-    numbered(first, fields::wide(refusals::number(r)))
+    numbered(first, fields::wide(base_refusals::number(r)))
 }
 
 // Adds the lookahead and what was joined. The join buffer has the byte FF behind that, which no UTF-8 text holds.
@@ -187,8 +187,12 @@ fn least(s: &[u8]) -> u8 {
 
 // Adds the canonical text of a set over the text, laid into the buffer, or what the writer refuses it with.
 pub(crate) fn with_set(r: Reply, text: &[u8], set: Attrs, canon: &mut [u8]) -> Reply {
-    match writer::write_attrs(text, set, canon) {
-        Wrote::Refused(why) => with_canon(r, CANON_REFUSED, fields::wide(refusals::number(why))),
+    match set_writer::write_attrs(text, set, canon) {
+        Wrote::Refused(why) => with_canon(
+            r,
+            CANON_REFUSED,
+            fields::wide(base_refusals::number(why)),
+        ),
         Wrote::Bytes(n) => with_canon(r, CANON, n),
     }
 }

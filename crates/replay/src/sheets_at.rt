@@ -2,8 +2,8 @@
 use crate::fields;
 use crate::out;
 use crate::reply;
-use report::Part;
-use report::Told;
+use sheet_report::Part;
+use sheet_report::Told;
 
 // How far the answer goes, at which place and line the report goes on, and whether it does.
 struct State {
@@ -59,9 +59,9 @@ fn put_next(text: &[u8], b: &mut [u8], join: &mut [u8], output: &mut [u8], s: St
 // Lays the next part; there is no line 0, which stands for the start.
 fn lay_next(text: &[u8], at: usize, line: usize, join: &mut [u8], b: &mut [u8]) -> Part {
     if line == 0 {
-        return report::report_start(text, join, b);
+        return sheet_report::report_start(text, join, b);
     }
-    report::report_part(text, at, line, join, b)
+    sheet_report::report_part(text, at, line, join, b)
 }
 
 fn is_more(part: Part) -> bool {

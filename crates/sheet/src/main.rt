@@ -1,15 +1,15 @@
 // Writes the reports on sheets to standard output: a line for each block. Without arguments it reads a sheet from standard input; else the
 // files that its arguments name, one after the other and each under a heading, and for `-` standard input.
-use report::Part;
-use report::Told;
+use sheet_report::Part;
+use sheet_report::Told;
 
 // One byte more than a sheet may have is enough to refuse it, so no further one is read.
-const TEXT: usize = refusals::MAX_TEXT + 1;
+const TEXT: usize = base_refusals::MAX_TEXT + 1;
 
 fn main() {
     let mut text = [0u8; TEXT];
-    let mut join = [0u8; refusals::MAX_TEXT];
-    let mut out = [0u8; report::LINE];
+    let mut join = [0u8; base_refusals::MAX_TEXT];
+    let mut out = [0u8; sheet_report::LINE];
     if os::arg_count() <= 1 {
         report_on(libc::STDIN_FILENO, &mut text, &mut join, &mut out);
         return;
@@ -34,7 +34,7 @@ fn report_named(i: usize, text: &mut [u8], join: &mut [u8], out: &mut [u8]) {
     say(b"==> ");
     say(&name[..n]);
     say(b" <==\n");
-    if lists::same_bytes(&name[..n], b"-") {
+    if base_lists::same_bytes(&name[..n], b"-") {
         report_on(libc::STDIN_FILENO, text, join, out);
         return;
     }
@@ -59,20 +59,20 @@ fn say(words: &[u8]) -> bool {
 
 // Writes the report part by part. A proved loop has to end, so it counts its turns down, from a number that no sheet uses up.
 fn write_report(text: &[u8], join: &mut [u8], out: &mut [u8]) {
-    let mut part = report::report_start(text, join, out);
+    let mut part = sheet_report::report_start(text, join, out);
     let mut turns = u64::MAX;
     while turns > 0 {
         if !write_part(part, out) {
             return;
         }
-        part = report::report_part(text, part.at, part.line, join, out);
+        part = sheet_report::report_part(text, part.at, part.line, join, out);
         turns -= 1;
     }
 }
 
 // Writes what a part laid at the buffer's front, and answers whether to go on: more comes, and it could be written.
 fn write_part(part: Part, out: &[u8]) -> bool {
-    if !say(sets::bytes_of(out, 0, part.len)) {
+    if !say(set_table::bytes_of(out, 0, part.len)) {
         return false;
     }
     let told = part.told;

@@ -12,14 +12,14 @@ use crate::good::quoted;
 use crate::good::row;
 use crate::good::slot;
 use crate::report;
-use sets::Attrs;
-use sets::Id;
-use sets::Ident;
-use sets::Name;
-use sets::Row;
-use sets::Slot;
-use sets::Text;
-use sets::Value;
+use set_table::Attrs;
+use set_table::Id;
+use set_table::Ident;
+use set_table::Name;
+use set_table::Row;
+use set_table::Slot;
+use set_table::Text;
+use set_table::Value;
 
 pub(crate) fn run(text: &[u8]) {
     whole(text);

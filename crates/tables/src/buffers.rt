@@ -8,9 +8,9 @@ use crate::part;
 use crate::say;
 use crate::say_number;
 use crate::say_wrote;
-use sets::Attrs;
-use sets::Slot;
-use writer::Wrote;
+use set_table::Attrs;
+use set_table::Slot;
+use set_writer::Wrote;
 
 pub(crate) fn run(text: &[u8]) {
     exact(text);
@@ -23,7 +23,7 @@ pub(crate) fn run(text: &[u8]) {
 fn exact(text: &[u8]) {
     let mut out = [MARK; 45];
     say(b"45 bytes lent");
-    let wrote = writer::write_attrs(text, good::set(), &mut out);
+    let wrote = set_writer::write_attrs(text, good::set(), &mut out);
     say_wrote(wrote, &out);
     say(b"\n");
 }
@@ -31,7 +31,7 @@ fn exact(text: &[u8]) {
 fn short(text: &[u8]) {
     let mut out = [MARK; 44];
     say(b"44 bytes lent");
-    let wrote = writer::write_attrs(text, good::set(), &mut out);
+    let wrote = set_writer::write_attrs(text, good::set(), &mut out);
     say_wrote(wrote, &out);
     say(b"\n");
 }
@@ -39,7 +39,7 @@ fn short(text: &[u8]) {
 fn none(text: &[u8]) {
     let mut out = [MARK; 1];
     say(b"no byte lent");
-    let wrote = writer::write_attrs(text, good::set(), &mut out[..0]);
+    let wrote = set_writer::write_attrs(text, good::set(), &mut out[..0]);
     say_wrote(wrote, &out[..0]);
     say(b"\n");
 }
@@ -62,12 +62,12 @@ fn longest() {
 
 fn longest_into(text: &[u8], out: &mut [u8]) {
     say(b"a canonical text of 65,536 bytes: ");
-    say_length(writer::write_attrs(text, class_of(65526), out));
+    say_length(set_writer::write_attrs(text, class_of(65526), out));
     if is_kept(out) {
         say(b", memory kept");
     }
     say(b"\na canonical text of 65,535 bytes: ");
-    say_length(writer::write_attrs(text, class_of(65525), out));
+    say_length(set_writer::write_attrs(text, class_of(65525), out));
     if is_kept(part(out, 65535, 65540)) {
         say(b", rest kept");
     }
@@ -78,7 +78,7 @@ fn say_length(wrote: Wrote) {
     match wrote {
         Wrote::Refused(r) => {
             say(b"refused ");
-            say_number(refusals::number(r) as usize);
+            say_number(base_refusals::number(r) as usize);
         }
         Wrote::Bytes(n) => say_number(n),
     }

@@ -5,9 +5,9 @@ use crate::good::plain;
 use crate::good::row;
 use crate::good::slot;
 use crate::report;
-use sets::Row;
-use sets::Slot;
-use sets::Value;
+use set_table::Row;
+use set_table::Slot;
+use set_table::Value;
 
 pub(crate) fn counts<'a>(name: &'a [u8], text: &'a [u8], nclass: u8, nkey: u8, norder: u8) {
     let mut s = good::set();

@@ -1,13 +1,13 @@
 // A well-formed table.
-use sets::Attrs;
-use sets::Id;
-use sets::Ident;
-use sets::Name;
-use sets::Row;
-use sets::Slot;
-use sets::SlotRecord;
-use sets::Text;
-use sets::Value;
+use set_table::Attrs;
+use set_table::Id;
+use set_table::Ident;
+use set_table::Name;
+use set_table::Row;
+use set_table::Slot;
+use set_table::SlotRecord;
+use set_table::Text;
+use set_table::Value;
 
 pub(crate) fn plain(from: u16, to: u16) -> Value {
     Value {

@@ -4,11 +4,11 @@ mod buffers;
 mod changed;
 mod good;
 
-use fill::Filled;
-use fill::Outcome;
-use refusals::Refusal;
-use sets::Attrs;
-use writer::Wrote;
+use base_refusals::Refusal;
+use set_fill::Filled;
+use set_fill::Outcome;
+use set_table::Attrs;
+use set_writer::Wrote;
 
 // What lent memory holds before a call.
 pub(crate) const MARK: u8 = b'#';
@@ -26,17 +26,17 @@ pub(crate) fn say_number(n: usize) {
 pub(crate) fn report<'a>(name: &'a [u8], text: &'a [u8], set: Attrs) {
     let mut out = [MARK; 80];
     say(name);
-    if wellformed::well_formed(text, set) {
+    if set_wellformed::well_formed(text, set) {
         say(b": well-formed");
     } else {
         say(b": not well-formed");
     }
-    let wrote = writer::write_attrs(text, set, &mut out);
+    let wrote = set_writer::write_attrs(text, set, &mut out);
     say_wrote(wrote, &out);
     say(b", merged ");
-    say_merged(merge::merge_attrs(text, set, good::set()));
+    say_merged(set_merge::merge_attrs(text, set, good::set()));
     say(b" and ");
-    say_merged(merge::merge_attrs(text, good::set(), set));
+    say_merged(set_merge::merge_attrs(text, good::set(), set));
     say(b"\n");
 }
 
@@ -45,7 +45,7 @@ pub(crate) fn say_wrote(wrote: Wrote, out: &[u8]) {
     match wrote {
         Wrote::Refused(r) => {
             say(b", written: refused ");
-            say_number(refusals::number(r) as usize);
+            say_number(base_refusals::number(r) as usize);
             say_kept(out);
         }
         Wrote::Bytes(n) => {
@@ -96,7 +96,7 @@ fn say_merged(merged: Filled) {
 
 // A refusal hands out no set.
 fn say_refused(r: Refusal, set: Attrs) {
-    say_number(refusals::number(r) as usize);
+    say_number(base_refusals::number(r) as usize);
     if 0 < set.norder {
         say(b" WITH A SET");
     }

@@ -14,13 +14,13 @@ pub(crate) fn run(t: Tally) -> Tally {
 
 // Whether the raw text unescapes to the plain one, both as it is compared and as it is written.
 fn unescapes<'a>(raw: &'a [u8], plain: &'a [u8]) -> bool {
-    if !escapes::same_unescaped(raw, plain) {
+    if !text_escapes::same_unescaped(raw, plain) {
         return false;
     }
     let mut buf = [0xFFu8; 80];
-    match escapes::write_unescaped(&mut buf, 0, raw) {
-        escapes::Written::Full => false,
-        escapes::Written::To(n) => begins(&buf, n, plain),
+    match text_escapes::write_unescaped(&mut buf, 0, raw) {
+        text_escapes::Written::Full => false,
+        text_escapes::Written::To(n) => begins(&buf, n, plain),
     }
 }
 
@@ -29,7 +29,7 @@ fn begins<'a>(buf: &'a [u8], n: usize, plain: &'a [u8]) -> bool {
     if buf.len() < n {
         return false;
     }
-    lists::same_bytes(&buf[0..n], plain)
+    base_lists::same_bytes(&buf[0..n], plain)
 }
 
 // Example 12: any ASCII punctuation character may be backslash-escaped. Example 13: before other characters the backslash
@@ -81,9 +81,9 @@ fn escapes_elsewhere(t: Tally) -> Tally {
     n = held(n, unescapes(b"foo\\", b"foo\\"));
     n = held(n, unescapes(b"\\", b"\\"));
     n = held(n, unescapes(b"", b""));
-    n = held(n, !escapes::same_unescaped(b"ti\\*tle", b"ti\\*tle"));
-    n = held(n, !escapes::same_unescaped(b"ti\\*tle", b"ti*tl"));
-    n = held(n, !escapes::same_unescaped(b"ti\\*tle", b"ti*tles"));
+    n = held(n, !text_escapes::same_unescaped(b"ti\\*tle", b"ti\\*tle"));
+    n = held(n, !text_escapes::same_unescaped(b"ti\\*tle", b"ti*tl"));
+    n = held(n, !text_escapes::same_unescaped(b"ti\\*tle", b"ti*tles"));
     n
 }
 
@@ -94,61 +94,61 @@ fn room_for(t: Tally) -> Tally {
     let mut n = t;
     n = held(
         n,
-        fits(escapes::write_unescaped(&mut exact, 0, b"ti\\*tle")),
+        fits(text_escapes::write_unescaped(&mut exact, 0, b"ti\\*tle")),
     );
-    n = held(n, lists::same_bytes(&exact, b"ti*tle"));
+    n = held(n, base_lists::same_bytes(&exact, b"ti*tle"));
     n = held(
         n,
-        !fits(escapes::write_unescaped(&mut short, 0, b"ti\\*tle")),
+        !fits(text_escapes::write_unescaped(&mut short, 0, b"ti\\*tle")),
     );
-    n = held(n, lists::same_bytes(&short, b"\0\0\0\0\0"));
+    n = held(n, base_lists::same_bytes(&short, b"\0\0\0\0\0"));
     n
 }
 
-fn fits(w: escapes::Written) -> bool {
+fn fits(w: text_escapes::Written) -> bool {
     match w {
-        escapes::Written::Full => false,
-        escapes::Written::To(_) => true,
+        text_escapes::Written::Full => false,
+        text_escapes::Written::To(_) => true,
     }
 }
 
 // Section 2.2: a tab goes to the next multiple of four.
 fn tab_stops(t: Tally) -> Tally {
     let mut n = t;
-    n = held(n, columns::columns(0, b"\t") == 4);
-    n = held(n, columns::columns(1, b"\t") == 4);
-    n = held(n, columns::columns(2, b"\t") == 4);
-    n = held(n, columns::columns(3, b"\t") == 4);
-    n = held(n, columns::columns(4, b"\t") == 8);
-    n = held(n, columns::columns(0, b" \t") == 4);
-    n = held(n, columns::columns(0, b"   \t\t") == 8);
-    n = held(n, columns::columns(0, b"") == 0);
+    n = held(n, text_tabs::columns(0, b"\t") == 4);
+    n = held(n, text_tabs::columns(1, b"\t") == 4);
+    n = held(n, text_tabs::columns(2, b"\t") == 4);
+    n = held(n, text_tabs::columns(3, b"\t") == 4);
+    n = held(n, text_tabs::columns(4, b"\t") == 8);
+    n = held(n, text_tabs::columns(0, b" \t") == 4);
+    n = held(n, text_tabs::columns(0, b"   \t\t") == 8);
+    n = held(n, text_tabs::columns(0, b"") == 0);
     n
 }
 
 // The indentation of lines of examples 1, 2, 3, 5, 9 and 8, and lines without one.
 fn indents(t: Tally) -> Tally {
     let mut n = t;
-    n = held(n, columns::indent_columns(b"\tfoo\tbaz\t\tbim") == 4);
-    n = held(n, columns::indent_columns(b"  \tfoo\tbaz\t\tbim") == 4);
-    n = held(n, columns::indent_columns(b"    a\ta") == 4);
-    n = held(n, columns::indent_columns(b"\t\tbar") == 8);
-    n = held(n, columns::indent_columns(b"\t - baz") == 5);
-    n = held(n, columns::indent_columns(b" \t") == 4);
-    n = held(n, columns::indent_columns(b"foo") == 0);
-    n = held(n, columns::indent_columns(b"") == 0);
-    n = held(n, columns::indent_columns(b"\x0C{") == 0);
+    n = held(n, text_tabs::indent_columns(b"\tfoo\tbaz\t\tbim") == 4);
+    n = held(n, text_tabs::indent_columns(b"  \tfoo\tbaz\t\tbim") == 4);
+    n = held(n, text_tabs::indent_columns(b"    a\ta") == 4);
+    n = held(n, text_tabs::indent_columns(b"\t\tbar") == 8);
+    n = held(n, text_tabs::indent_columns(b"\t - baz") == 5);
+    n = held(n, text_tabs::indent_columns(b" \t") == 4);
+    n = held(n, text_tabs::indent_columns(b"foo") == 0);
+    n = held(n, text_tabs::indent_columns(b"") == 0);
+    n = held(n, text_tabs::indent_columns(b"\x0C{") == 0);
     n
 }
 
 // The columns behind lines of examples 3, 6, 10 and 11; characters count, not bytes.
 fn columns_of_lines(t: Tally) -> Tally {
     let mut n = t;
-    n = held(n, columns::columns(0, b"    a\ta") == 9);
-    n = held(n, columns::columns(0, b"    \xE1\xBD\x90\ta") == 9);
-    n = held(n, columns::columns(0, b">\t\tfoo") == 11);
-    n = held(n, columns::columns(0, b"#\tFoo") == 7);
-    n = held(n, columns::columns(0, b"*\t*\t*\t") == 12);
-    n = held(n, columns::columns(0, b"\xF0\xA3\x8E\xB4") == 1);
+    n = held(n, text_tabs::columns(0, b"    a\ta") == 9);
+    n = held(n, text_tabs::columns(0, b"    \xE1\xBD\x90\ta") == 9);
+    n = held(n, text_tabs::columns(0, b">\t\tfoo") == 11);
+    n = held(n, text_tabs::columns(0, b"#\tFoo") == 7);
+    n = held(n, text_tabs::columns(0, b"*\t*\t*\t") == 12);
+    n = held(n, text_tabs::columns(0, b"\xF0\xA3\x8E\xB4") == 1);
     n
 }

@@ -18,80 +18,80 @@ pub(crate) fn run(t: Tally) -> Tally {
 // A name begins with a letter, a digit or `_`; a key with a letter or `_`.
 fn names_and_keys(t: Tally) -> Tally {
     let mut n = t;
-    n = held(n, names::is_css_identifier(b"v17"));
-    n = held(n, names::is_css_identifier(b"1a"));
-    n = held(n, names::is_css_identifier(b"_a-"));
-    n = held(n, !names::is_css_identifier(b"-a"));
-    n = held(n, !names::is_css_identifier(b""));
-    n = held(n, !names::is_css_identifier(b"a.b"));
-    n = held(n, names::is_identifier(b"side"));
-    n = held(n, names::is_identifier(b"_a"));
-    n = held(n, !names::is_identifier(b"1a"));
-    n = held(n, !names::is_identifier(b"-a"));
-    n = held(n, !names::is_identifier(b""));
+    n = held(n, text_names::is_css_identifier(b"v17"));
+    n = held(n, text_names::is_css_identifier(b"1a"));
+    n = held(n, text_names::is_css_identifier(b"_a-"));
+    n = held(n, !text_names::is_css_identifier(b"-a"));
+    n = held(n, !text_names::is_css_identifier(b""));
+    n = held(n, !text_names::is_css_identifier(b"a.b"));
+    n = held(n, text_names::is_identifier(b"side"));
+    n = held(n, text_names::is_identifier(b"_a"));
+    n = held(n, !text_names::is_identifier(b"1a"));
+    n = held(n, !text_names::is_identifier(b"-a"));
+    n = held(n, !text_names::is_identifier(b""));
     n
 }
 
 // A bare name begins with a letter; letters are ASCII, so neither an e with acute nor the Kelvin sign is one.
 fn bare_names(t: Tally) -> Tally {
     let mut n = t;
-    n = held(n, names::is_boolean_attr_name(b"a1_-"));
-    n = held(n, !names::is_boolean_attr_name(b"_a"));
-    n = held(n, !names::is_boolean_attr_name(b"1a"));
-    n = held(n, !names::is_boolean_attr_name(b""));
-    n = held(n, !names::is_boolean_attr_name(b"\xC3\xA9"));
-    n = held(n, !names::is_boolean_attr_name(b"a\xC3\xA9"));
-    n = held(n, !names::is_boolean_attr_name(b"\xE2\x84\xAA"));
+    n = held(n, text_names::is_boolean_attr_name(b"a1_-"));
+    n = held(n, !text_names::is_boolean_attr_name(b"_a"));
+    n = held(n, !text_names::is_boolean_attr_name(b"1a"));
+    n = held(n, !text_names::is_boolean_attr_name(b""));
+    n = held(n, !text_names::is_boolean_attr_name(b"\xC3\xA9"));
+    n = held(n, !text_names::is_boolean_attr_name(b"a\xC3\xA9"));
+    n = held(n, !text_names::is_boolean_attr_name(b"\xE2\x84\xAA"));
     n
 }
 
 // Nothing or a tag, whose subtags have one to eight letters or digits.
 fn tags(t: Tally) -> Tally {
     let mut n = t;
-    n = held(n, names::is_language_tag(b""));
-    n = held(n, names::is_language_tag(b"abcdefgh"));
-    n = held(n, !names::is_language_tag(b"abcdefghi"));
-    n = held(n, names::is_language_tag(b"zh-Hant-TW"));
-    n = held(n, names::is_language_tag(b"x-12345678-9"));
-    n = held(n, !names::is_language_tag(b"x-123456789"));
-    n = held(n, !names::is_language_tag(b"en-"));
-    n = held(n, !names::is_language_tag(b"-en"));
-    n = held(n, !names::is_language_tag(b"en--us"));
-    n = held(n, !names::is_language_tag(b"de_DE"));
-    n = held(n, !names::is_tag(b""));
+    n = held(n, text_names::is_language_tag(b""));
+    n = held(n, text_names::is_language_tag(b"abcdefgh"));
+    n = held(n, !text_names::is_language_tag(b"abcdefghi"));
+    n = held(n, text_names::is_language_tag(b"zh-Hant-TW"));
+    n = held(n, text_names::is_language_tag(b"x-12345678-9"));
+    n = held(n, !text_names::is_language_tag(b"x-123456789"));
+    n = held(n, !text_names::is_language_tag(b"en-"));
+    n = held(n, !text_names::is_language_tag(b"-en"));
+    n = held(n, !text_names::is_language_tag(b"en--us"));
+    n = held(n, !text_names::is_language_tag(b"de_DE"));
+    n = held(n, !text_names::is_tag(b""));
     n
 }
 
 // The nine bytes that no unquoted value has, and some that it has.
 fn unquoted(t: Tally) -> Tally {
     let mut n = t;
-    n = held(n, !ascii::is_plain(b'}'));
-    n = held(n, !ascii::is_plain(b'|'));
-    n = held(n, !ascii::is_plain(b'"'));
-    n = held(n, !ascii::is_plain(b'\''));
-    n = held(n, !ascii::is_plain(b'\\'));
-    n = held(n, !ascii::is_plain(b' '));
-    n = held(n, !ascii::is_plain(b'\t'));
-    n = held(n, !ascii::is_plain(b'\r'));
-    n = held(n, !ascii::is_plain(b'\n'));
-    n = held(n, ascii::is_plain(b'{'));
-    n = held(n, ascii::is_plain(0x0C));
+    n = held(n, !base_bytes::is_plain(b'}'));
+    n = held(n, !base_bytes::is_plain(b'|'));
+    n = held(n, !base_bytes::is_plain(b'"'));
+    n = held(n, !base_bytes::is_plain(b'\''));
+    n = held(n, !base_bytes::is_plain(b'\\'));
+    n = held(n, !base_bytes::is_plain(b' '));
+    n = held(n, !base_bytes::is_plain(b'\t'));
+    n = held(n, !base_bytes::is_plain(b'\r'));
+    n = held(n, !base_bytes::is_plain(b'\n'));
+    n = held(n, base_bytes::is_plain(b'{'));
+    n = held(n, base_bytes::is_plain(0x0C));
     n
 }
 
 // Whether trimming leaves the bytes from `from` up to `to`, and its halves one of the places each.
 fn trims_to(s: &[u8], from: usize, to: usize) -> bool {
-    let r = lines::trim_ascii(s);
+    let r = text_lines::trim_ascii(s);
     if r.from != from {
         return false;
     }
     if r.to != to {
         return false;
     }
-    if lines::trim_ascii_start(s) != from {
+    if text_lines::trim_ascii_start(s) != from {
         return false;
     }
-    lines::trim_ascii_end(s) == to
+    text_lines::trim_ascii_end(s) == to
 }
 
 // Space, tab, LF, FF and CR go at both ends and stay inside.
@@ -101,8 +101,8 @@ fn trimming(t: Tally) -> Tally {
     n = held(n, trims_to(b"a", 0, 1));
     n = held(n, trims_to(b"", 0, 0));
     n = held(n, trims_to(b"\x0C\r{a}", 2, 5));
-    n = held(n, lines::trim_ascii_start(b" \t\n\x0C\r") == 5);
-    n = held(n, lines::trim_ascii_end(b" \t\n\x0C\r") == 0);
+    n = held(n, text_lines::trim_ascii_start(b" \t\n\x0C\r") == 5);
+    n = held(n, text_lines::trim_ascii_end(b" \t\n\x0C\r") == 0);
     n
 }
 
@@ -121,26 +121,26 @@ fn never_trimmed(t: Tally) -> Tally {
 // A line is blank if nothing but the five is there.
 fn blank_lines(t: Tally) -> Tally {
     let mut n = t;
-    n = held(n, lines::is_blank_line(b""));
-    n = held(n, lines::is_blank_line(b" \t\n\x0C\r"));
-    n = held(n, !lines::is_blank_line(b"a"));
-    n = held(n, !lines::is_blank_line(b" \x0B"));
-    n = held(n, !lines::is_blank_line(b"\xC2\x85"));
-    n = held(n, !lines::is_blank_line(b"\xC2\xA0"));
-    n = held(n, !lines::is_blank_line(b"\xE3\x80\x80"));
-    n = held(n, !lines::is_blank_line(b"\xEF\xBB\xBF"));
+    n = held(n, text_lines::is_blank_line(b""));
+    n = held(n, text_lines::is_blank_line(b" \t\n\x0C\r"));
+    n = held(n, !text_lines::is_blank_line(b"a"));
+    n = held(n, !text_lines::is_blank_line(b" \x0B"));
+    n = held(n, !text_lines::is_blank_line(b"\xC2\x85"));
+    n = held(n, !text_lines::is_blank_line(b"\xC2\xA0"));
+    n = held(n, !text_lines::is_blank_line(b"\xE3\x80\x80"));
+    n = held(n, !text_lines::is_blank_line(b"\xEF\xBB\xBF"));
     n
 }
 
 // Whether the line of that number has the bytes from `from` up to `to`.
 fn line_is(s: &[u8], number: usize, from: usize, to: usize) -> bool {
-    match lines::line_of(s, number) {
-        lines::Line::Missing => false,
-        lines::Line::At(r) => same_part(r, from, to),
+    match text_lines::line_of(s, number) {
+        text_lines::Line::Missing => false,
+        text_lines::Line::At(r) => same_part(r, from, to),
     }
 }
 
-fn same_part(r: lines::Range, from: usize, to: usize) -> bool {
+fn same_part(r: text_lines::Range, from: usize, to: usize) -> bool {
     if r.from != from {
         return false;
     }
@@ -148,9 +148,9 @@ fn same_part(r: lines::Range, from: usize, to: usize) -> bool {
 }
 
 fn is_missing(s: &[u8], number: usize) -> bool {
-    match lines::line_of(s, number) {
-        lines::Line::Missing => true,
-        lines::Line::At(_) => false,
+    match text_lines::line_of(s, number) {
+        text_lines::Line::Missing => true,
+        text_lines::Line::At(_) => false,
     }
 }
 

@@ -1,7 +1,7 @@
 // Document 01: the refusals' numbers, and the limit of 65,535 bytes.
 use crate::Tally;
 use crate::held;
-use refusals::Refusal;
+use base_refusals::Refusal;
 
 pub(crate) fn run(t: Tally) -> Tally {
     let read = numbers_of_readers(t);
@@ -14,32 +14,32 @@ pub(crate) fn run(t: Tally) -> Tally {
 // 1 to 5 and 9: texts, places, lines and runs.
 fn numbers_of_readers(t: Tally) -> Tally {
     let mut n = t;
-    n = held(n, refusals::number(Refusal::TextTooLong) == 1);
-    n = held(n, refusals::number(Refusal::NotUtf8) == 2);
-    n = held(n, refusals::number(Refusal::NothingThere) == 3);
-    n = held(n, refusals::number(Refusal::NoClose) == 4);
-    n = held(n, refusals::number(Refusal::NoReading) == 5);
-    n = held(n, refusals::number(Refusal::JoinFull) == 9);
+    n = held(n, base_refusals::number(Refusal::TextTooLong) == 1);
+    n = held(n, base_refusals::number(Refusal::NotUtf8) == 2);
+    n = held(n, base_refusals::number(Refusal::NothingThere) == 3);
+    n = held(n, base_refusals::number(Refusal::NoClose) == 4);
+    n = held(n, base_refusals::number(Refusal::NoReading) == 5);
+    n = held(n, base_refusals::number(Refusal::JoinFull) == 9);
     n
 }
 
 // 6 to 8 and 10 to 12: sets, and what is written of them.
 fn numbers_of_sets(t: Tally) -> Tally {
     let mut n = t;
-    n = held(n, refusals::number(Refusal::TooManyClasses) == 6);
-    n = held(n, refusals::number(Refusal::TooManyKeys) == 7);
-    n = held(n, refusals::number(Refusal::TooManySlots) == 8);
-    n = held(n, refusals::number(Refusal::CanonTooLong) == 10);
-    n = held(n, refusals::number(Refusal::NotWellFormed) == 11);
-    n = held(n, refusals::number(Refusal::EmptySet) == 12);
+    n = held(n, base_refusals::number(Refusal::TooManyClasses) == 6);
+    n = held(n, base_refusals::number(Refusal::TooManyKeys) == 7);
+    n = held(n, base_refusals::number(Refusal::TooManySlots) == 8);
+    n = held(n, base_refusals::number(Refusal::CanonTooLong) == 10);
+    n = held(n, base_refusals::number(Refusal::NotWellFormed) == 11);
+    n = held(n, base_refusals::number(Refusal::EmptySet) == 12);
     n
 }
 
 // Whether a text is answered with the number, 0 where it passes.
 fn answers(s: &[u8], number: u8) -> bool {
-    match checks::check_text(s) {
-        checks::Check::Passed => number == 0,
-        checks::Check::Refused(r) => refusals::number(r) == number,
+    match text_checks::check_text(s) {
+        text_checks::Check::Passed => number == 0,
+        text_checks::Check::Refused(r) => base_refusals::number(r) == number,
     }
 }
 

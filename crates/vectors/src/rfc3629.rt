@@ -14,15 +14,15 @@ pub(crate) fn run(t: Tally) -> Tally {
 
 // Text of so many characters.
 fn text(t: Tally, s: &[u8], characters: usize) -> Tally {
-    if !utf8::is_utf8(s) {
+    if !text_utf8::is_utf8(s) {
         return held(t, false);
     }
-    held(t, utf8::char_count(s) == characters)
+    held(t, text_utf8::char_count(s) == characters)
 }
 
 // Bytes that are no text.
 fn no_text(t: Tally, s: &[u8]) -> Tally {
-    held(t, !utf8::is_utf8(s))
+    held(t, !text_utf8::is_utf8(s))
 }
 
 // Section 7: `A`, not identical to, Alpha, `.`; the Korean and the Japanese word for the language; a byte order mark and U+233B4.
@@ -39,15 +39,15 @@ fn section_7(t: Tally) -> Tally {
 fn boundaries(t: Tally) -> Tally {
     let s = b"\x41\xE2\x89\xA2\xCE\x91\x2E";
     let mut n = t;
-    n = held(n, utf8::is_char_boundary(s, 0));
-    n = held(n, utf8::is_char_boundary(s, 1));
-    n = held(n, !utf8::is_char_boundary(s, 2));
-    n = held(n, !utf8::is_char_boundary(s, 3));
-    n = held(n, utf8::is_char_boundary(s, 4));
-    n = held(n, !utf8::is_char_boundary(s, 5));
-    n = held(n, utf8::is_char_boundary(s, 6));
-    n = held(n, utf8::is_char_boundary(s, 7));
-    n = held(n, !utf8::is_char_boundary(s, 8));
+    n = held(n, text_utf8::is_char_boundary(s, 0));
+    n = held(n, text_utf8::is_char_boundary(s, 1));
+    n = held(n, !text_utf8::is_char_boundary(s, 2));
+    n = held(n, !text_utf8::is_char_boundary(s, 3));
+    n = held(n, text_utf8::is_char_boundary(s, 4));
+    n = held(n, !text_utf8::is_char_boundary(s, 5));
+    n = held(n, text_utf8::is_char_boundary(s, 6));
+    n = held(n, text_utf8::is_char_boundary(s, 7));
+    n = held(n, !text_utf8::is_char_boundary(s, 8));
     n
 }
 

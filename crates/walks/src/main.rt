@@ -2,7 +2,7 @@
 mod merges;
 mod steps;
 
-use refusals::Refusal;
+use base_refusals::Refusal;
 
 pub(crate) fn say(words: &[u8]) {
     io::write_all(libc::STDOUT_FILENO, words);
@@ -14,7 +14,7 @@ pub(crate) fn say_number(n: usize) {
 
 pub(crate) fn say_refusal(r: Refusal) {
     say(b"refused ");
-    say_number(refusals::number(r) as usize);
+    say_number(base_refusals::number(r) as usize);
 }
 
 fn main() {

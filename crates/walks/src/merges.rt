@@ -2,12 +2,12 @@
 use crate::say;
 use crate::say_number;
 use crate::say_refusal;
-use fill::Outcome;
-use lent::Both;
-use sets::Attrs;
-use sets::Text;
-use sets::Value;
-use writer::Wrote;
+use set_fill::Outcome;
+use set_lent::Both;
+use set_table::Attrs;
+use set_table::Text;
+use set_table::Value;
+use set_writer::Wrote;
 
 // Three blocks of a text, by their places: the middle one is lent, the first one leads it, and the last one comes in behind.
 pub(crate) fn run() {
@@ -35,29 +35,29 @@ pub(crate) fn run() {
 }
 
 fn three(text: &[u8], leading: usize, target: usize, incoming: usize) {
-    let first = reader::read_attrs_at(text, leading);
-    let middle = reader::read_attrs_at(text, target);
-    let last = reader::read_attrs_at(text, incoming);
+    let first = read_brace::read_attrs_at(text, leading);
+    let middle = read_brace::read_attrs_at(text, target);
+    let last = read_brace::read_attrs_at(text, incoming);
     tell(
         text,
-        lent::merge_both(text, middle.set, first.set, last.set),
+        set_lent::merge_both(text, middle.set, first.set, last.set),
     );
 }
 
 // A set with rows past its counts is lent to one that is no set: 11, and not even those rows are touched.
 fn broken(text: &[u8]) {
-    let read = reader::read_attrs_at(text, 0);
+    let read = read_brace::read_attrs_at(text, 0);
     let mut target = read.set;
     target.classes[31] = Value {
         text: Text::Plain(9, 4),
     };
     let mut bad = Attrs::empty();
     bad.nclass = 33;
-    let both = lent::merge_both(text, target, bad, bad);
+    let both = set_lent::merge_both(text, target, bad, bad);
     tell(text, both);
     let set = both.set;
     say_row(set.classes[31]);
-    let both = lent::merge_both(text, bad, target, target);
+    let both = set_lent::merge_both(text, bad, target, target);
     tell(text, both);
     let set = both.set;
     say(b"  33 classes still: ");
@@ -102,11 +102,11 @@ fn say_outcome(outcome: Outcome) {
 // The set's canonical text, for every table.
 fn say_set(text: &[u8], set: Attrs) {
     let mut out = [0u8; 400];
-    let wrote = writer::write_set(text, set, &mut out);
+    let wrote = set_writer::write_set(text, set, &mut out);
     say(b"  ");
     match wrote {
         Wrote::Refused(r) => say_refusal(r),
-        Wrote::Bytes(n) => say(sets::bytes_of(&out, 0, n)),
+        Wrote::Bytes(n) => say(set_table::bytes_of(&out, 0, n)),
     }
     say(b"\n");
 }

@@ -1,10 +1,10 @@
 // The tokens of payloads, step by step.
 use crate::say;
 use crate::say_number;
-use ascii::Mode;
-use tokens::Token;
-use walker::Ahead;
-use walker::Count;
+use base_bytes::Mode;
+use block_next_token::Ahead;
+use block_next_token::Count;
+use block_tokens::Token;
 
 pub(crate) fn run() {
     tell(b".wheel #v17 side=\"left\" :de-AT loose", Mode::Strict);
@@ -25,15 +25,15 @@ fn tell(text: &[u8], mode: Mode) {
     say(b"`\n");
     walk(text, mode);
     say(b"  second:");
-    say_ahead(text, walker::second(text, mode));
-    say_count(walker::token_count(text, mode));
+    say_ahead(text, block_next_token::second(text, mode));
+    say_count(block_next_token::token_count(text, mode));
 }
 
 // A walker that is set down where the last step left it, until it goes no further.
 fn walk(text: &[u8], mode: Mode) {
     let mut i: usize = 0;
     'steps: loop {
-        let step = walker::step_from(text, i, mode);
+        let step = block_next_token::step_from(text, i, mode);
         let ahead = step.ahead;
         say_step(text, i, ahead);
         match ahead {
@@ -79,7 +79,7 @@ fn say_token(text: &[u8], token: Token) {
 fn say_part<'a>(kind: &'a [u8], text: &'a [u8], from: usize, to: usize) {
     say(kind);
     say(b" `");
-    say(sets::bytes_of(text, from, to));
+    say(set_table::bytes_of(text, from, to));
     say(b"`");
 }
 
@@ -89,7 +89,7 @@ fn say_key<'a>(kind: &'a [u8], text: &'a [u8], from: usize, to: usize, end: usiz
     say(kind);
     say(b" `");
     if to < end {
-        say(sets::bytes_of(text, to + 1, end));
+        say(set_table::bytes_of(text, to + 1, end));
     }
     say(b"`");
 }

@@ -1,5 +1,5 @@
 use mathlib.Core.List.{[], _∷_}
-use Rattle.tells.proofs.Laws.{set-said, told-5}
+use Rattle.door_shared.proofs.Laws.{set-said, told-5}
 use borrow.Author.Needs.{needs}
 use Rattle.door_blocks.proofs.say_block.Statement.{statement}
 use Rattle.door_blocks.proofs.say_block.Tie as tie

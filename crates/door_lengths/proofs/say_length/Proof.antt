@@ -1,4 +1,4 @@
-use Rattle.tells.proofs.Laws.{told-4}
+use Rattle.door_shared.proofs.Laws.{told-4}
 use borrow.Author.Needs.{needs}
 use Rattle.door_lengths.proofs.say_length.Statement.{statement}
 use Rattle.door_lengths.proofs.say_length.Tie as tie

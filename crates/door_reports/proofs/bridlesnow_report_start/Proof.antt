@@ -1,5 +1,5 @@
 use lib.ListN.{length}
-use Rattle.report.specs.Parts.{startOf}
+use Rattle.sheet_report.specs.Parts.{startOf}
 use Rattle.door_reports.proofs.Says as laws
 use borrow.Author.Needs.{needs}
 use Rattle.door_reports.proofs.bridlesnow_report_start.Statement.{statement}

@@ -1,4 +1,4 @@
-use Rattle.tells.proofs.Laws.{told-3}
+use Rattle.door_shared.proofs.Laws.{told-3}
 use borrow.Author.Needs.{needs}
 use Rattle.door_reports.proofs.say_part.Statement.{statement}
 use Rattle.door_reports.proofs.say_part.Tie as tie

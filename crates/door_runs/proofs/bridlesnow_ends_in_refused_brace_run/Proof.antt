@@ -1,5 +1,5 @@
-use Rattle.endings.specs.Endings.{endsIn}
-use Rattle.tells.proofs.Laws.{told-2}
+use Rattle.run_endings.specs.Endings.{endsIn}
+use Rattle.door_shared.proofs.Laws.{told-2}
 use Rattle.door_runs.proofs.Says as laws
 use borrow.Author.Needs.{needs}
 use Rattle.door_runs.proofs.bridlesnow_ends_in_refused_brace_run.Statement.{statement}

@@ -1,6 +1,6 @@
 use lib.ListN.{length}
-use Rattle.refused.specs.Refused.{refusedRun}
-use Rattle.tells.proofs.Laws.{told-4}
+use Rattle.run_refused.specs.Refused.{refusedRun}
+use Rattle.door_shared.proofs.Laws.{told-4}
 use Rattle.door_runs.proofs.Says as laws
 use borrow.Author.Needs.{needs}
 use Rattle.door_runs.proofs.bridlesnow_refused_brace_run.Statement.{statement}

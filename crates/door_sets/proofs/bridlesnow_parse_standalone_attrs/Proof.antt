@@ -1,4 +1,4 @@
-use Rattle.tells.proofs.Laws.{told-1}
+use Rattle.door_shared.proofs.Laws.{told-1}
 use Rattle.door_sets.proofs.Said as laws
 use borrow.Author.Needs.{needs}
 use Rattle.door_sets.proofs.bridlesnow_parse_standalone_attrs.Statement.{statement}

@@ -1,4 +1,4 @@
-use Rattle.tells.proofs.Laws.{told-2}
+use Rattle.door_shared.proofs.Laws.{told-2}
 use Rattle.door_sets.proofs.Said as laws
 use borrow.Author.Needs.{needs}
 use Rattle.door_sets.proofs.bridlesnow_read_attrs_at.Statement.{statement}

@@ -1,5 +1,5 @@
 use mathlib.Core.Path.{ap, _∙_}
-use Rattle.checks.specs.Check.{checkNo}
+use Rattle.text_checks.specs.Check.{checkNo}
 use borrow.Author.Needs.{needs}
 use Rattle.door_texts.proofs.bridlesnow_check_text.Statement.{statement}
 use Rattle.door_texts.proofs.bridlesnow_check_text.Tie as tie

@@ -4,7 +4,7 @@ use Prim.Native.Nat.{_-_, _≤_, zero-le}
 use native.Mathlib.Omega.{arith}
 use borrow.Author.Needs.{needs}
 use lib.ListN.{length}
-use Rattle.walker.proofs.Steps.{tag-not-bad, onward}
+use Rattle.block_next_token.proofs.Steps.{tag-not-bad, onward}
 use Rattle.walks.proofs.steps.walk.Statement.{statement}
 use Rattle.walks.proofs.steps.walk.Tie as tie
 

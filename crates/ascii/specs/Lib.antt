@@ -1,2 +1,0 @@
--- The definitions that the contracts of ascii cite.
-pub mod Bytes

@@ -1,0 +1,44 @@
+use mathlib.Core.Path.{refl}
+use mathlib.Core.Bool.{true, false}
+use mathlib.Core.List.{[], _∷_}
+use native.Mathlib.Omega.{arith}
+use Rattle.base_lists.specs.Lists.{isIn}
+use Rattle.base_lists.proofs.Steady.{met, missed}
+use Rattle.base_bytes.specs.Bytes.{isNamePart, isAlnum, isLetter, isDigit, within}
+use Rattle.base_letters.proofs.is_attr_ident_part.Statement.{statement}
+use Rattle.base_letters.proofs.is_attr_ident_part.Tie as tie
+
+returns : tie.Need-returns
+unfolding isNamePart isAlnum isLetter isDigit within isIn
+returns c = missed isNamePart false (45 ∷ 95 ∷ []) 0 48 (c .before .before .args .b) (c .before .match .rest .1) refl (omega arith) (omega arith)
+
+returns-2 : tie.Need-returns-2
+unfolding isNamePart isAlnum isLetter isDigit within isIn
+returns-2 c = missed isNamePart false (45 ∷ 95 ∷ []) 58 7 (c .before .before .before .before .args .b) (c .before .before .before .match .rest .1) refl (omega arith) (omega arith)
+
+returns-3 : tie.Need-returns-3
+unfolding isNamePart isAlnum isLetter isDigit within isIn
+returns-3 c = missed isNamePart false (45 ∷ 95 ∷ []) 91 6 (c .before .before .before .before .before .before .args .b) (c .before .before .before .before .before .match .rest .1) refl (omega arith) (omega arith)
+
+returns-4 : tie.Need-returns-4
+unfolding isNamePart isAlnum isLetter isDigit within isIn
+returns-4 c = missed isNamePart false (45 ∷ 95 ∷ []) 123 133 (c .before .before .before .before .before .before .before .args .b) (c .before .before .before .before .before .before .match .rest .1) refl (omega arith) (omega arith)
+
+returns-5 : tie.Need-returns-5
+unfolding isNamePart isAlnum isLetter isDigit within isIn
+returns-5 c = met isNamePart true (45 ∷ 95 ∷ []) (c .before .args .b) (c .match .keys1) refl
+
+returns-6 : tie.Need-returns-6
+unfolding isNamePart isAlnum isLetter isDigit within isIn
+returns-6 c = missed isNamePart true (45 ∷ 95 ∷ []) 48 10 (c .before .before .before .args .b) (c .before .before .match .rest .1) refl (omega arith) (omega arith)
+
+returns-7 : tie.Need-returns-7
+unfolding isNamePart isAlnum isLetter isDigit within isIn
+returns-7 c = missed isNamePart true (45 ∷ 95 ∷ []) 65 26 (c .before .before .before .before .before .args .b) (c .before .before .before .before .match .rest .1) refl (omega arith) (omega arith)
+
+returns-8 : tie.Need-returns-8
+unfolding isNamePart isAlnum isLetter isDigit within isIn
+returns-8 c = missed isNamePart true (45 ∷ 95 ∷ []) 97 26 (c .before .before .before .before .before .before .before .args .b) (c .before .before .before .before .before .before .match .rest .1) refl (omega arith) (omega arith)
+
+pub is-attr-ident-part-spec : {M : Type 1} → statement M
+is-attr-ident-part-spec = tie.close (tie.spec returns returns-2 returns-3 returns-4 returns-5 returns-6 returns-7 returns-8)

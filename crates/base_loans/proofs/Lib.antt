@@ -1,0 +1,3 @@
+-- The laws of base_loans.
+pub mod Local
+pub mod Calls

@@ -1,0 +1,34 @@
+-- The refusals and their numbers: the table of document 01's 'Sizes and refusal numbers'.
+use Prim.Native.Nat.{ℕ}
+use Rattle.base_refusals.specs.declared.Refusal.{Refusal}
+use Rattle.base_refusals.specs.declared.Refusal.the-variants.{TextTooLong, NotUtf8, NothingThere, NoClose, NoReading, TooManyClasses, TooManyKeys, TooManySlots, JoinFull, CanonTooLong, NotWellFormed, EmptySet}
+
+-- "Text at most 65,535 bytes"
+abbrev pub maxText : ℕ
+maxText = 65535
+
+unfoldable pub numberOf : Refusal → ℕ
+-- "text above 65,535 bytes"
+numberOf TextTooLong = 1
+-- "not UTF-8: the payload at a brace; the whole text elsewhere"
+numberOf NotUtf8 = 2
+-- "no `{` at the place; no such line; trimmed line doesn't start with `{`; .."
+numberOf NothingThere = 3
+-- "at a brace: no close"
+numberOf NoClose = 4
+-- "at a brace, no reading of the payload exists; elsewhere, not a good line .."
+numberOf NoReading = 5
+-- "grammatical, more than 32 classes"
+numberOf TooManyClasses = 6
+-- "grammatical, more than 32 distinct keys"
+numberOf TooManyKeys = 7
+-- "more than 34 slots"
+numberOf TooManySlots = 8
+-- "the next line to join doesn't fit the join buffer, .."
+numberOf JoinFull = 9
+-- "canonical text above 65,535 bytes or the lent buffer"
+numberOf CanonTooLong = 10
+-- "table not well-formed over its text"
+numberOf NotWellFormed = 11
+-- "empty set given to the writer"
+numberOf EmptySet = 12

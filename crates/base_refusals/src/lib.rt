@@ -1,0 +1,41 @@
+// The refusals of every entry, and their numbers.
+ghost use mathlib.Core.Path.{_≡_};
+ghost use Rattle.base_refusals.specs.Numbers.{numberOf};
+
+// The longest text that is read, joined or written.
+pub const MAX_TEXT: usize = 65535;
+
+pub enum Refusal {
+    TextTooLong,
+    NotUtf8,
+    NothingThere,
+    NoClose,
+    NoReading,
+    TooManyClasses,
+    TooManyKeys,
+    TooManySlots,
+    JoinFull,
+    CanonTooLong,
+    NotWellFormed,
+    EmptySet,
+}
+
+// The number that a person is told.
+pub fn number(r: Refusal) -> u8
+    ensures { λ n. ⌜ n ≡ numberOf r ⌝ }
+{
+    match r {
+        Refusal::TextTooLong => 1,
+        Refusal::NotUtf8 => 2,
+        Refusal::NothingThere => 3,
+        Refusal::NoClose => 4,
+        Refusal::NoReading => 5,
+        Refusal::TooManyClasses => 6,
+        Refusal::TooManyKeys => 7,
+        Refusal::TooManySlots => 8,
+        Refusal::JoinFull => 9,
+        Refusal::CanonTooLong => 10,
+        Refusal::NotWellFormed => 11,
+        Refusal::EmptySet => 12,
+    }
+}

@@ -1,0 +1,116 @@
+use mathlib.Core.Path.{sym, _∙_}
+use Prim.Native.Nat.{_-_}
+use native.Mathlib.Omega.{arith}
+use borrow.Author.Needs.{needs}
+use borrow.Author.Tests.{not-true}
+use lib.ListN.{length}
+use Rattle.block_grammar.specs.Close.{fresh, findClose}
+use Rattle.block_grammar.proofs.Close as close
+use Rattle.block_close.proofs.Search as laws
+use Rattle.block_close.proofs.find_close.Statement.{statement}
+use Rattle.block_close.proofs.find_close.Tie as tie
+
+abbrev Inv-bytes : tie.InvT-bytes
+Inv-bytes s at i₀ i = close.Scans s (findClose s at) i fresh
+
+abbrev μ-bytes : tie.MeasureT-bytes
+μ-bytes s at i₀ i = length s - i
+
+bytes-holds : tie.Need-bytes-holds Inv-bytes μ-bytes
+bytes-holds c = close.start _ _
+
+goes-on-requires : tie.Need-goes-on-requires Inv-bytes μ-bytes
+goes-on-requires c κs = search needs
+
+shared-slice-read-match : tie.Need-shared-slice-read-match Inv-bytes μ-bytes
+shared-slice-read-match c = omega (arith, laws.here (c .before .before .before .bytes .inv) (c .before .before .goes-on .ensures) (c .before .if1 .left) .there)
+
+add-goes-on : tie.Need-add-goes-on Inv-bytes μ-bytes
+add-goes-on c = omega (arith, laws.here (c .before .before .before .before .bytes .inv) (c .before .before .before .goes-on .ensures) (c .before .before .if1 .left) .there)
+
+goes-on-requires-2 : tie.Need-goes-on-requires-2 Inv-bytes μ-bytes
+goes-on-requires-2 c κs = search needs
+
+add-i : tie.Need-add-i Inv-bytes μ-bytes
+add-i c = omega (arith, laws.next (c .before .before .before .before .before .before .bytes .inv) (c .before .goes-on2 .ensures) (c .if2 .left) .there)
+
+bytes-less : tie.Need-bytes-less Inv-bytes μ-bytes
+bytes-less c = omega (arith, laws.here (c .before .before .before .before .before .before .bytes .inv) (c .before .before .before .before .before .goes-on .ensures) (c .before .before .before .before .if1 .left) .there)
+
+bytes-again : tie.Need-bytes-again Inv-bytes μ-bytes
+bytes-again c = laws.pair (c .before .before .before .before .before .before .bytes .inv) (laws.here (c .before .before .before .before .before .before .bytes .inv) (c .before .before .before .before .before .goes-on .ensures) (c .before .before .before .before .if1 .left)) (c .before .before .match .keys2) (laws.next (c .before .before .before .before .before .before .bytes .inv) (c .before .goes-on2 .ensures) (c .if2 .left))
+
+add-quote-close : tie.Need-add-quote-close Inv-bytes μ-bytes
+add-quote-close c = omega (arith, laws.here (c .before .before .before .before .bytes .inv) (c .before .before .before .goes-on .ensures) (c .before .before .if1 .left) .there)
+
+shared-slice-read-quote-close : tie.Need-shared-slice-read-quote-close Inv-bytes μ-bytes
+shared-slice-read-quote-close c = omega (arith, laws.here (c .before .before .before .before .before .bytes .inv) (c .before .before .before .before .goes-on .ensures) (c .before .before .before .if1 .left) .there)
+
+quote-close-requires : tie.Need-quote-close-requires Inv-bytes μ-bytes
+quote-close-requires c κs = laws.quoting (c .before .match .keys3)
+
+enum-told : tie.Need-enum-told Inv-bytes μ-bytes
+enum-told c = search needs
+
+enum-known-e : tie.Need-enum-known-e Inv-bytes μ-bytes
+enum-known-e c = search needs
+
+add-i-2 : tie.Need-add-i-2 Inv-bytes μ-bytes
+add-i-2 c = omega (arith, c .before .before .before .quote-close .ensures .within _ (c .before .e .given .1))
+
+bytes-less-2 : tie.Need-bytes-less-2 Inv-bytes μ-bytes
+bytes-less-2 c = omega (arith, c .before .before .before .quote-close .ensures .within _ (c .before .e .given .1))
+
+bytes-again-2 : tie.Need-bytes-again-2 Inv-bytes μ-bytes
+bytes-again-2 c = laws.passed (c .before .before .before .before .before .before .before .before .before .bytes .inv) (laws.here (c .before .before .before .before .before .before .before .before .before .bytes .inv) (c .before .before .before .before .before .before .before .before .goes-on .ensures) (c .before .before .before .before .before .before .before .if1 .left)) (c .before .before .before .before .before .match .keys3) (c .before .before .before .quote-close .ensures) (c .before .e .given .1)
+
+add-i-3 : tie.Need-add-i-3 Inv-bytes μ-bytes
+add-i-3 c = omega (arith, laws.here (c .before .before .before .before .bytes .inv) (c .before .before .before .goes-on .ensures) (c .before .before .if1 .left) .there)
+
+bytes-less-3 : tie.Need-bytes-less-3 Inv-bytes μ-bytes
+bytes-less-3 c = omega (arith, laws.here (c .before .before .before .before .bytes .inv) (c .before .before .before .goes-on .ensures) (c .before .before .if1 .left) .there)
+
+bytes-again-3 : tie.Need-bytes-again-3 Inv-bytes μ-bytes
+bytes-again-3 c = laws.byte (c .before .before .before .before .bytes .inv) (laws.here (c .before .before .before .before .bytes .inv) (c .before .before .before .goes-on .ensures) (c .before .before .if1 .left)) (c .match .rest .0 .0 .1) (c .match .rest .0 .1) (c .match .rest .1)
+
+returns : tie.Need-returns Inv-bytes μ-bytes
+returns c = laws.ended (c .before .before .bytes .inv) (sym (c .before .goes-on .ensures) ∙ not-true _ (c .if1 .taken))
+
+returns-2 : tie.Need-returns-2 Inv-bytes μ-bytes
+returns-2 c = laws.closed (c .before .before .before .before .bytes .inv) (laws.here (c .before .before .before .before .bytes .inv) (c .before .before .before .goes-on .ensures) (c .before .before .if1 .left)) (c .match .keys1)
+
+returns-3 : tie.Need-returns-3 Inv-bytes μ-bytes
+returns-3 c = laws.cut (c .before .before .before .before .before .before .bytes .inv) (laws.here (c .before .before .before .before .before .before .bytes .inv) (c .before .before .before .before .before .goes-on .ensures) (c .before .before .before .before .if1 .left)) (c .before .before .match .keys2) (sym (c .before .goes-on2 .ensures) ∙ not-true _ (c .if2 .taken))
+
+returns-4 : tie.Need-returns-4 Inv-bytes μ-bytes
+returns-4 c = laws.unshut (c .before .before .before .before .before .before .before .before .bytes .inv) (laws.here (c .before .before .before .before .before .before .before .before .bytes .inv) (c .before .before .before .before .before .before .before .goes-on .ensures) (c .before .before .before .before .before .before .if1 .left)) (c .before .before .before .before .match .keys3) (c .before .before .quote-close .ensures) (c .enum-told .given .1)
+
+pub find-close-spec : {M : Type 1} → statement M
+find-close-spec =
+    tie.close
+    (tie.spec
+    Inv-bytes
+    μ-bytes
+    bytes-holds
+    goes-on-requires
+    shared-slice-read-match
+    add-goes-on
+    goes-on-requires-2
+    add-i
+    bytes-less
+    bytes-again
+    add-quote-close
+    shared-slice-read-quote-close
+    quote-close-requires
+    enum-told
+    enum-known-e
+    add-i-2
+    bytes-less-2
+    bytes-again-2
+    add-i-3
+    bytes-less-3
+    bytes-again-3
+    returns
+    returns-2
+    returns-3
+    returns-4)

@@ -1,0 +1,82 @@
+use mathlib.Core.Path.{sym, _∙_}
+use Prim.Native.Nat.{_-_}
+use native.Mathlib.Omega.{arith}
+use borrow.Author.Needs.{needs}
+use borrow.Author.Tests.{not-true}
+use lib.ListN.{length}
+use Rattle.block_close.proofs.Search as laws
+use Rattle.block_close.proofs.quote_close.Statement.{statement}
+use Rattle.block_close.proofs.quote_close.Tie as tie
+
+abbrev Inv-bytes : tie.InvT-bytes
+Inv-bytes s i q k₀ k = laws.Quoted s q i k
+
+abbrev μ-bytes : tie.MeasureT-bytes
+μ-bytes s i q k₀ k = length s - k
+
+bytes-holds : tie.Need-bytes-holds Inv-bytes μ-bytes
+bytes-holds c = laws.opened _ _ _
+
+goes-on-requires : tie.Need-goes-on-requires Inv-bytes μ-bytes
+goes-on-requires c κs = search needs
+
+shared-slice-read-if2 : tie.Need-shared-slice-read-if2 Inv-bytes μ-bytes
+shared-slice-read-if2 c = omega (arith, laws.here (c .before .before .before .bytes .inv .scan) (c .before .before .goes-on .ensures) (c .before .if1 .left) .there)
+
+shared-slice-read-if3 : tie.Need-shared-slice-read-if3 Inv-bytes μ-bytes
+shared-slice-read-if3 c = omega (arith, laws.here (c .before .before .before .before .before .bytes .inv .scan) (c .before .before .before .before .goes-on .ensures) (c .before .before .before .if1 .left) .there)
+
+add-goes-on : tie.Need-add-goes-on Inv-bytes μ-bytes
+add-goes-on c = omega (arith, laws.here (c .before .before .before .before .before .before .bytes .inv .scan) (c .before .before .before .before .before .goes-on .ensures) (c .before .before .before .before .if1 .left) .there)
+
+goes-on-requires-2 : tie.Need-goes-on-requires-2 Inv-bytes μ-bytes
+goes-on-requires-2 c κs = search needs
+
+add-k : tie.Need-add-k Inv-bytes μ-bytes
+add-k c = omega (arith, laws.next (c .before .before .before .before .before .before .before .before .bytes .inv .scan) (c .before .goes-on2 .ensures) (c .if4 .left) .there)
+
+bytes-less : tie.Need-bytes-less Inv-bytes μ-bytes
+bytes-less c = omega (arith, laws.here (c .before .before .before .before .before .before .before .before .bytes .inv .scan) (c .before .before .before .before .before .before .before .goes-on .ensures) (c .before .before .before .before .before .before .if1 .left) .there)
+
+bytes-again : tie.Need-bytes-again Inv-bytes μ-bytes
+bytes-again c = laws.quote-pair (c .before .before .before .before .before .before .before .before .bytes .inv) (laws.here (c .before .before .before .before .before .before .before .before .bytes .inv .scan) (c .before .before .before .before .before .before .before .goes-on .ensures) (c .before .before .before .before .before .before .if1 .left)) (c .before .before .if3 .taken) (laws.next (c .before .before .before .before .before .before .before .before .bytes .inv .scan) (c .before .goes-on2 .ensures) (c .if4 .left))
+
+add-k-2 : tie.Need-add-k-2 Inv-bytes μ-bytes
+add-k-2 c = omega (arith, laws.here (c .before .before .before .before .before .before .bytes .inv .scan) (c .before .before .before .before .before .goes-on .ensures) (c .before .before .before .before .if1 .left) .there)
+
+bytes-less-2 : tie.Need-bytes-less-2 Inv-bytes μ-bytes
+bytes-less-2 c = omega (arith, laws.here (c .before .before .before .before .before .before .bytes .inv .scan) (c .before .before .before .before .before .goes-on .ensures) (c .before .before .before .before .if1 .left) .there)
+
+bytes-again-2 : tie.Need-bytes-again-2 Inv-bytes μ-bytes
+bytes-again-2 c = laws.quote-byte (c .before .before .before .before .before .before .bytes .inv) (laws.here (c .before .before .before .before .before .before .bytes .inv .scan) (c .before .before .before .before .before .goes-on .ensures) (c .before .before .before .before .if1 .left)) (c .before .before .if2 .left) (c .if3 .left)
+
+returns : tie.Need-returns Inv-bytes μ-bytes
+returns c = laws.quote-ended (c .before .before .bytes .inv) (sym (c .before .goes-on .ensures) ∙ not-true _ (c .if1 .taken))
+
+returns-2 : tie.Need-returns-2 Inv-bytes μ-bytes
+returns-2 c = laws.shut (c .before .before .before .before .bytes .inv) (laws.here (c .before .before .before .before .bytes .inv .scan) (c .before .before .before .goes-on .ensures) (c .before .before .if1 .left)) (c .before .before .before .before .before .before .pre) (c .if2 .taken)
+
+returns-3 : tie.Need-returns-3 Inv-bytes μ-bytes
+returns-3 c = laws.quote-cut (c .before .before .before .before .before .before .before .before .bytes .inv) (laws.here (c .before .before .before .before .before .before .before .before .bytes .inv .scan) (c .before .before .before .before .before .before .before .goes-on .ensures) (c .before .before .before .before .before .before .if1 .left)) (c .before .before .if3 .taken) (sym (c .before .goes-on2 .ensures) ∙ not-true _ (c .if4 .taken))
+
+pub quote-close-spec : {M : Type 1} → statement M
+quote-close-spec =
+    tie.close
+    (tie.spec
+    Inv-bytes
+    μ-bytes
+    bytes-holds
+    goes-on-requires
+    shared-slice-read-if2
+    shared-slice-read-if3
+    add-goes-on
+    goes-on-requires-2
+    add-k
+    bytes-less
+    bytes-again
+    add-k-2
+    bytes-less-2
+    bytes-again-2
+    returns
+    returns-2
+    returns-3)

@@ -1,0 +1,99 @@
+-- Where a block closes: by computing, over types that code has too, and by rules.
+use mathlib.Core.Path.{_≡_}
+use mathlib.Core.Bool.{Bool, true, false, cond, not}
+use mathlib.Core.List.{List, [], _∷_, _++_}
+use Prim.Native.Nat.{ℕ, suc, _+_}
+use lib.Dec.{eqb, ltb}
+use lib.ListN.{length, drop}
+use Rattle.base_lists.specs.Lists.{all, isIn}
+use Rattle.base_bytes.specs.Bytes.{isQuote}
+use Rattle.block_grammar.specs.Grammar.{Inside}
+use Rattle.block_grammar.specs.declared.Quote.{Quote}
+use Rattle.block_grammar.specs.declared.Quote.the-variants.{Out, In}
+use Rattle.block_grammar.specs.declared.Scan.{Scan}
+use Rattle.block_grammar.specs.declared.Step.{Step}
+use Rattle.block_grammar.specs.declared.Step.the-variants.{Closed, Broken, Go}
+use Rattle.block_grammar.specs.declared.Place.{Place}
+use Rattle.block_grammar.specs.declared.Place.the-variants.{Nothing, At}
+
+-- ---- by computing
+
+-- in a quote or outside, where no backslash covers the next byte
+abbrev pub uncovered : Quote → Scan
+uncovered q = record { quote = q; escaped = false }
+
+abbrev pub going : Quote → Bool → Step
+going q e = Go (record { quote = q; escaped = e })
+
+-- "text in one kind of quote": a quote opens outside, and the same one closes
+unfoldable pub turned : Quote → ℕ → Quote
+turned Out b = cond (isQuote b) (In b) Out
+turned (In k) b = cond (eqb b k) Out (In k)
+
+-- a byte that no backslash covers, by the quote that it stands in
+abbrev pub bareStep : Quote → ℕ → Step
+bareStep (In k) b = going (turned (In k) b) false
+bareStep Out b = cond (eqb b 125) Closed (going (turned Out b) false)
+
+-- an LF stops the search also where a backslash or a quote covers it; a backslash covers the next byte in quotes and outside
+unfoldable pub stepOf : Scan → ℕ → Step
+stepOf st b =
+    cond (eqb b 10) Broken
+    (cond (st .escaped) (going (st .quote) false)
+    (cond (eqb b 92) (going (st .quote) true)
+    (bareStep (st .quote) b)))
+
+abbrev pub goOn : Step → ℕ → (Scan → Place) → Place
+goOn Closed i rest = At i
+goOn Broken i rest = Nothing
+goOn (Go st) i rest = rest st
+
+-- the search in the state st over a list whose first byte stands at i
+unfoldable pub closeFrom : List ℕ → Scan → ℕ → Place
+closeFrom [] st i = Nothing
+closeFrom (b ∷ s) st i = goOn (stepOf st b) i (λ v. closeFrom s v (suc i))
+
+abbrev pub fresh : Scan
+fresh = uncovered Out
+
+-- the search from `at` on
+unfoldable pub findClose : List ℕ → ℕ → Place
+findClose s at = closeFrom (drop at s) fresh at
+
+-- ---- by rules
+
+-- each `}` is one that a quote or a backslash covers
+pub data Covered : List ℕ → Type 0 where
+  end : Covered []
+  byte : {b : ℕ} {s : List ℕ} → isIn (34 ∷ 39 ∷ 92 ∷ 125 ∷ []) b ≡ false → Covered s → Covered (b ∷ s)
+  -- "here a backslash covers the next byte outside quotes too"
+  pair : {b : ℕ} {s : List ℕ} → Covered s → Covered (92 ∷ (b ∷ s))
+  quoted : {q : ℕ} {v s : List ℕ} → isQuote q ≡ true → Inside q v → Covered s → Covered (q ∷ (v ++ (q ∷ s)))
+
+unfoldable pub noLf : List ℕ → Bool
+noLf s = all (λ b. not (eqb b 10)) s
+
+-- "the payload ends before the first `}` that no quote or backslash covers; .. An LF before it means no close.":
+-- s, whose first byte stands at i, has its close at e
+pub record Closes (s : List ℕ) (i e : ℕ) : Type 0 where
+  pub inside : List ℕ
+  pub rest : List ℕ
+  pub whole : s ≡ inside ++ (125 ∷ rest)
+  pub place : e ≡ i + length inside
+  pub covered : Covered inside
+  pub flat : noLf inside ≡ true
+
+-- ---- "its dropped third argument, the true place of the text's last `}`"
+
+-- the last `}` of a list whose first byte stands at i, where `last` is that of the bytes before
+unfoldable pub lastFrom : List ℕ → ℕ → Place → Place
+lastFrom [] i last = last
+lastFrom (b ∷ s) i last = lastFrom s (suc i) (cond (eqb b 125) (At i) last)
+
+unfoldable pub lastClose : List ℕ → Place
+lastClose s = lastFrom s 0 Nothing
+
+-- 000's test `last_close_brace.map_or(true, |p| p < start)`
+abbrev pub isBefore : Place → ℕ → Bool
+isBefore Nothing start = true
+isBefore (At p) start = ltb p start

@@ -1,0 +1,76 @@
+-- "a walker that holds the text and its place gives the next token": one step, and what all its steps give.
+use mathlib.Core.Path.{_≡_}
+use mathlib.Core.Bool.{Bool, true, false, cond}
+use mathlib.Core.List.{List, [], _∷_}
+use Prim.Native.Nat.{ℕ, _+_}
+use lib.Dec.{leb}
+use lib.ListN.{length, drop}
+use denote.Ref.{RefT, now}
+use Rattle.base_lists.specs.Lists.{run}
+use Rattle.base_bytes.specs.declared.Mode.{Mode}
+use Rattle.base_bytes.specs.Bytes.{isBlank}
+use Rattle.block_grammar.specs.Grammar.{Placed}
+use Rattle.block_grammar.specs.Read.{Reading, tokenOf}
+use Rattle.block_grammar.specs.declared.Place.{Place}
+use Rattle.block_grammar.specs.declared.Place.the-variants.{Nothing, At}
+use Rattle.block_tokens.specs.Shown.{shownItem, shown, behind}
+use Rattle.block_tokens.specs.declared.Token.{Token}
+use Rattle.block_tokens.specs.declared.Token.the-variants.{Bad}
+use Rattle.block_next_token.specs.declared.Ahead.{Ahead}
+use Rattle.block_next_token.specs.declared.Ahead.the-variants.{End, Found}
+use Rattle.block_next_token.specs.declared.Step.{Step}
+use Rattle.block_next_token.specs.declared.Walker.{Walker}
+use Rattle.block_next_token.specs.declared.Count.{Count}
+use Rattle.block_next_token.specs.declared.Count.the-variants as count
+
+-- ---- one step
+
+-- the place that was found, or else a
+abbrev pub goneTo : ℕ → Place → ℕ
+goneTo a Nothing = a
+goneTo a (At e) = e
+
+abbrev pub stepOver : ℕ → Token → Step
+stepOver a t = record { ahead = Found t; at = goneTo a (behind t) }
+
+-- a is behind the blanks: the end stands there, or a token
+abbrev pub stepFrom : Mode → List ℕ → ℕ → Step
+stepFrom m s a = cond (leb (length s) a) (record { ahead = End; at = a }) (stepOver a (shown a (tokenOf m (drop a s))))
+
+unfoldable pub stepAt : Mode → List ℕ → ℕ → Step
+stepAt m s at = stepFrom m s (at + run (isBlank m) (drop at s))
+
+-- ---- a walker
+
+-- set down at a place of a text, and at its front
+abbrev pub setDown : RefT (List ℕ) → ℕ → Mode → Walker
+setDown x at m = record { text = x; at = at; mode = m }
+
+abbrev pub atFront : RefT (List ℕ) → Mode → Walker
+atFront x m = setDown x 0 m
+
+abbrev pub stepOf : Walker → Step
+stepOf w = stepAt (w .mode) (now (w .text)) (w .at)
+
+-- what stands ahead of it
+abbrev pub aheadOf : Walker → Ahead
+aheadOf w = stepOf w .ahead
+
+-- .. and it goes behind that
+abbrev pub gone : Walker → Walker
+gone w = record { text = w .text; at = stepOf w .at; mode = w .mode }
+
+-- the tokens that a walker gives as it goes on, call by call, and whether it then stands at the text's end or before bytes that are no token
+pub data Gives : Walker → List Token → Bool → Type 0 where
+  over : {w : Walker} → aheadOf w ≡ End → Gives w [] true
+  stuck : {w : Walker} → aheadOf w ≡ Found Bad → Gives w [] false
+  more : {w : Walker} {t : Token} {ts : List Token} {whole : Bool} → aheadOf w ≡ Found t → (t ≡ Bad → ⊥) → Gives (gone w) ts whole → Gives w (t ∷ ts) whole
+
+-- an item that was read, as a token
+abbrev pub shownPlaced : Placed → Token
+shownPlaced p = shownItem (p .at) (p .item)
+
+-- how many items were read
+abbrev pub counted : Reading → Count
+counted Reading.refused = count.Bad
+counted (Reading.items is) = count.Tokens (length is)

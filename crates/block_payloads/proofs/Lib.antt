@@ -1,0 +1,2 @@
+-- The laws that the proofs of block_payloads cite.
+pub mod Lines

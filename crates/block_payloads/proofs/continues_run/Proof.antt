@@ -1,0 +1,49 @@
+use Rattle.block_payloads.proofs.Lines as laws
+use borrow.Author.Needs.{needs}
+use Rattle.block_payloads.proofs.continues_run.Statement.{statement}
+use Rattle.block_payloads.proofs.continues_run.Tie as tie
+
+returns : tie.Need-returns
+returns c = laws.none _ (c .if1 .taken)
+
+sub-if2 : tie.Need-sub-if2
+sub-if2 c = search needs
+
+shared-slice-read-if2 : tie.Need-shared-slice-read-if2
+shared-slice-read-if2 c = search needs
+
+returns-2 : tie.Need-returns-2
+returns-2 c = laws.closes _ (c .before .before .if1 .left) (c .if2 .taken)
+
+behind-last-requires : tie.Need-behind-last-requires
+behind-last-requires c κs = search needs
+
+sub-payload-ok : tie.Need-sub-payload-ok
+sub-payload-ok c = search needs
+
+part-payload-ok-start : tie.Need-part-payload-ok-start
+part-payload-ok-start c = search needs
+
+part-payload-ok-end : tie.Need-part-payload-ok-end
+part-payload-ok-end c = search needs
+
+payload-ok-requires : tie.Need-payload-ok-requires
+payload-ok-requires c κs = search needs
+
+returns-3 : tie.Need-returns-3
+returns-3 c = laws.payload _ (c .before .before .before .before .before .if1 .left) (c .before .before .before .if2 .left) ((c .before .before .behind-last .ensures) .0) ((c .before .before .behind-last .ensures) .1) (c .payload-ok .ensures)
+
+pub continues-run-spec : {M : Type 1} → statement M
+continues-run-spec =
+    tie.close
+    (tie.spec
+    returns
+    sub-if2
+    shared-slice-read-if2
+    returns-2
+    behind-last-requires
+    sub-payload-ok
+    part-payload-ok-start
+    part-payload-ok-end
+    payload-ok-requires
+    returns-3)

@@ -1,0 +1,2 @@
+-- The definitions that the contracts of block_payloads cite.
+pub mod Payloads

@@ -1,0 +1,63 @@
+use mathlib.Core.Path.{ap, sym, _∙_}
+use Prim.Native.Nat.{_-_}
+use native.Mathlib.Omega.{arith}
+use borrow.Author.Needs.{needs}
+use lib.ListN.{length}
+use Rattle.block_grammar.specs.Read.{readPayload}
+use Rattle.block_tokens.specs.Shown.{accepted, behind}
+use Rattle.block_tokens.proofs.Payload as payload
+use Rattle.block_tokens.proofs.payload_ok.Statement.{statement}
+use Rattle.block_tokens.proofs.payload_ok.Tie as tie
+
+abbrev Inv-tokens : tie.InvT-tokens
+Inv-tokens s mode some₀ i₀ some i = payload.Reads mode s (accepted (readPayload mode 0 s)) i some
+
+abbrev μ-tokens : tie.MeasureT-tokens
+μ-tokens s mode some₀ i₀ some i = length s - i
+
+tokens-holds : tie.Need-tokens-holds Inv-tokens μ-tokens
+tokens-holds c = payload.start _ _
+
+blank-end-requires : tie.Need-blank-end-requires Inv-tokens μ-tokens
+blank-end-requires c κs = search needs
+
+token-at-requires : tie.Need-token-at-requires Inv-tokens μ-tokens
+token-at-requires c κs = search needs
+
+behind-token-requires : tie.Need-behind-token-requires Inv-tokens μ-tokens
+behind-token-requires c κs = search needs
+
+enum-told : tie.Need-enum-told Inv-tokens μ-tokens
+enum-told c = search needs
+
+enum-known-e : tie.Need-enum-known-e Inv-tokens μ-tokens
+enum-known-e c = search needs
+
+tokens-less : tie.Need-tokens-less Inv-tokens μ-tokens
+tokens-less c = let g = payload.go (c .before .before .before .before .before .before .before .tokens .inv) (c .before .before .before .before .before .before .blank-end .ensures) (sym (c .before .e .given .1) ∙ (c .before .before .before .behind-token .ensures) ∙ ap behind (c .before .before .before .before .token-at .ensures)) in omega (arith, g .0 .within, g .1)
+
+tokens-again : tie.Need-tokens-again Inv-tokens μ-tokens
+tokens-again c = payload.go (c .before .before .before .before .before .before .before .tokens .inv) (c .before .before .before .before .before .before .blank-end .ensures) (sym (c .before .e .given .1) ∙ (c .before .before .before .behind-token .ensures) ∙ ap behind (c .before .before .before .before .token-at .ensures)) .0
+
+returns : tie.Need-returns Inv-tokens μ-tokens
+returns c = payload.end (c .before .before .tokens .inv) (c .before .blank-end .ensures) (c .if1 .taken)
+
+returns-2 : tie.Need-returns-2 Inv-tokens μ-tokens
+returns-2 c = payload.stop (c .before .before .before .before .before .before .tokens .inv) (c .before .before .before .before .before .blank-end .ensures) (c .before .before .before .before .if1 .left) (sym (c .enum-told .given .1) ∙ (c .before .before .behind-token .ensures) ∙ ap behind (c .before .before .before .token-at .ensures))
+
+pub payload-ok-spec : {M : Type 1} → statement M
+payload-ok-spec =
+    tie.close
+    (tie.spec
+    Inv-tokens
+    μ-tokens
+    tokens-holds
+    blank-end-requires
+    token-at-requires
+    behind-token-requires
+    enum-told
+    enum-known-e
+    tokens-less
+    tokens-again
+    returns
+    returns-2)

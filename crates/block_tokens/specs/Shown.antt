@@ -1,0 +1,37 @@
+-- A token by ranges of the text, as the code hands it out.
+use mathlib.Core.Bool.{Bool, true, false}
+use Prim.Native.Nat.{ℕ, _+_}
+use lib.ListN.{length}
+use Rattle.block_grammar.specs.Grammar.{Item}
+use Rattle.block_grammar.specs.Read.{First, Reading}
+use Rattle.block_grammar.specs.declared.Place.{Place}
+use Rattle.block_grammar.specs.declared.Place.the-variants.{Nothing, At}
+use Rattle.block_tokens.specs.declared.Token.{Token}
+
+-- the ranges of an item whose token's first byte stands at a
+unfoldable pub shownItem : ℕ → Item → Token
+shownItem a (Item.tag t) = Token.Tag (a + 1) (a + 1 + length t)
+shownItem a (Item.id n) = Token.Id (a + 1) (a + 1 + length n)
+shownItem a (Item.class n) = Token.Class (a + 1) (a + 1 + length n)
+shownItem a (Item.plain k v) = Token.Plain a (a + length k) (a + length k + 1 + length v)
+shownItem a (Item.quoted k q v) = Token.Quoted a (a + length k) (a + length k + 3 + length v)
+shownItem a (Item.bare n) = Token.Bare a (a + length n)
+
+unfoldable pub shown : ℕ → First → Token
+shown a First.none = Token.Bad
+shown a (First.token i) = shownItem a i
+
+-- the place behind a token
+abbrev pub behind : Token → Place
+behind Token.Bad = Nothing
+behind (Token.Tag f e) = At e
+behind (Token.Id f e) = At e
+behind (Token.Class f e) = At e
+behind (Token.Plain f k e) = At e
+behind (Token.Quoted f k e) = At e
+behind (Token.Bare f e) = At e
+
+-- whether there is a reading
+abbrev pub accepted : Reading → Bool
+accepted Reading.refused = false
+accepted (Reading.items is) = true

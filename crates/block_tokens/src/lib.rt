@@ -1,0 +1,290 @@
+// The token at a place of a text, by ranges of it.
+ghost use mathlib.Core.Path.{_≡_};
+ghost use mathlib.Core.Bool.{false, cond, _&&_};
+ghost use Prim.Native.Nat.{_+_, _-_, _<_, _≤_};
+ghost use lib.ListN.{length, getD, drop};
+ghost use Rattle.base_lists.specs.Lists.{run, firstIs};
+ghost use Rattle.base_bytes.specs.Bytes.{isLetter, isNameStart, isNamePart, isKeyStart, isPlain, isBlank};
+ghost use Rattle.block_grammar.specs.Read.{ends, shutOf, nameToken, valueToken, tokenOf, readPayload};
+ghost use Rattle.block_tokens.specs.Shown.{accepted, shown, behind};
+ghost use Rattle.block_tokens.specs.Steps.{startsEq, tagToken, idToken, classToken, quotedFrom, part, shutAt};
+use base_bytes::Mode;
+use block_grammar::Place;
+
+// A tag, an id or a class by the range of its name; a key by its range, with the place behind its value; a bare name.
+pub enum Token {
+    Bad,
+    Tag(usize, usize),
+    Id(usize, usize),
+    Class(usize, usize),
+    Plain(usize, usize, usize),
+    Quoted(usize, usize, usize),
+    Bare(usize, usize),
+}
+
+// Behind the blanks from i on.
+pub fn blank_end(s: &[u8], i: usize, mode: Mode) -> usize
+    ensures { λ r. ⌜ r ≡ i + run (isBlank mode) (drop i (now (s .entry))) ⌝ }
+{
+    let mut a = i;
+    while a < s.len() {
+        if !base_bytes::is_blank(mode, s[a]) {
+            return a;
+        }
+        a += 1;
+    }
+    a
+}
+
+// A later byte of a name; most are small letters, which are told first.
+fn is_part(b: u8) -> bool
+    ensures { λ r. ⌜ r ≡ isNamePart b ⌝ }
+{
+    match b {
+        b'a'..=b'z' => true,
+        _ => base_letters::is_attr_ident_part(b),
+    }
+}
+
+// A byte of an unquoted value; from `(` to `{` all but `\` are, which are told first.
+fn is_value_byte(b: u8) -> bool
+    ensures { λ r. ⌜ r ≡ isPlain b ⌝ }
+{
+    match b {
+        b'('..=b'[' | b']'..=b'{' => true,
+        _ => base_bytes::is_plain(b),
+    }
+}
+
+// Behind the name bytes from i on.
+fn part_end(s: &[u8], i: usize) -> usize
+    ensures { λ r. ⌜ r ≡ i + run isNamePart (drop i (now (s .entry))) ⌝ }
+{
+    let mut k = i;
+    while k < s.len() {
+        if !is_part(s[k]) {
+            return k;
+        }
+        k += 1;
+    }
+    k
+}
+
+// Behind the bytes of an unquoted value from i on.
+fn plain_end(s: &[u8], i: usize) -> usize
+    ensures { λ r. ⌜ r ≡ i + run isPlain (drop i (now (s .entry))) ⌝ }
+{
+    let mut k = i;
+    while k < s.len() {
+        if !is_value_byte(s[k]) {
+            return k;
+        }
+        k += 1;
+    }
+    k
+}
+
+// Whether a byte that can begin a name stands at i.
+fn starts_name(s: &[u8], i: usize) -> bool
+    ensures { λ r. ⌜ r ≡ firstIs isNameStart (drop i (now (s .entry))) ⌝ }
+{
+    if s.len() <= i {
+        return false;
+    }
+    base_letters::is_css_ident_start(s[i])
+}
+
+// Whether a byte that can begin a key stands at i.
+fn starts_key(s: &[u8], i: usize) -> bool
+    ensures { λ r. ⌜ r ≡ firstIs isKeyStart (drop i (now (s .entry))) ⌝ }
+{
+    if s.len() <= i {
+        return false;
+    }
+    base_letters::is_attr_ident_start(s[i])
+}
+
+// Whether a byte that can begin a bare name stands at i.
+fn starts_bare(s: &[u8], i: usize) -> bool
+    ensures { λ r. ⌜ r ≡ firstIs isLetter (drop i (now (s .entry))) ⌝ }
+{
+    if s.len() <= i {
+        return false;
+    }
+    base_letters::is_letter(s[i])
+}
+
+// The token t, if it is good and a token may end before e.
+fn finish(s: &[u8], e: usize, mode: Mode, good: bool, t: Token) -> Token
+    ensures { λ r. ⌜ r ≡ cond (good && ends mode (drop e (now (s .entry)))) t Token.Bad ⌝ }
+{
+    if !good {
+        return Token::Bad;
+    }
+    if s.len() <= e {
+        return t;
+    }
+    if !base_bytes::is_blank(mode, s[e]) {
+        return Token::Bad;
+    }
+    t
+}
+
+// What stands behind the `:` at i.
+fn tag_token(s: &[u8], i: usize, mode: Mode) -> Token
+    requires { ⌜ i < length (now s) ⌝ }
+    ensures { λ r. ⌜ r ≡ shown i (tagToken mode (drop (i + 1) (now (s .entry)))) ⌝ }
+{
+    let a = i + 1;
+    let e = part_end(s, a);
+    let good = text_names::is_language_tag(&s[a..e]);
+    finish(s, e, mode, good, Token::Tag(a, e))
+}
+
+// What stands behind the `#` at i.
+fn id_token(s: &[u8], i: usize, mode: Mode) -> Token
+    requires { ⌜ i < length (now s) ⌝ }
+    ensures { λ r. ⌜ r ≡ shown i (idToken mode (drop (i + 1) (now (s .entry)))) ⌝ }
+{
+    let a = i + 1;
+    let e = part_end(s, a);
+    let good = starts_name(s, a);
+    finish(s, e, mode, good, Token::Id(a, e))
+}
+
+// What stands behind the `.` at i.
+fn class_token(s: &[u8], i: usize, mode: Mode) -> Token
+    requires { ⌜ i < length (now s) ⌝ }
+    ensures { λ r. ⌜ r ≡ shown i (classToken mode (drop (i + 1) (now (s .entry)))) ⌝ }
+{
+    let a = i + 1;
+    let e = part_end(s, a);
+    let good = starts_name(s, a);
+    finish(s, e, mode, good, Token::Class(a, e))
+}
+
+// Where the quote q closes, from i on.
+fn quote_end(s: &[u8], i: usize, q: u8) -> Place
+    ensures { λ r. ⌜ r ≡ shutAt i (shutOf q (drop i (now (s .entry))) false) ⌝ }
+{
+    let mut k = i;
+    'bytes: loop {
+        if s.len() <= k {
+            break 'bytes Place::Nothing;
+        }
+        if s[k] == q {
+            break 'bytes Place::At(k);
+        }
+        if s[k] == b'\\' {
+            k += 2;
+            continue 'bytes;
+        }
+        k += 1;
+        continue 'bytes;
+    }
+}
+
+// The value in quotes behind the key from i to k, whose `=` stands at k.
+fn quoted_token(s: &[u8], i: usize, k: usize, mode: Mode) -> Token
+    requires { ⌜ (i ≤ k) × (k + 1 < length (now s)) ⌝ }
+    ensures { λ r. ⌜ r ≡ shown i (quotedFrom mode (part i k (now (s .entry))) (getD (now (s .entry)) (k + 1) 0) (drop (k + 2) (now (s .entry)))) ⌝ }
+{
+    match quote_end(s, k + 2, s[k + 1]) {
+        Place::Nothing => Token::Bad,
+        Place::At(e) => finish(s, e + 1, mode, true, Token::Quoted(i, k, e + 1)),
+    }
+}
+
+// The value behind the key from i to k, whose `=` stands at k.
+fn value_token(s: &[u8], i: usize, k: usize, mode: Mode) -> Token
+    requires { ⌜ (i ≤ k) × (k < length (now s)) ⌝ }
+    ensures { λ r. ⌜ r ≡ shown i (valueToken mode (part i k (now (s .entry))) (drop (k + 1) (now (s .entry)))) ⌝ }
+{
+    let v = k + 1;
+    if v == s.len() {
+        return Token::Bad;
+    }
+    if base_bytes::is_quote(s[v]) {
+        return quoted_token(s, i, k, mode);
+    }
+    let e = plain_end(s, v);
+    finish(s, e, mode, v < e, Token::Plain(i, k, e))
+}
+
+// Whether `=` stands at i.
+fn has_equals(s: &[u8], i: usize) -> bool
+    ensures { λ r. ⌜ r ≡ startsEq (drop i (now (s .entry))) ⌝ }
+{
+    if s.len() <= i {
+        return false;
+    }
+    s[i] == b'='
+}
+
+// A key with its value, or a bare name, from i on.
+fn name_token(s: &[u8], i: usize, mode: Mode) -> Token
+    requires { ⌜ i ≤ length (now s) ⌝ }
+    ensures { λ r. ⌜ r ≡ shown i (nameToken mode (drop i (now (s .entry)))) ⌝ }
+{
+    let e = part_end(s, i);
+    if !has_equals(s, e) {
+        let good = starts_bare(s, i);
+        return finish(s, e, mode, good, Token::Bare(i, e));
+    }
+    if !starts_key(s, i) {
+        return Token::Bad;
+    }
+    value_token(s, i, e, mode)
+}
+
+// The token at i.
+pub fn token_at(s: &[u8], i: usize, mode: Mode) -> Token
+    ensures { λ r. ⌜ r ≡ shown i (tokenOf mode (drop i (now (s .entry)))) ⌝ }
+{
+    if s.len() <= i {
+        return Token::Bad;
+    }
+    match s[i] {
+        b':' => tag_token(s, i, mode),
+        b'#' => id_token(s, i, mode),
+        b'.' => class_token(s, i, mode),
+        _ => name_token(s, i, mode),
+    }
+}
+
+// The place behind a token.
+fn behind_token(t: Token) -> Place
+    ensures { λ r. ⌜ r ≡ behind t ⌝ }
+{
+    match t {
+        Token::Bad => Place::Nothing,
+        Token::Tag(_, e) => Place::At(e),
+        Token::Id(_, e) => Place::At(e),
+        Token::Class(_, e) => Place::At(e),
+        Token::Plain(_, _, e) => Place::At(e),
+        Token::Quoted(_, _, e) => Place::At(e),
+        Token::Bare(_, e) => Place::At(e),
+    }
+}
+
+// Whether s is a payload.
+pub fn payload_ok(s: &[u8], mode: Mode) -> bool
+    ensures { λ r. ⌜ r ≡ accepted (readPayload mode 0 (now (s .entry))) ⌝ }
+{
+    let mut some = false;
+    let mut i = 0;
+    'tokens: loop {
+        let a = blank_end(s, i, mode);
+        if a == s.len() {
+            break 'tokens some;
+        }
+        match behind_token(token_at(s, a, mode)) {
+            Place::Nothing => break 'tokens false,
+            Place::At(e) => {
+                some = true;
+                i = e;
+                continue 'tokens;
+            }
+        }
+    }
+}

@@ -1,4 +1,0 @@
--- The definitions that the contracts of blocks cite, and those of the blocks by line number.
-pub mod Blocks
-pub mod ByLine
-pub mod Steps

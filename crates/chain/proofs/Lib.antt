@@ -1,5 +1,0 @@
--- The theorems about lines of blocks, and the laws that the proofs of chain cite.
-pub mod Blocks
-pub mod Good
-pub mod Merged
-pub mod Stands

@@ -1,3 +1,0 @@
--- The definitions that the contracts of chain cite.
-pub mod Chain
-pub mod Walk

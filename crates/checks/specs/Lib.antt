@@ -1,2 +1,0 @@
--- The definitions that the contracts of checks cite.
-pub mod Check

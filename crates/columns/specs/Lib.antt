@@ -1,2 +1,0 @@
--- The definitions that the contracts of columns cite.
-pub mod Columns

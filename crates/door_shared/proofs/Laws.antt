@@ -1,0 +1,57 @@
+-- Numbers told one after the other, and a set written and told.
+-- Assumes nothing.
+use mathlib.Core.Path.{_≡_, refl, sym, ap, _∙_}
+use mathlib.Core.List.{List, [], _∷_, _++_}
+use Prim.Native.Nat.{ℕ}
+use lib.ListN.{length, set}
+use Rattle.text_checks.specs.declared.Check.{Check}
+use Rattle.set_canon.specs.Canon.{canon}
+use Rattle.set_table.specs.Types.{one}
+use Rattle.set_table.specs.Rows.{meaningOf}
+use Rattle.set_table.specs.declared.Attrs.{Attrs}
+use Rattle.set_writer.specs.Write.{wroteNo, wroteOf, contentAfter, orRefused, orLeft}
+use Rattle.set_writer.specs.declared.Wrote.{Wrote}
+use Rattle.door_shared.specs.Tells.{toldIn, lenOf, Said, setSaid}
+
+-- ---- telling
+
+told-none : (buf : List ℕ) → toldIn buf [] ≡ buf
+unfolding toldIn
+told-none [] = refl
+told-none (b ∷ buf) = refl
+
+told-more : (buf xs : List ℕ) (x : ℕ) → set (toldIn buf xs) (length xs) x ≡ toldIn buf (xs ++ (x ∷ []))
+unfolding toldIn
+told-more [] xs x = refl
+told-more (b ∷ buf) [] x = ap (λ l. x ∷ l) (sym (told-none buf))
+told-more (b ∷ buf) (y ∷ ys) x = ap (λ l. y ∷ l) (told-more buf ys x)
+
+behind : (buf xs : List ℕ) (x : ℕ) {t u : List ℕ} → t ≡ toldIn buf xs → u ≡ set t (length xs) x → u ≡ toldIn buf (xs ++ (x ∷ []))
+behind buf xs x {t} {u} e f = f ∙ ap (λ l. set l (length xs) x) e ∙ told-more buf xs x
+
+pub told-1 : (buf : List ℕ) (a : ℕ) {t : List ℕ} → t ≡ set buf 0 a → t ≡ toldIn buf (a ∷ [])
+told-1 buf a p = behind buf [] a (sym (told-none buf)) p
+
+pub told-2 : (buf : List ℕ) (a b : ℕ) {t u : List ℕ} → t ≡ set buf 0 a → u ≡ set t 1 b → u ≡ toldIn buf (a ∷ b ∷ [])
+told-2 buf a b p q = behind buf (a ∷ []) b (told-1 buf a p) q
+
+pub told-3 : (buf : List ℕ) (a b c : ℕ) {t u v : List ℕ} → t ≡ set buf 0 a → u ≡ set t 1 b → v ≡ set u 2 c → v ≡ toldIn buf (a ∷ b ∷ c ∷ [])
+told-3 buf a b c p q r = behind buf (a ∷ b ∷ []) c (told-2 buf a b p q) r
+
+pub told-4 : (buf : List ℕ) (a b c d : ℕ) {t u v w : List ℕ} → t ≡ set buf 0 a → u ≡ set t 1 b → v ≡ set u 2 c → w ≡ set v 3 d → w ≡ toldIn buf (a ∷ b ∷ c ∷ d ∷ [])
+told-4 buf a b c d p q r s = behind buf (a ∷ b ∷ c ∷ []) d (told-3 buf a b c p q r) s
+
+pub told-5 : (buf : List ℕ) (a b c d e : ℕ) {t u v w x : List ℕ} → t ≡ set buf 0 a → u ≡ set t 1 b → v ≡ set u 2 c → w ≡ set v 3 d → x ≡ set w 4 e → x ≡ toldIn buf (a ∷ b ∷ c ∷ d ∷ e ∷ [])
+told-5 buf a b c d e p q r s z = behind buf (a ∷ b ∷ c ∷ d ∷ []) e (told-4 buf a b c d p q r s) z
+
+-- ---- a set written and told
+
+module _ (buf told : List ℕ) where
+  -- an answer as it is promised
+  abbrev pub Says : Said → ℕ → List ℕ → List ℕ → Type 0
+  Says s r o v = (r ≡ s .number) × ((o ≡ s .out) × (v ≡ toldIn told (s .told)))
+
+  -- what is written unless c refuses it, where c and the text t are the definition's d and u
+  pub set-said : (a : Attrs) (tell : ℕ → List ℕ) {c d : Check} {t u : List ℕ} {w : Wrote} {o v : List ℕ} {k r : ℕ} → c ≡ d → t ≡ u → w ≡ orRefused c (wroteOf (canon (meaningOf (one t) a)) (length buf)) → o ≡ orLeft c buf (contentAfter buf (canon (meaningOf (one t) a))) → k ≡ lenOf w → v ≡ toldIn told (tell k) → r ≡ wroteNo w → Says (setSaid d u a buf tell) r o v
+  set-said a tell {c} {d} {t} {u} {w} {o} {v} {k} {r} e f p q l s n =
+      rw (← e, ← f) (n ∙ ap wroteNo p, (q, s ∙ ap (λ i. toldIn told (tell i)) (l ∙ ap lenOf p)))

@@ -1,0 +1,2 @@
+-- The laws that the proofs of the crates over door_shared cite.
+pub mod Laws

@@ -1,0 +1,25 @@
+use borrow.Author.Needs.{needs}
+use Rattle.door_shared.proofs.write_out.Statement.{statement}
+use Rattle.door_shared.proofs.write_out.Tie as tie
+
+enum-known-c : tie.Need-enum-known-c
+enum-known-c c = search needs
+
+enum-told : tie.Need-enum-told
+enum-told c = search needs
+
+write-set-requires : tie.Need-write-set-requires
+write-set-requires c κs = search needs
+
+returns : tie.Need-returns
+returns c = (rw ((c .before .c .given .1)), rw ((c .before .c .given .1)))
+
+same-length : tie.Need-same-length
+same-length c = search needs
+
+returns-2 : tie.Need-returns-2
+returns-2 c = (rw ((c .before .before .before .before .enum-told .given .1)) ((c .before .before .write-set .ensures .0)), rw ((c .before .before .before .before .enum-told .given .1)) ((c .before .before .write-set .ensures .1)))
+
+pub write-out-spec : {M : Type 1} → statement M
+write-out-spec =
+    tie.close (tie.spec enum-known-c enum-told write-set-requires returns same-length returns-2)

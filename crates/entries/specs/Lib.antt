@@ -1,2 +1,0 @@
--- The definitions that the contracts of entries cite.
-pub mod Entries

@@ -1,3 +1,0 @@
--- The definitions that the contracts of escapes cite.
-pub mod Unescape
-pub mod Rules

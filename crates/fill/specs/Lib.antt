@@ -1,3 +1,0 @@
--- The definitions that the contracts of fill cite.
-pub mod Fill
-pub mod Walk

@@ -1,2 +1,0 @@
--- The definitions that the contracts of fronts cite.
-pub mod Fronts

@@ -1,2 +1,0 @@
--- The definitions that the contracts of joins cite.
-pub mod Joins

@@ -1,3 +1,0 @@
--- The definitions that the contracts of lengths cite.
-pub mod Lengths
-pub mod Steps

@@ -1,3 +1,0 @@
--- The definitions that the contracts of lines cite.
-pub mod Trim
-pub mod Lines

@@ -1,2 +1,0 @@
--- The definitions that the contracts of lists cite.
-pub mod Lists

@@ -1,3 +1,0 @@
--- The laws of loans.
-pub mod Local
-pub mod Calls

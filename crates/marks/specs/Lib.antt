@@ -1,2 +1,0 @@
--- The definitions that the contracts of marks cite.
-pub mod Marks

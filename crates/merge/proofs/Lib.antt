@@ -1,9 +1,0 @@
--- The laws that the proofs of merge cite, and what is proved of a merge (Means).
-pub mod Fronts
-pub mod Tables
-pub mod Rest
-pub mod Whole
-pub mod ByNames
-pub mod Puts
-pub mod Means
-pub mod Numbers

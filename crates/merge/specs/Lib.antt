@@ -1,3 +1,0 @@
--- The definitions that the contracts of merge cite.
-pub mod Merge
-pub mod Walk

@@ -1,4 +1,0 @@
--- The definitions that the contracts of names cite, and the grammar of tags.
-pub mod Names
-pub mod Grammar
-pub mod Tags

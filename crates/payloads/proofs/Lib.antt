@@ -1,2 +1,0 @@
--- The laws that the proofs of payloads cite.
-pub mod Lines

@@ -1,2 +1,0 @@
--- The definitions that the contracts of payloads cite.
-pub mod Payloads

@@ -1,0 +1,13 @@
+-- Blocks by line number, which the entries that read and those that measure share.
+use Prim.Native.Nat.{ℕ}
+use mathlib.Core.List.{List}
+use Rattle.text_line_start.specs.Starts.{startAt, onStart}
+use Rattle.read_blocks.specs.Blocks.{Found, nothing, found, wrapped}
+
+-- `parse_standalone_attrs_block`, and `attrs_block_len_at` of a column: "adds its column to the first line's brace column"
+unfoldable pub blockFound : List ℕ → ℕ → ℕ → ℕ → Found
+blockFound t n base cap = onStart nothing (λ at. found t at base cap) (startAt t n)
+
+-- `wrapped_attrs_run_at`: a run, also of one good line
+unfoldable pub wrappedFound : List ℕ → ℕ → ℕ → ℕ → Found
+wrappedFound t n base cap = onStart nothing (λ at. wrapped t at base cap) (startAt t n)

@@ -1,0 +1,3 @@
+-- The definitions that the contracts of read_brace cite.
+pub mod Brace
+pub mod Table

@@ -1,0 +1,148 @@
+// Reading an attribute block at a brace.
+use base_bytes::Mode;
+use base_refusals::Refusal;
+use block_grammar::Place;
+use set_fill::Filled;
+use set_fill::Outcome;
+use set_table::Attrs;
+use text_lines::Range;
+ghost use mathlib.Core.Path.{_≡_};
+ghost use Prim.Native.Nat.{suc, _+_, _≤_, _<_};
+ghost use lib.ListN.{length};
+ghost use lib.Seq.{slice};
+ghost use Rattle.base_bytes.specs.declared.Mode.the-variants.{Strict};
+ghost use Rattle.base_refusals.specs.Numbers.{maxText};
+ghost use Rattle.block_grammar.specs.Close.{findClose};
+ghost use Rattle.block_grammar.specs.declared.Place.the-variants.{At};
+ghost use Rattle.read_brace.specs.Brace.{refusing, braceAt, answerBy, finished, readTo, readAttrsAt, partTo, payloadAt};
+
+// A refusal, or the place behind the block.
+pub enum Answer {
+    Refused(Refusal),
+    Next(usize),
+}
+
+// What is read at a brace: the set is the empty one where the answer is a refusal.
+pub struct Read {
+    pub answer: Answer,
+    pub set: Attrs,
+}
+
+// A refusal hands out no set.
+fn refused(r: Refusal) -> Read
+    ensures { λ f. ⌜ f ≡ refusing r ⌝ }
+{
+    let filled = set_fill::refusing(r);
+    let set = filled.set;
+    Read {
+        answer: Answer::Refused(r),
+        set,
+    }
+}
+
+// Whether a brace opens at the place.
+fn opens_at(text: &[u8], place: usize) -> bool
+    ensures { λ r. ⌜ r ≡ braceAt (now (text .entry)) place ⌝ }
+{
+    if text.len() <= place {
+        return false;
+    }
+    text[place] == b'{'
+}
+
+// What filling comes to, with the place behind the block.
+fn answer_of(outcome: Outcome, next: usize) -> Answer
+    ensures { λ r. ⌜ r ≡ answerBy outcome next ⌝ }
+{
+    match outcome {
+        Outcome::Refused(r) => Answer::Refused(r),
+        Outcome::Done => Answer::Next(next),
+    }
+}
+
+// The set is handed on as it was filled: a refusal's is the empty one already.
+fn handed_out(filled: Filled, next: usize) -> Read
+    ensures { λ r. ⌜ r ≡ finished filled next ⌝ }
+{
+    let outcome = filled.outcome;
+    let set = filled.set;
+    Read {
+        answer: answer_of(outcome, next),
+        set,
+    }
+}
+
+// The payload between the brace at `place` and the close at `end`.
+fn read_payload(text: &[u8], place: usize, end: usize, mode: Mode) -> Read
+    requires { ⌜ (length (now text) ≤ maxText) × ((place < end) × ((end < length (now text)) × (findClose (now text) (suc place) ≡ At end))) ⌝ }
+    ensures { λ r. ⌜ r ≡ readTo mode (now (text .entry)) place (At end) ⌝ }
+{
+    if !text_utf8::is_utf8(&text[place + 1..end]) {
+        return refused(Refusal::NotUtf8);
+    }
+    handed_out(set_fill::fill(text, place + 1, end, mode), end + 1)
+}
+
+// The block whose brace stands at the place, in either mode.
+pub fn read_attrs_at_with(text: &[u8], place: usize, mode: Mode) -> Read
+    ensures { λ r. ⌜ r ≡ readAttrsAt mode (now (text .entry)) place ⌝ }
+{
+    if base_refusals::MAX_TEXT < text.len() {
+        return refused(Refusal::TextTooLong);
+    }
+    if !opens_at(text, place) {
+        return refused(Refusal::NothingThere);
+    }
+    match block_close::find_close(text, place + 1) {
+        Place::Nothing => refused(Refusal::NoClose),
+        Place::At(end) => read_payload(text, place, end, mode),
+    }
+}
+
+// The inline block: only spaces part its tokens.
+pub fn read_attrs_at(text: &[u8], place: usize) -> Read
+    ensures { λ r. ⌜ r ≡ readAttrsAt Strict (now (text .entry)) place ⌝ }
+{
+    read_attrs_at_with(text, place, Mode::Strict)
+}
+
+// The payload's range, if it is UTF-8.
+fn range_to(text: &[u8], place: usize, end: usize) -> Range
+    requires { ⌜ (place < end) × (end < length (now text)) ⌝ }
+    ensures { λ r. ⌜ r ≡ partTo (now (text .entry)) place (At end) ⌝ }
+{
+    if !text_utf8::is_utf8(&text[place + 1..end]) {
+        return Range { from: 0, to: 0 };
+    }
+    Range {
+        from: place + 1,
+        to: end,
+    }
+}
+
+// Where the payload of the block at the place lies; the empty range at the text's front on a refusal.
+pub fn payload_range(text: &[u8], place: usize) -> Range
+    ensures { λ r. ⌜ r ≡ payloadAt (now (text .entry)) place ⌝ }
+{
+    if base_refusals::MAX_TEXT < text.len() {
+        return Range { from: 0, to: 0 };
+    }
+    if !opens_at(text, place) {
+        return Range { from: 0, to: 0 };
+    }
+    match block_close::find_close(text, place + 1) {
+        Place::Nothing => Range { from: 0, to: 0 },
+        Place::At(end) => range_to(text, place, end),
+    }
+}
+
+// The payload of the block at the place, handed back as that part of the text.
+pub fn payload_at(text: &[u8], place: usize) -> &[u8]
+    ensures { λ r. ⌜ now r ≡ slice (payloadAt (now (text .entry)) place .from) (payloadAt (now (text .entry)) place .to) (now (text .entry)) ⌝ }
+    ensures { λ r. ⌜ r .ptr ≡ (text .entry .ptr .0, payloadAt (now (text .entry)) place .from + text .entry .ptr .1) ⌝ }
+{
+    let r = payload_range(text, place);
+    let from = r.from;
+    let to = r.to;
+    &text[from..to]
+}

@@ -1,0 +1,43 @@
+use mathlib.Core.Path.{sym, _∙_}
+use Rattle.read_blocks.proofs.ByLine.{wraps-none, wraps-at}
+use Rattle.read_by_line.proofs.Starts as laws
+use borrow.Author.Needs.{needs}
+use Rattle.read_by_line.proofs.wrapped_attrs_run_at.Statement.{statement}
+use Rattle.read_by_line.proofs.wrapped_attrs_run_at.Tie as tie
+
+line-start-requires : tie.Need-line-start-requires
+line-start-requires c κs = search needs
+
+enum-known-r : tie.Need-enum-known-r
+enum-known-r c = search needs
+
+no-block-requires : tie.Need-no-block-requires
+no-block-requires c κs = search needs
+
+enum-known-at : tie.Need-enum-known-at
+enum-known-at c = search needs
+
+wrapped-at-requires : tie.Need-wrapped-at-requires
+wrapped-at-requires c κs = search needs
+
+returns : tie.Need-returns
+returns c = let e = sym (c .before .before .before .before .line-start .ensures) ∙ (c .before .before .r .given .1) in laws.read-none _ _ e _ (wraps-none _ _ _ _ e) (c .no-block .ensures)
+
+same-length : tie.Need-same-length
+same-length c = search needs
+
+returns-2 : tie.Need-returns-2
+returns-2 c = let e = sym (c .before .before .before .before .before .before .before .line-start .ensures) ∙ (c .before .before .before .before .before .at .given .1) in laws.read-at _ _ e _ (wraps-at _ _ _ _ e) (c .before .before .wrapped-at .ensures .0) (c .before .before .wrapped-at .ensures .1)
+
+pub wrapped-attrs-run-at-spec : {M : Type 1} → statement M
+wrapped-attrs-run-at-spec =
+    tie.close
+    (tie.spec
+    line-start-requires
+    enum-known-r
+    no-block-requires
+    enum-known-at
+    wrapped-at-requires
+    returns
+    same-length
+    returns-2)

@@ -1,0 +1,58 @@
+use mathlib.Core.Path.{sym, _∙_, ap}
+use borrow.Author.Tests.{not-true, not-false}
+use Rattle.block_trimmed_line.proofs.Trimmed.{opens-by, closes-by}
+use Rattle.read_lengths.specs.Lengths.{unlessLine}
+use Rattle.read_blocks.proofs.Finds as finds
+use Rattle.read_lengths.proofs.Measured as laws
+use borrow.Author.Needs.{needs}
+use Rattle.read_lengths.proofs.measure_wrapped_at.Statement.{statement}
+use Rattle.read_lengths.proofs.measure_wrapped_at.Tie as tie
+
+trimmed-line-requires : tie.Need-trimmed-line-requires
+trimmed-line-requires c κs = search needs
+
+no-measure-requires : tie.Need-no-measure-requires
+no-measure-requires c κs = search needs
+
+returns : tie.Need-returns
+returns c = laws.none-by _ _ _ (ap unlessLine (finds.found-none _ _ _ _ (opens-by _ _ (c .before .before .before .trimmed-line .ensures) (not-true _ (c .before .if1 .taken))))) (c .no-measure .ensures)
+
+good-line-requires : tie.Need-good-line-requires
+good-line-requires c κs = search needs
+
+no-measure-requires-2 : tie.Need-no-measure-requires-2
+no-measure-requires-2 c κs = search needs
+
+returns-2 : tie.Need-returns-2
+returns-2 c = laws.none-by _ _ _ (ap unlessLine (finds.found-line _ _ _ _ (c .before .before .before .before .before .trimmed-line .ensures) (opens-by _ _ (c .before .before .before .before .before .trimmed-line .ensures) (not-false _ (c .before .before .before .if1 .left))) (sym (c .before .before .good-line .ensures) ∙ (c .before .if2 .taken)))) (c .no-measure2 .ensures)
+
+no-measure-requires-3 : tie.Need-no-measure-requires-3
+no-measure-requires-3 c κs = search needs
+
+returns-3 : tie.Need-returns-3
+returns-3 c = laws.none-by _ _ _ (ap unlessLine (finds.found-shut _ _ _ _ (c .before .before .before .before .before .before .trimmed-line .ensures) (opens-by _ _ (c .before .before .before .before .before .before .trimmed-line .ensures) (not-false _ (c .before .before .before .before .if1 .left))) (sym (c .before .before .before .good-line .ensures) ∙ (c .before .before .if2 .left)) (closes-by _ _ (c .before .before .before .before .before .before .trimmed-line .ensures) (c .before .if3 .taken)))) (c .no-measure3 .ensures)
+
+measure-run-requires : tie.Need-measure-run-requires
+measure-run-requires c κs = search needs
+
+same-length : tie.Need-same-length
+same-length c = search needs
+
+returns-4 : tie.Need-returns-4
+returns-4 c = let e = closes-by _ _ (c .before .before .before .before .before .before .before .before .before .trimmed-line .ensures) (c .before .before .before .before .if3 .left) in laws.measured-by _ _ _ (ap unlessLine (finds.found-run _ _ _ _ (c .before .before .before .before .before .before .before .before .before .trimmed-line .ensures) (opens-by _ _ (c .before .before .before .before .before .before .before .before .before .trimmed-line .ensures) (not-false _ (c .before .before .before .before .before .before .before .if1 .left))) (sym (c .before .before .before .before .before .before .good-line .ensures) ∙ (c .before .before .before .before .before .if2 .left)) e) ∙ laws.run-stays _ _ _ _ e) (c .before .before .measure-run .ensures .0) (c .before .before .measure-run .ensures .1)
+
+pub measure-wrapped-at-spec : {M : Type 1} → statement M
+measure-wrapped-at-spec =
+    tie.close
+    (tie.spec
+    trimmed-line-requires
+    no-measure-requires
+    returns
+    good-line-requires
+    no-measure-requires-2
+    returns-2
+    no-measure-requires-3
+    returns-3
+    measure-run-requires
+    same-length
+    returns-4)

@@ -1,8 +1,0 @@
--- The laws that the proofs of reader cite.
-pub mod Laws
-pub mod Counts
-pub mod Meaning
-pub mod Agrees
-pub mod Cases
-pub mod HandedOut
-pub mod ChainsOut

@@ -1,2 +1,0 @@
--- The definitions that the contracts of refusals cite.
-pub mod Numbers

@@ -1,8 +1,0 @@
--- Laws that the proofs of report cite.
-pub mod Decimals
-pub mod Laying
-pub mod Lays
-pub mod Entries
-pub mod Numbers
-pub mod Calls
-pub mod Said

@@ -1,5 +1,0 @@
--- The definitions that the contracts of report cite.
-pub mod Decimal
-pub mod Report
-pub mod Parts
-pub mod Steps

@@ -1,0 +1,195 @@
+-- One line of a run: its tests, its bytes in the lent memory, and the state behind it.
+-- Assumes nothing.
+use mathlib.Core.Path.{_≡_, refl, sym, _∙_, ap}
+use mathlib.Core.Bool.{Bool, true, false, not}
+use mathlib.Core.List.{List, [], _∷_}
+use Prim.Native.Nat.{ℕ, suc, _+_, _-_, _<_, _≤_}
+use native.Mathlib.Nat.{zero-add}
+use native.Mathlib.Numerals.{add-one}
+use native.Mathlib.Omega.{arith}
+use borrow.Author.Tests.{ne-eqb, lt-ltb, le-ltb, leb-true, leb-false, ltb-false}
+use lib.Dec.{eqb, ltb, leb}
+use lib.ListN.{length, set, length-set}
+use lib.Seq.{sets, length-sets}
+use Rattle.base_lists.specs.Lists.{isIn}
+use Rattle.text_lines.specs.Trim.{trim, isBlankLine}
+pub use Rattle.text_lines.proofs.Trim.{core-from, core-to, core-is}
+use Rattle.text_tabs.specs.Columns.{indentFrom, capped, most}
+use Rattle.text_tabs.proofs.Laws.{capped-id, capped-top}
+use Rattle.block_payloads.specs.Payloads.{continues}
+use Rattle.run_scanners.specs.Scanners.{lastOpenBrace, openQuoteAtEnd, cappedAt, holdFrom, isHeld}
+use Rattle.run_scanners.specs.declared.Hold.{Hold}
+use Rattle.block_grammar.specs.declared.Quote.{Quote}
+use Rattle.block_grammar.specs.declared.Quote.the-variants.{Out, In}
+use Rattle.block_grammar.specs.declared.Place.{Place}
+use Rattle.block_grammar.specs.declared.Place.the-variants.{Nothing, At}
+use Rattle.run_joins.specs.declared.State.{State}
+use Rattle.run_joins.specs.declared.Step.{Step}
+use Rattle.run_joins.specs.declared.Step.the-variants.{Broken, Full, Go, Closes}
+use Rattle.run_joins.specs.Joins.{goesOn, passes, spaced, added, braceAfter, nextState, isLast, closesOr, lengthAfter, stepOf, joinAfter}
+
+-- ---- a line's own tests
+
+module _ (st : State) (pad : ℕ) (l : List ℕ) where
+  abbrev On : Bool → Type 0
+  On r = r ≡ goesOn (st .brace) (st .quote) pad l
+
+  abbrev Passes : Bool → Type 0
+  Passes r = r ≡ passes (eqb (st .len) 0) (st .brace) (st .quote) pad l
+
+  module _ {n : ℕ} (h : st .brace ≤ most) (e : n ≡ capped (indentFrom pad l)) where
+    pub goes-low : n ≤ st .brace → On false
+    goes-low k = rw (capped-id (st .brace) h, ← e, le-ltb (st .brace) n k)
+
+    pub goes-quoted : {k : ℕ} → st .brace < n → st .quote ≡ In k → On false
+    goes-quoted i f = rw (capped-id (st .brace) h, ← e, lt-ltb (st .brace) n i, f)
+
+    pub goes-out : {r : Bool} {core : List ℕ} → st .brace < n → st .quote ≡ Out → core ≡ trim l → r ≡ continues core → On r
+    goes-out i f c p = rw (capped-id (st .brace) h, ← e, lt-ltb (st .brace) n i, f, ← c) p
+
+  module _ {core : List ℕ} (c : core ≡ trim l) where
+    pub blank-refuses : length core ≡ 0 → Passes false
+    unfolding passes isBlankLine
+    blank-refuses e = rw (← c, e)
+
+    pub first-passes : (length core ≡ 0 → ⊥) → st .len ≡ 0 → Passes true
+    unfolding passes isBlankLine
+    first-passes n e = rw (← c, ne-eqb (length core) 0 n, e)
+
+    pub later-passes : {r : Bool} → (length core ≡ 0 → ⊥) → (st .len ≡ 0 → ⊥) → On r → Passes r
+    unfolding passes isBlankLine
+    later-passes n e p =
+        let some : eqb (length (trim l)) 0 ≡ false = rw (← c) (ne-eqb (length core) 0 n) in
+        rw (some, ne-eqb (st .len) 0 e) p
+
+-- ---- room
+
+module _ (cap len : ℕ) (core : List ℕ) where
+  abbrev Lacks : Bool → Type 0
+  Lacks r = r ≡ ltb cap (len + length (spaced (eqb len 0) core))
+
+  pub lacks-first : len ≡ 0 → Lacks (ltb cap (length core))
+  lacks-first e = rw e (ap (ltb cap) (sym (zero-add (length core))))
+
+  spaced-long : (len ≡ 0 → ⊥) → len + length (spaced (eqb len 0) core) ≡ len + suc (length core)
+  spaced-long n = rw (ne-eqb len 0 n)
+
+  pub lacks-before : (len ≡ 0 → ⊥) → cap < len → Lacks true
+  lacks-before n h = rw (spaced-long n) (sym (lt-ltb cap (len + suc (length core)) (omega arith)))
+
+  pub lacks-behind : (len ≡ 0 → ⊥) → len ≤ cap → Lacks (leb (cap - len) (length core))
+  lacks-behind n h = rw (spaced-long n) (go (leb (cap - len) (length core)) refl)
+    where
+      go : (x : Bool) → leb (cap - len) (length core) ≡ x → x ≡ ltb cap (len + suc (length core))
+      go true e = let z = leb-true (cap - len) (length core) e in sym (lt-ltb cap (len + suc (length core)) (omega arith))
+      go false e = let z = leb-false (cap - len) (length core) e in sym (le-ltb cap (len + suc (length core)) (omega arith))
+
+-- ---- writing
+
+module _ (buf : List ℕ) (len : ℕ) (core : List ℕ) where
+  abbrev Put : ℕ → List ℕ → Type 0
+  Put r b = (r ≡ len + length (spaced (eqb len 0) core)) × (b ≡ sets buf len (spaced (eqb len 0) core))
+
+  pub put-first : {b : List ℕ} → len ≡ 0 → b ≡ sets buf 0 core → Put (length core) b
+  put-first e p = rw e (sym (zero-add (length core)), p)
+
+  pub room-later : (len ≡ 0 → ⊥) → len + length (spaced (eqb len 0) core) ≤ length buf → len + 1 + length core ≤ length buf
+  room-later n h = omega (arith, rw (ne-eqb len 0 n) at h)
+
+  pub put-later : {b : List ℕ} → (len ≡ 0 → ⊥) → b ≡ sets (set buf len 32) (len + 1) core → Put (len + 1 + length core) b
+  put-later n p = (rw (ne-eqb len 0 n) (omega arith), rw (ne-eqb len 0 n) (rw (add-one len) at p))
+
+  pub same-length : {b : List ℕ} → b ≡ sets (set buf len 32) (len + 1) core → length b ≡ length buf
+  same-length p = rw p (length-sets (set buf len 32) (len + 1) core ∙ length-set buf len 32)
+
+-- ---- the state behind a line
+
+module _ (l : List ℕ) (hold : Hold) where
+  pub no-close : isIn l 125 ≡ false → false ≡ isLast l hold
+  no-close e = rw e
+
+  pub has-close : {h : Bool} → isIn l 125 ≡ true → h ≡ isHeld hold → not h ≡ isLast l hold
+  has-close e p = rw (e, p)
+
+module _ (hold : Hold) (core : List ℕ) where
+  pub hold-first : {first : Bool} → first ≡ true → holdFrom hold core ≡ holdFrom hold (spaced first core)
+  hold-first e = rw e
+
+  pub hold-later : {first : Bool} → first ≡ false → holdFrom (holdFrom hold (32 ∷ [])) core ≡ holdFrom hold (spaced first core)
+  unfolding holdFrom
+  hold-later e = rw e
+
+capped-sum : (base c : ℕ) → capped (base + capped c) ≡ capped (base + c)
+capped-sum base c = go (leb c most) refl
+  where
+    go : (x : Bool) → leb c most ≡ x → capped (base + capped c) ≡ capped (base + c)
+    go true e = rw (capped-id c (leb-true c most e))
+    go false e =
+        let h = leb-false c most e in
+        let t : capped c ≡ most = capped-top c (omega arith) in
+        rw t (capped-top (base + most) (omega arith) ∙ sym (capped-top (base + c) (omega arith)))
+
+abbrev behind : Place → ℕ
+behind Nothing = 0
+behind (At c) = suc c
+
+-- the place that the scanner found, as far as a number holds it
+module _ (brace base : ℕ) (p : Place) {found : Place} (e : found ≡ cappedAt p) where
+  pub brace-kept : brace ≤ most → found ≡ Nothing → brace ≡ capped (braceAfter brace base p)
+  brace-kept h f = go p (sym e ∙ f)
+    where
+      go : (p : Place) → cappedAt p ≡ Nothing → brace ≡ capped (braceAfter brace base p)
+      go Nothing q = sym (capped-id brace h)
+      go (At c) q = absurd (omega (arith, ap behind q))
+
+  pub brace-sum : {c : ℕ} → found ≡ At c → capped (base + c) ≡ capped (braceAfter brace base p)
+  brace-sum {c} f = go p (sym e ∙ f)
+    where
+      go : (p : Place) → cappedAt p ≡ At c → capped (base + c) ≡ capped (braceAfter brace base p)
+      go Nothing q = absurd (omega (arith, ap behind q))
+      go (At d) q = let z : c ≡ capped d = omega (arith, ap behind q) in rw z (capped-sum base d)
+
+module _ (len : ℕ) (st : State) (pad : ℕ) (l : List ℕ) {core : List ℕ} (c : core ≡ trim l) where
+  pub state-is : {b : ℕ} {q : Quote} {hold : Hold} → b ≡ capped (braceAfter (st .brace) (st .base) (lastOpenBrace Out pad l)) → q ≡ openQuoteAtEnd core
+      → hold ≡ holdFrom (st .hold) (spaced (eqb (st .len) 0) core) → record { len = len; brace = b; base = 0; quote = q; hold = hold } ≡ nextState len st pad l
+  state-is x y z = rw (x, y, z, c)
+
+-- ---- the line itself
+
+module _ (st : State) (pad : ℕ) (l buf : List ℕ) where
+  abbrev Answers : Step → List ℕ → Type 0
+  Answers r b = (r ≡ stepOf (length buf) st pad l) × (b ≡ joinAfter st pad l buf)
+
+  pub step-broken : Passes st pad l false → Answers Broken buf
+  unfolding stepOf joinAfter
+  step-broken p = (rw (← p), rw (← p))
+
+  module _ (p : Passes st pad l true) {core : List ℕ} (c : core ≡ trim l) where
+    pub step-full : Lacks (length buf) (st .len) core true → Answers Full buf
+    unfolding stepOf joinAfter
+    step-full q = (rw (← p, ← c, ← q), rw (← p, ← c, ← q))
+
+    pub step-room : Lacks (length buf) (st .len) core false → st .len + length (spaced (eqb (st .len) 0) core) ≤ length buf
+    step-room q = ltb-false (length buf) _ (sym q)
+
+    module _ (q : Lacks (length buf) (st .len) core false) {len : ℕ} {b : List ℕ} (w : Put buf (st .len) core len b) {next : State} (n : next ≡ nextState len st pad l) where
+      long : len ≡ lengthAfter st l
+      long = w .0 ∙ ap (λ s. st .len + length (spaced (eqb (st .len) 0) s)) c
+
+      room : ltb (length buf) (lengthAfter st l) ≡ false
+      room = ap (λ s. ltb (length buf) (st .len + length (spaced (eqb (st .len) 0) s))) (sym c) ∙ sym q
+
+      joined : closesOr l next ≡ stepOf (length buf) st pad l
+      unfolding stepOf
+      joined = rw (← p, room) (ap (closesOr l) (n ∙ ap (λ k. nextState k st pad l) long))
+
+      written : b ≡ sets buf (st .len) (added (eqb (st .len) 0) l)
+      written = w .1 ∙ ap (λ s. sets buf (st .len) (spaced (eqb (st .len) 0) s)) c
+
+      pub step-closes : true ≡ isLast l (next .hold) → Answers (Closes next) b
+      unfolding joinAfter
+      step-closes x = (rw (← joined, ← x), rw (← joined, ← x) written)
+
+      pub step-go : false ≡ isLast l (next .hold) → Answers (Go next) b
+      unfolding joinAfter
+      step-go x = (rw (← joined, ← x), rw (← joined, ← x) written)

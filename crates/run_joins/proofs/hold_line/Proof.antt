@@ -1,0 +1,35 @@
+use mathlib.Core.Path.{_∙_, ap}
+use Rattle.run_scanners.specs.Scanners.{holdFrom}
+use Rattle.run_joins.proofs.Steps as laws
+use borrow.Author.Needs.{needs}
+use Rattle.run_joins.proofs.hold_line.Statement.{statement}
+use Rattle.run_joins.proofs.hold_line.Tie as tie
+
+hold-on-requires : tie.Need-hold-on-requires
+hold-on-requires c κs = search needs
+
+returns : tie.Need-returns
+returns c = ((c .hold-on .ensures)) ∙ laws.hold-first ((c .before .before .before .args .hold)) ((c .before .before .before .args .core .now)) ((c .before .if1 .taken))
+
+slice-aggregate-hold-on : tie.Need-slice-aggregate-hold-on
+slice-aggregate-hold-on c = search needs
+
+hold-on-requires-2 : tie.Need-hold-on-requires-2
+hold-on-requires-2 c κs = search needs
+
+hold-on-requires-3 : tie.Need-hold-on-requires-3
+hold-on-requires-3 c κs = search needs
+
+returns-2 : tie.Need-returns-2
+returns-2 c = ((c .hold-on3 .ensures)) ∙ ap (λ h. holdFrom h ((c .before .before .before .before .before .args .core .now))) ((c .before .hold-on2 .ensures)) ∙ laws.hold-later ((c .before .before .before .before .before .args .hold)) ((c .before .before .before .before .before .args .core .now)) ((c .before .before .before .if1 .left))
+
+pub hold-line-spec : {M : Type 1} → statement M
+hold-line-spec =
+    tie.close
+    (tie.spec
+    hold-on-requires
+    returns
+    slice-aggregate-hold-on
+    hold-on-requires-2
+    hold-on-requires-3
+    returns-2)

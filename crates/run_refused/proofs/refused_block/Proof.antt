@@ -1,0 +1,20 @@
+use Rattle.run_refused.proofs.Answers as laws
+use borrow.Author.Needs.{needs}
+use Rattle.run_refused.proofs.refused_block.Statement.{statement}
+use Rattle.run_refused.proofs.refused_block.Tie as tie
+
+join-padded-requires : tie.Need-join-padded-requires
+join-padded-requires c κs = search needs
+
+answer-of-requires : tie.Need-answer-of-requires
+answer-of-requires c κs = search needs
+
+same-length : tie.Need-same-length
+same-length c = search needs
+
+returns : tie.Need-returns
+returns c = laws.block-told _ _ (c .before .before .before .before .before .before .before .before .args .join .now) ((c .before .before .before .before .join-padded .ensures)) ((c .answer-of .ensures))
+
+pub refused-block-spec : {M : Type 1} → statement M
+refused-block-spec =
+    tie.close (tie.spec join-padded-requires answer-of-requires same-length returns)

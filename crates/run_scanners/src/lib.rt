@@ -1,0 +1,266 @@
+// The scanners of wrapped runs: the quote left open, the column of the last open brace, whether a block is still open.
+ghost use mathlib.Core.Path.{_≡_};
+ghost use Rattle.base_lists.specs.Lists.{isIn};
+ghost use Rattle.text_tabs.specs.Columns.{capped};
+ghost use Rattle.block_grammar.specs.Close.{turned};
+ghost use Rattle.run_scanners.specs.Scanners.{takes, passed, isBare, openQuoteAtEnd, columnBehind, seekStep, lastOpenBrace, cappedAt, heldStep, holdFrom, holdStart, isHeld, holdsOpen};
+ghost use Rattle.run_scanners.specs.Steps.{cappedSeek};
+use block_grammar::Place;
+use block_grammar::Quote;
+use block_grammar::Scan;
+
+// Where the search for the last open brace stands: the column of the next byte, and the brace found so far.
+struct Seek {
+    scan: Scan,
+    column: usize,
+    found: Place,
+}
+
+// Whether a block is open, and where its scanner stands.
+pub struct Held {
+    pub scan: Scan,
+    pub inside: bool,
+}
+
+// Dead: what was read is no run of blocks, whatever follows.
+pub enum Hold {
+    Dead,
+    Live(Held),
+}
+
+// What a byte that no backslash covers does to a quote.
+fn turn(q: Quote, b: u8) -> Quote
+    ensures { λ r. ⌜ r ≡ turned q b ⌝ }
+{
+    match q {
+        Quote::Out => {
+            if base_bytes::is_quote(b) {
+                return Quote::In(b);
+            }
+            Quote::Out
+        }
+        Quote::In(k) => {
+            if b == k {
+                return Quote::Out;
+            }
+            Quote::In(k)
+        }
+    }
+}
+
+// Whether b is a backslash that covers the next byte: in quotes and, if `outside` says so, anywhere.
+fn covers(outside: bool, q: Quote, b: u8) -> bool
+    ensures { λ r. ⌜ r ≡ takes outside q b ⌝ }
+{
+    match q {
+        Quote::Out => {
+            if outside {
+                return b == b'\\';
+            }
+            false
+        }
+        Quote::In(_) => b == b'\\',
+    }
+}
+
+// A byte of a scan in which a backslash covers the next one in quotes and, if `outside` says so, anywhere.
+pub fn pass(outside: bool, st: Scan, b: u8) -> Scan
+    ensures { λ r. ⌜ r ≡ passed outside st b ⌝ }
+{
+    let q = st.quote;
+    if st.escaped {
+        return Scan {
+            quote: q,
+            escaped: false,
+        };
+    }
+    if covers(outside, q, b) {
+        return Scan {
+            quote: q,
+            escaped: true,
+        };
+    }
+    Scan {
+        quote: turn(q, b),
+        escaped: false,
+    }
+}
+
+// Whether the byte is c, and no quote and no backslash covers it.
+pub fn is_bare(st: Scan, b: u8, c: u8) -> bool
+    ensures { λ r. ⌜ r ≡ isBare st b c ⌝ }
+{
+    let q = st.quote;
+    if st.escaped {
+        return false;
+    }
+    match q {
+        Quote::Out => b == c,
+        Quote::In(_) => false,
+    }
+}
+
+// The quote that is left open at the end.
+pub fn open_quote_at_end(s: &[u8]) -> Quote
+    ensures { λ r. ⌜ r ≡ openQuoteAtEnd (now (s .entry)) ⌝ }
+{
+    let mut st = Scan {
+        quote: Quote::Out,
+        escaped: false,
+    };
+    let mut i = 0;
+    while i < s.len() {
+        st = pass(true, st, s[i]);
+        i += 1;
+    }
+    st.quote
+}
+
+// The column behind the byte b at column c, where a backslash may cover it.
+pub fn column_behind(escaped: bool, c: usize, b: u8) -> usize
+    ensures { λ r. ⌜ r ≡ capped (columnBehind escaped c b) ⌝ }
+{
+    if !escaped {
+        return text_tabs::column_after(c, b);
+    }
+    if b == b'\t' {
+        return text_tabs::column_after(c, b' ');
+    }
+    text_tabs::column_after(c, b)
+}
+
+// A byte of the search for the last open brace.
+fn seek_step(k: Seek, b: u8) -> Seek
+    requires { ⌜ cappedSeek k ≡ k ⌝ }
+    ensures { λ r. ⌜ r ≡ cappedSeek (seekStep k b) ⌝ }
+{
+    let st = k.scan;
+    let found = k.found;
+    let column = column_behind(st.escaped, k.column, b);
+    let scan = pass(false, st, b);
+    if is_bare(st, b, b'{') {
+        return Seek {
+            scan,
+            column,
+            found: Place::At(k.column),
+        };
+    }
+    Seek {
+        scan,
+        column,
+        found,
+    }
+}
+
+// The column of the last `{` outside quotes, where the line's first byte stands in column `start` and in the quote `quote`.
+pub fn last_open_brace_column(line: &[u8], quote: Quote, start: usize) -> Place
+    ensures { λ r. ⌜ r ≡ cappedAt (lastOpenBrace quote start (now (line .entry))) ⌝ }
+{
+    let mut k = Seek {
+        scan: Scan {
+            quote,
+            escaped: false,
+        },
+        column: start,
+        found: Place::Nothing,
+    };
+    let mut i = 0;
+    while i < line.len() {
+        k = seek_step(k, line[i]);
+        i += 1;
+    }
+    k.found
+}
+
+// A byte of the scan for an open block.
+fn held_step(h: Held, b: u8) -> Hold
+    ensures { λ r. ⌜ r ≡ heldStep h b ⌝ }
+{
+    let st = h.scan;
+    let inside = h.inside;
+    if is_bare(st, b, b'{') {
+        if inside {
+            return Hold::Dead;
+        }
+        return Hold::Live(Held {
+            scan: st,
+            inside: true,
+        });
+    }
+    if is_bare(st, b, b'}') {
+        if inside {
+            return Hold::Live(Held {
+                scan: st,
+                inside: false,
+            });
+        }
+        return Hold::Dead;
+    }
+    Hold::Live(Held {
+        scan: pass(false, st, b),
+        inside,
+    })
+}
+
+// The scan goes on over s.
+pub fn hold_on(s: &[u8], from: Hold) -> Hold
+    ensures { λ r. ⌜ r ≡ holdFrom from (now (s .entry)) ⌝ }
+{
+    let Hold::Live(first) = from else {
+        return Hold::Dead;
+    };
+    let mut h = first;
+    let mut i = 0;
+    while i < s.len() {
+        match held_step(h, s[i]) {
+            Hold::Dead => return Hold::Dead,
+            Hold::Live(v) => h = v,
+        }
+        i += 1;
+    }
+    Hold::Live(h)
+}
+
+// Nothing was read yet.
+pub fn hold_start() -> Hold
+    ensures { λ r. ⌜ r ≡ holdStart ⌝ }
+{
+    Hold::Live(Held {
+        scan: Scan {
+            quote: Quote::Out,
+            escaped: false,
+        },
+        inside: false,
+    })
+}
+
+// Whether a block is open where the scan stands.
+pub fn is_held(h: Hold) -> bool
+    ensures { λ r. ⌜ r ≡ isHeld h ⌝ }
+{
+    match h {
+        Hold::Dead => false,
+        Hold::Live(v) => v.inside,
+    }
+}
+
+// Whether the run's last block is still open.
+pub fn holds_open_attr_block(run: &[u8]) -> bool
+    ensures { λ r. ⌜ r ≡ holdsOpen (now (run .entry)) ⌝ }
+{
+    is_held(hold_on(run, hold_start()))
+}
+
+// Whether a `}` stands anywhere in s.
+pub fn contains_close(s: &[u8]) -> bool
+    ensures { λ r. ⌜ r ≡ isIn (now (s .entry)) 125 ⌝ }
+{
+    let mut i = 0;
+    while i < s.len() {
+        if s[i] == b'}' {
+            return true;
+        }
+        i += 1;
+    }
+    false
+}

@@ -1,2 +1,0 @@
--- The definitions that the contracts of runs cite.
-pub mod Runs

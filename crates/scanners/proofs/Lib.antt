@@ -1,5 +1,0 @@
--- What callers of scanners cite beyond the contracts.
-pub mod Laws
-pub mod Quotes
-pub mod Braces
-pub mod Characters

@@ -1,4 +1,0 @@
--- The definitions that the contracts of scanners cite, and the last open brace by rules.
-pub mod Scanners
-pub mod Steps
-pub mod Rules

@@ -1,0 +1,68 @@
+-- The canonical text of a meaning, and which meanings are well-formed.
+use mathlib.Core.Bool.{Bool, false, cond, not, _&&_, _||_}
+use mathlib.Core.List.{List, [], _∷_, _++_, map, flatMap}
+use Prim.Native.Nat.{ℕ}
+use Rattle.base_lists.specs.Lists.{all, isSome}
+use Rattle.base_bytes.specs.Bytes.{isSpace, isMarked}
+use Rattle.text_names.specs.Names.{isKey}
+use Rattle.block_grammar.specs.Meaning.{Entry, isClass, distinct}
+use Rattle.block_grammar.specs.Close.{noLf}
+
+-- ---- canonical text
+
+-- "with a backslash before `"` and `\` only"
+unfoldable pub marked : ℕ → List ℕ
+marked b = cond (isMarked b) (92 ∷ (b ∷ [])) (b ∷ [])
+
+unfoldable pub escape : List ℕ → List ℕ
+escape s = flatMap marked s
+
+pub record Pair : Type 0 where
+  pub name : List ℕ
+  pub value : List ℕ
+
+-- "Each item is name, `=`, value in double quotes"
+abbrev pub pairText : Pair → List ℕ
+pairText p = p .name ++ (61 ∷ (34 ∷ (escape (p .value) ++ (34 ∷ []))))
+
+-- "items .. parted by one space"
+unfoldable pub moreText : List Pair → List ℕ
+moreText ps = flatMap (λ p. 32 ∷ pairText p) ps
+
+unfoldable pub pairsText : List Pair → List ℕ
+pairsText [] = []
+pairsText (p ∷ ps) = pairText p ++ moreText ps
+
+-- "All classes stand at the Class slot, one `class=` item each."
+unfoldable pub pairsOf : List ℕ → List (List ℕ) → List Pair
+pairsOf n vs = map (λ v. record { name = n; value = v }) vs
+
+-- "in slot order"
+unfoldable pub pairs : List Entry → List Pair
+pairs m = flatMap (λ e. pairsOf (e .name) (e .values)) m
+
+-- "Canonical text: `{`, items in slot order parted by one space, `}`."
+unfoldable pub canon : List Entry → List ℕ
+canon m = 123 ∷ (pairsText (pairs m) ++ (125 ∷ []))
+
+-- ---- well-formed
+
+abbrev pub isOne : List (List ℕ) → Bool
+isOne [] = false
+isOne (v ∷ vs) = not (isSome vs)
+
+-- "a class is free of whitespace or nothing but whitespace"
+unfoldable pub isClassValue : List ℕ → Bool
+isClassValue v = all (λ b. not (isSpace b)) v || all isSpace v
+
+-- one or more classes, or one id or one value of a key
+unfoldable pub valuesOk : List ℕ → List (List ℕ) → Bool
+valuesOk n vs = cond (isClass n) (isSome vs && all isClassValue vs) (isOne vs)
+
+-- "keys by the grammar, ..; no LF in an unescaped id, class or key value"
+unfoldable pub entryOk : Entry → Bool
+entryOk e = isKey (e .name) && (all noLf (e .values) && valuesOk (e .name) (e .values))
+
+-- ".. distinct, ..; slots name exactly the Id, Class and keys present, once each"
+unfoldable pub wf : List Entry → Bool
+wf m = all entryOk m && distinct m

@@ -1,0 +1,53 @@
+use native.Mathlib.Omega.{arith}
+use Rattle.set_fill.proofs.Whole as whole
+use borrow.Author.Needs.{needs}
+use Rattle.set_fill.proofs.fill.Statement.{statement}
+use Rattle.set_fill.proofs.fill.Tie as tie
+
+too-long-requires : tie.Need-too-long-requires
+too-long-requires c κs = search needs
+
+refusing-requires : tie.Need-refusing-requires
+refusing-requires c κs = search needs
+
+returns : tie.Need-returns
+returns c = let a = (c .before .before .before .before .args) in whole.too-long (a .mode) (a .text .now) (a .at) (a .end) (c .before .before .too-long .ensures) (c .before .if1 .taken) (c .refusing .ensures)
+
+bytes-of-requires : tie.Need-bytes-of-requires
+bytes-of-requires c κs = search needs
+
+blank-end-requires : tie.Need-blank-end-requires
+blank-end-requires c κs = search needs
+
+refusing-requires-2 : tie.Need-refusing-requires-2
+refusing-requires-2 c κs = search needs
+
+returns-2 : tie.Need-returns-2
+returns-2 c = let a = (c .before .before .before .before .before .before .before .args) in whole.no-token (a .mode) (a .text .now) (a .at) (a .end) (c .before .before .before .before .before .too-long .ensures) (c .before .before .before .before .if1 .left) (c .before .before .before .bytes-of .ensures) (c .before .before .blank-end .ensures) (omega (arith, (c .before .if2 .taken))) (c .refusing2 .ensures)
+
+empty-requires : tie.Need-empty-requires
+empty-requires c κs = search needs
+
+fill-unless-requires : tie.Need-fill-unless-requires
+fill-unless-requires c κs =
+    let a = (c .before .before .before .before .before .before .before .args) in
+    let short = whole.short (a .mode) (a .text .now) (a .at) (a .end) (c .before .before .before .before .before .too-long .ensures) (c .before .before .before .before .if1 .left) (c .before .before .before .bytes-of .ensures) in
+    (omega (arith, (c .before .before .blank-end .ensures), (c .before .if2 .left)), omega (arith), omega (arith, short), (c .empty .ensures))
+
+returns-3 : tie.Need-returns-3
+returns-3 c = let a = (c .before .before .before .before .before .before .before .before .args) in whole.tokens (a .mode) (a .text .now) (a .at) (a .end) (c .before .before .before .before .before .before .too-long .ensures) (c .before .before .before .before .before .if1 .left) (c .before .before .before .before .bytes-of .ensures) (c .before .before .before .blank-end .ensures) (omega (arith, (c .before .before .if2 .left))) (c .fill-unless .ensures)
+
+pub fill-spec : {M : Type 1} → statement M
+fill-spec =
+    tie.close
+    (tie.spec
+    too-long-requires
+    refusing-requires
+    returns
+    bytes-of-requires
+    blank-end-requires
+    refusing-requires-2
+    returns-2
+    empty-requires
+    fill-unless-requires
+    returns-3)

@@ -1,0 +1,80 @@
+use native.Mathlib.Omega.{arith}
+use Rattle.base_bytes.specs.declared.Mode.the-variants.{Loose}
+use Rattle.set_fill.proofs.Chains as chains
+use Rattle.set_fill.proofs.Whole as whole
+use borrow.Author.Needs.{needs}
+use Rattle.set_fill.proofs.fill_chain.Statement.{statement}
+use Rattle.set_fill.proofs.fill_chain.Tie as tie
+
+too-long-requires : tie.Need-too-long-requires
+too-long-requires c κs = search needs
+
+refusing-requires : tie.Need-refusing-requires
+refusing-requires c κs = search needs
+
+returns : tie.Need-returns
+returns c = let a = (c .before .before .before .before .args) in whole.line-too-long (a .text .now) (a .from) (a .to) Loose (c .before .before .too-long .ensures) (c .before .if1 .taken) (c .refusing .ensures)
+
+bytes-of-requires : tie.Need-bytes-of-requires
+bytes-of-requires c κs = search needs
+
+next-block-requires : tie.Need-next-block-requires
+next-block-requires c κs = search needs
+
+enum-told : tie.Need-enum-told
+enum-told c = search needs
+
+refusing-requires-2 : tie.Need-refusing-requires-2
+refusing-requires-2 c κs = search needs
+
+enum-told-2 : tie.Need-enum-told-2
+enum-told-2 c = search needs
+
+refusing-requires-3 : tie.Need-refusing-requires-3
+refusing-requires-3 c κs = search needs
+
+enum-known-e : tie.Need-enum-known-e
+enum-known-e c = search needs
+
+add-fill-unless : tie.Need-add-fill-unless
+add-fill-unless c = let z = chains.goes (c .before .before .before .next-block .ensures) (c .before .e .given .1) in omega (arith, z .ahead, z .within)
+
+empty-requires : tie.Need-empty-requires
+empty-requires c κs = search needs
+
+fill-unless-requires : tie.Need-fill-unless-requires
+fill-unless-requires c κs =
+    let z = chains.goes (c .before .before .before .before .next-block .ensures) (c .before .before .e .given .1) in
+    let a = (c .before .before .before .before .before .before .before .before .before .args) in
+    let short = whole.line-short (a .text .now) (a .from) (a .to) (c .before .before .before .before .before .before .before .too-long .ensures) (c .before .before .before .before .before .before .if1 .left) (c .before .before .before .before .before .bytes-of .ensures) in
+    (omega (arith, z .ahead), omega (arith, z .within), omega (arith, short), (c .empty .ensures))
+
+returns-2 : tie.Need-returns-2
+returns-2 c = let a = (c .before .before .before .before .before .before .before .before .args) in whole.no-block (a .text .now) (a .from) (a .to) (c .before .before .before .before .before .before .too-long .ensures) (c .before .before .before .before .before .if1 .left) (c .before .before .before .before .bytes-of .ensures) (c .before .before .before .next-block .ensures) (c .before .enum-told .given .1) (c .refusing2 .ensures)
+
+returns-3 : tie.Need-returns-3
+returns-3 c = let a = (c .before .before .before .before .before .before .before .before .args) in whole.unread (a .text .now) (a .from) (a .to) (c .before .before .before .before .before .before .too-long .ensures) (c .before .before .before .before .before .if1 .left) (c .before .before .before .before .bytes-of .ensures) (c .before .before .before .next-block .ensures) (c .before .enum-told2 .given .1) (c .refusing3 .ensures)
+
+returns-4 : tie.Need-returns-4
+returns-4 c = let a = (c .before .before .before .before .before .before .before .before .before .before .args) in whole.blocks (a .text .now) (a .from) (a .to) (c .before .before .before .before .before .before .before .before .too-long .ensures) (c .before .before .before .before .before .before .before .if1 .left) (c .before .before .before .before .before .before .bytes-of .ensures) (c .before .before .before .before .before .next-block .ensures) (c .before .before .before .e .given .1) (c .fill-unless .ensures)
+
+pub fill-chain-spec : {M : Type 1} → statement M
+fill-chain-spec =
+    tie.close
+    (tie.spec
+    too-long-requires
+    refusing-requires
+    returns
+    bytes-of-requires
+    next-block-requires
+    enum-told
+    refusing-requires-2
+    enum-told-2
+    refusing-requires-3
+    enum-known-e
+    add-fill-unless
+    empty-requires
+    fill-unless-requires
+    returns-2
+    returns-3
+    returns-4)

@@ -1,0 +1,21 @@
+use mathlib.Core.Path.{sym, _∙_}
+use Rattle.set_fill.proofs.Fills as fills
+use borrow.Author.Needs.{needs}
+use Rattle.set_fill.proofs.fill_unless.Statement.{statement}
+use Rattle.set_fill.proofs.fill_unless.Tie as tie
+
+is-refused-requires : tie.Need-is-refused-requires
+is-refused-requires c κs = search needs
+
+returns : tie.Need-returns
+returns c = fills.refused-first (c .before .before .before .before .args .no) _ (sym (c .before .is-refused .ensures) ∙ (c .if1 .taken)) (c .before .before .before .before .pre .3)
+
+fill-part-requires : tie.Need-fill-part-requires
+fill-part-requires c κs = (c .before .before .before .before .pre)
+
+returns-2 : tie.Need-returns-2
+returns-2 c = (c .fill-part .ensures) ∙ fills.goes-on (c .before .before .before .before .before .args .no) (sym (c .before .before .is-refused .ensures) ∙ (c .before .if1 .left))
+
+pub fill-unless-spec : {M : Type 1} → statement M
+fill-unless-spec =
+    tie.close (tie.spec is-refused-requires returns fill-part-requires returns-2)

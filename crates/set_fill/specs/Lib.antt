@@ -1,0 +1,3 @@
+-- The definitions that the contracts of set_fill cite.
+pub mod Fill
+pub mod Walk

@@ -1,0 +1,32 @@
+-- A lent set after a merge: it stands as it was where the merge is refused, and else holds the merged set.
+-- Assumes nothing.
+use mathlib.Core.Path.{_≡_, _∙_, ap}
+use mathlib.Core.List.{List}
+use Prim.Native.Nat.{ℕ}
+use Rattle.base_refusals.specs.declared.Refusal.{Refusal}
+use Rattle.set_table.specs.declared.Attrs.{Attrs}
+use Rattle.set_fill.specs.declared.Outcome.{Outcome}
+use Rattle.set_fill.specs.declared.Outcome.the-variants.{Refused, Done}
+use Rattle.set_fill.specs.declared.Filled.{Filled}
+use Rattle.set_merge.specs.Merge.{mergeOf}
+use Rattle.set_lent.specs.Lent.{endOf, bothOf}
+
+module _ (was : Attrs) (f : Filled) where
+  pub refused-stands : {r : Refusal} → f .outcome ≡ Refused r → was ≡ endOf was f
+  unfolding endOf
+  refused-stands e = rw e
+
+  pub done-goes : f .outcome ≡ Done → f .set ≡ endOf was f
+  unfolding endOf
+  done-goes e = rw e
+
+-- one lent set, merged into twice
+pub both-is : (t : List ℕ) (a leading incoming : Attrs) {led merged : Outcome} {y z : Attrs} → (led ≡ mergeOf t leading a .outcome) × (y ≡ endOf a (mergeOf t leading a)) → (merged ≡ mergeOf t y incoming .outcome) × (z ≡ endOf y (mergeOf t y incoming))
+    → record { led = led; merged = merged; set = z } ≡ bothOf t a leading incoming
+unfolding bothOf
+both-is t a leading incoming e f =
+    λ i. record {
+      led = e .0 i;
+      merged = (f .0 ∙ ap (λ (x : Attrs). mergeOf t x incoming .outcome) (e .1)) i;
+      set = (f .1 ∙ ap (λ (x : Attrs). endOf x (mergeOf t x incoming)) (e .1)) i;
+    }

@@ -1,0 +1,25 @@
+-- "on a set lent by the caller and added to where it stands": what the set is after a merge.
+use Prim.Native.Nat.{ℕ}
+use mathlib.Core.List.{List}
+use Rattle.set_table.specs.declared.Attrs.{Attrs}
+use Rattle.set_fill.specs.declared.Outcome as outcomes
+use Rattle.set_fill.specs.declared.Outcome.the-variants.{Refused, Done}
+use Rattle.set_fill.specs.declared.Filled.{Filled}
+use Rattle.set_merge.specs.Merge.{mergeOf}
+use Rattle.set_lent.specs.declared.Both.{Both}
+
+-- "A refusal touches no other lent memory, a merge's target included."
+abbrev pub standing : outcomes.Outcome → Attrs → Attrs → Attrs
+standing (Refused r) was new = was
+standing Done was new = new
+
+-- the lent set that held `was`, once the merge has come to f
+unfoldable pub endOf : Attrs → Filled → Attrs
+endOf was f = standing (f .outcome) was (f .set)
+
+-- a leading set merged into a, and then an incoming one
+abbrev pub bothFrom : List ℕ → Attrs → Filled → Attrs → Both
+bothFrom t a f incoming = record { led = f .outcome; merged = mergeOf t (endOf a f) incoming .outcome; set = endOf (endOf a f) (mergeOf t (endOf a f) incoming) }
+
+unfoldable pub bothOf : List ℕ → Attrs → Attrs → Attrs → Both
+bothOf t a leading incoming = bothFrom t a (mergeOf t leading a) incoming

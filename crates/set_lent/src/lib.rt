@@ -1,0 +1,55 @@
+// A set that the caller lends, added to where it stands.
+use set_fill::Filled;
+use set_fill::Outcome;
+use set_table::Attrs;
+ghost use mathlib.Core.Path.{_≡_};
+ghost use Rattle.set_merge.specs.Merge.{mergeOf};
+ghost use Rattle.set_lent.specs.Lent.{endOf, bothOf};
+
+// What becomes of a lent set into which one set is merged from before and another from behind.
+pub struct Both {
+    pub led: Outcome,
+    pub merged: Outcome,
+    pub set: Attrs,
+}
+
+// The merged set, or the one that was there where the merge is refused.
+fn end_of(was: Attrs, merged: Filled) -> Attrs
+    ensures { λ r. ⌜ r ≡ endOf was merged ⌝ }
+{
+    let outcome = merged.outcome;
+    match outcome {
+        Outcome::Refused(_) => was,
+        Outcome::Done => merged.set,
+    }
+}
+
+// The set `incoming` merged into the set `target`, both over the text. A refusal leaves the target as it was.
+pub fn merge_into(text: &[u8], target: &mut Attrs, incoming: Attrs) -> Outcome
+    ensures { λ r. ⌜ (r ≡ mergeOf (now (text .entry)) (now (target .entry)) incoming .outcome) × (now (target .exit) ≡ endOf (now (target .entry)) (mergeOf (now (text .entry)) (now (target .entry)) incoming)) ⌝ }
+{
+    let was = *target;
+    let merged = set_merge::merge_attrs(text, was, incoming);
+    *target = end_of(was, merged);
+    merged.outcome
+}
+
+// The set `leading` comes first, and what `target` has wins.
+pub fn merge_leading_into(text: &[u8], target: &mut Attrs, leading: Attrs) -> Outcome
+    ensures { λ r. ⌜ (r ≡ mergeOf (now (text .entry)) leading (now (target .entry)) .outcome) × (now (target .exit) ≡ endOf (now (target .entry)) (mergeOf (now (text .entry)) leading (now (target .entry)))) ⌝ }
+{
+    let was = *target;
+    let merged = set_merge::merge_leading_attrs(text, was, leading);
+    *target = end_of(was, merged);
+    merged.outcome
+}
+
+// A set of one's own lent to both: first to the leading set, then to the incoming one.
+pub fn merge_both(text: &[u8], target: Attrs, leading: Attrs, incoming: Attrs) -> Both
+    ensures { λ r. ⌜ r ≡ bothOf (now (text .entry)) target leading incoming ⌝ }
+{
+    let mut set = target;
+    let led = merge_leading_into(text, &mut set, leading);
+    let merged = merge_into(text, &mut set, incoming);
+    Both { led, merged, set }
+}

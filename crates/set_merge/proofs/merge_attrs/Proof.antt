@@ -1,0 +1,68 @@
+use mathlib.Core.Path.{sym, _∙_}
+use borrow.Author.Tests.{not-true, not-false}
+use Rattle.set_table.specs.Types.{one}
+use Rattle.set_merge.proofs.Whole as whole
+use borrow.Author.Needs.{needs}
+use Rattle.set_merge.proofs.merge_attrs.Statement.{statement}
+use Rattle.set_merge.proofs.merge_attrs.Tie as tie
+
+check-text-requires : tie.Need-check-text-requires
+check-text-requires c κs = search needs
+
+enum-known-r : tie.Need-enum-known-r
+enum-known-r c = search needs
+
+refusing-requires : tie.Need-refusing-requires
+refusing-requires c κs = search needs
+
+enum-told : tie.Need-enum-told
+enum-told c = search needs
+
+table-ok-requires : tie.Need-table-ok-requires
+table-ok-requires c κs = search needs
+
+refusing-requires-2 : tie.Need-refusing-requires-2
+refusing-requires-2 c κs = search needs
+
+returns : tie.Need-returns
+returns c = whole.first-bad _ _ _ (c .before .before .before .before .before .check-text .ensures) ((c .before .before .before .enum-told .given) .1) (sym (c .before .before .table-ok .ensures) ∙ not-true _ (c .before .if1 .taken)) (c .refusing2 .ensures)
+
+table-ok-requires-2 : tie.Need-table-ok-requires-2
+table-ok-requires-2 c κs = search needs
+
+refusing-requires-3 : tie.Need-refusing-requires-3
+refusing-requires-3 c κs = search needs
+
+returns-2 : tie.Need-returns-2
+returns-2 c = whole.second-bad _ _ _ (c .before .before .before .before .before .before .before .check-text .ensures) ((c .before .before .before .before .before .enum-told .given) .1) (sym (c .before .before .before .before .table-ok .ensures) ∙ not-false _ (c .before .before .before .if1 .left)) (sym (c .before .before .table-ok2 .ensures) ∙ not-true _ (c .before .if2 .taken)) (c .refusing3 .ensures)
+
+cleaned-requires : tie.Need-cleaned-requires
+cleaned-requires c κs = whole.counts (one ((c .before .before .before .before .before .before .before .before .args .text .now))) _ (sym (c .before .before .before .table-ok .ensures) ∙ not-false _ (c .before .before .if1 .left))
+
+merge-rows-requires : tie.Need-merge-rows-requires
+merge-rows-requires c κs = (whole.held-clean (one ((c .before .before .before .before .before .before .before .before .before .args .text .now))) _ (sym (c .before .before .before .before .table-ok .ensures) ∙ not-false _ (c .before .before .before .if1 .left)) (c .cleaned .ensures), whole.sound (one ((c .before .before .before .before .before .before .before .before .before .args .text .now))) _ (sym (c .before .before .table-ok2 .ensures) ∙ not-false _ (c .before .if2 .left)))
+
+returns-3 : tie.Need-returns-3
+returns-3 c = whole.by-check _ _ _ (c .before .before .before .before .check-text .ensures) ((c .before .before .r .given) .1) (c .refusing .ensures)
+
+returns-4 : tie.Need-returns-4
+returns-4 c = whole.both-good _ _ _ (c .before .before .before .before .before .before .before .before .check-text .ensures) ((c .before .before .before .before .before .before .enum-told .given) .1) (sym (c .before .before .before .before .before .table-ok .ensures) ∙ not-false _ (c .before .before .before .before .if1 .left)) (sym (c .before .before .before .table-ok2 .ensures) ∙ not-false _ (c .before .before .if2 .left)) (c .before .cleaned .ensures) (c .merge-rows .ensures)
+
+pub merge-attrs-spec : {M : Type 1} → statement M
+merge-attrs-spec =
+    tie.close
+    (tie.spec
+    check-text-requires
+    enum-known-r
+    refusing-requires
+    enum-told
+    table-ok-requires
+    refusing-requires-2
+    returns
+    table-ok-requires-2
+    refusing-requires-3
+    returns-2
+    cleaned-requires
+    merge-rows-requires
+    returns-3
+    returns-4)

@@ -1,0 +1,259 @@
+// Two sets over one text made into one.
+use base_refusals::Refusal;
+use set_fill::Filled;
+use set_fill::Outcome;
+use set_table::Attrs;
+use set_table::Id;
+use set_table::Ident;
+use set_table::Name;
+use set_table::Row;
+use set_table::Slot;
+use set_table::SlotRecord;
+use set_table::Text;
+use set_table::Value;
+use text_checks::Check;
+ghost use mathlib.Core.Path.{_≡_};
+ghost use mathlib.Core.List.{[], _∷_, map};
+ghost use Prim.Native.Nat.{_+_, _≤_};
+ghost use lib.ListN.{take};
+ghost use Rattle.set_table.specs.Types.{Texts, one, zeroValue, zeroRow, zeroSlot, maxClasses, maxKeys, maxSlots};
+ghost use Rattle.set_table.specs.Rows.{Put, withPuts, rowsIn, tableOf};
+ghost use Rattle.set_fill.specs.Fill.{refusing, limited};
+ghost use Rattle.set_merge.specs.Merge.{putsAt, putsBy, mergeOf};
+ghost use Rattle.set_merge.specs.Walk.{firsts, Held, After, Steps, Sound, Present};
+
+// What becomes of a set when something is put into it: whether that fits, and the set behind it.
+struct Step {
+    pub fits: bool,
+    pub set: Attrs,
+}
+
+// The first n classes, and zero behind them.
+fn first_classes(from: [Value; Attrs::CLASSES], n: usize) -> [Value; Attrs::CLASSES]
+    requires { ⌜ n ≤ maxClasses ⌝ }
+    ensures { λ r. ⌜ r ≡ firsts maxClasses zeroValue n from ⌝ }
+{
+    let none = Value {
+        text: Text::Plain(0, 0),
+    };
+    let mut out = [none; Attrs::CLASSES];
+    let mut i: usize = 0;
+    while i < n {
+        out[i] = from[i];
+        i += 1;
+    }
+    out
+}
+
+// The first n keys, and zero behind them.
+fn first_keys(from: [Row; Attrs::KEYS], n: usize) -> [Row; Attrs::KEYS]
+    requires { ⌜ n ≤ maxKeys ⌝ }
+    ensures { λ r. ⌜ r ≡ firsts maxKeys zeroRow n from ⌝ }
+{
+    let none = Row {
+        name: Name::Range(0, 0),
+        value: Value {
+            text: Text::Plain(0, 0),
+        },
+    };
+    let mut out = [none; Attrs::KEYS];
+    let mut i: usize = 0;
+    while i < n {
+        out[i] = from[i];
+        i += 1;
+    }
+    out
+}
+
+// The first n slots, and zero behind them.
+fn first_slots(from: [SlotRecord; Attrs::SLOTS], n: usize) -> [SlotRecord; Attrs::SLOTS]
+    requires { ⌜ n ≤ maxSlots ⌝ }
+    ensures { λ r. ⌜ r ≡ firsts maxSlots zeroSlot n from ⌝ }
+{
+    let none = SlotRecord { slot: Slot::Id };
+    let mut out = [none; Attrs::SLOTS];
+    let mut i: usize = 0;
+    while i < n {
+        out[i] = from[i];
+        i += 1;
+    }
+    out
+}
+
+// The set with zero rows past its counts.
+fn cleaned(a: Attrs) -> Attrs
+    requires { ⌜ (a .nclass ≤ maxClasses) × (a .nkey ≤ maxKeys) × (a .norder ≤ maxSlots) ⌝ }
+    ensures { λ r. ⌜ r ≡ tableOf (rowsIn a) ⌝ }
+{
+    let id = a.id;
+    let cs = a.classes;
+    let ks = a.keys;
+    let os = a.order;
+    let classes = first_classes(cs, a.nclass as usize);
+    let keys = first_keys(ks, a.nkey as usize);
+    let order = first_slots(os, a.norder as usize);
+    Attrs {
+        id: id,
+        classes: classes,
+        nclass: a.nclass,
+        keys: keys,
+        nkey: a.nkey,
+        order: order,
+        norder: a.norder,
+    }
+}
+
+// The id, whose slot goes behind where there was none.
+fn put_id(s: Attrs, v: Value) -> Attrs
+    requires { ⌜ Held s ⌝ }
+    ensures { λ r. ⌜ ((t : Texts) → After t s (Put.ident v ∷ []) r) ⌝ }
+{
+    let mut set = s;
+    let was = set.id;
+    let new = Ident { id: Id::Given(v) };
+    set.id = new;
+    let id = was.id;
+    match id {
+        Id::Given(_) => set,
+        Id::Missing => {
+            let p = set.norder as usize;
+            set.order[p] = SlotRecord { slot: Slot::Id };
+            set.norder = set.norder + 1;
+            set
+        }
+    }
+}
+
+// The first m of the classes, joined to those that are there.
+fn put_classes(s: Attrs, from: [Value; Attrs::CLASSES], m: usize) -> Attrs
+    requires { ⌜ (Held s) × (s .nclass + m ≤ maxClasses) ⌝ }
+    ensures { λ r. ⌜ ((t : Texts) → After t s (map Put.class (take m from)) r) ⌝ }
+{
+    let mut set = s;
+    let mut i: usize = 0;
+    while i < m {
+        let n = set.nclass as usize;
+        set.classes[n] = from[i];
+        set.nclass = set.nclass + 1;
+        i += 1;
+        if 0 < n {
+            continue;
+        }
+        let p = set.norder as usize;
+        set.order[p] = SlotRecord { slot: Slot::Class };
+        set.norder = set.norder + 1;
+    }
+    set
+}
+
+// A key with its value: the value alone where the key is there already, else a new row whose slot goes behind.
+fn put_key(text: &[u8], s: Attrs, name: Name, value: Value) -> Step
+    requires { ⌜ Held s ⌝ }
+    ensures { λ r. ⌜ Steps (one (now (text .entry))) s (Put.key name value ∷ []) r ⌝ }
+{
+    let mut set = s;
+    let n = set.nkey as usize;
+    let keys = set.keys;
+    let k = set_table::find_key(text, keys, n, name);
+    if k < n {
+        let mut row = set.keys[k];
+        row.value = value;
+        set.keys[k] = row;
+        return Step { fits: true, set };
+    }
+    if Attrs::KEYS <= n {
+        return Step { fits: false, set };
+    }
+    let p = set.norder as usize;
+    set.keys[n] = Row { name, value };
+    set.order[p] = SlotRecord {
+        slot: Slot::Key(set.nkey),
+    };
+    set.nkey = set.nkey + 1;
+    set.norder = set.norder + 1;
+    Step { fits: true, set }
+}
+
+// What stands at one slot of b.
+fn put_slot(text: &[u8], s: Attrs, b: Attrs, slot: Slot) -> Step
+    requires { ⌜ (Held s) × (Present s b slot) ⌝ }
+    ensures { λ r. ⌜ Steps (one (now (text .entry))) s (putsAt (rowsIn b) slot) r ⌝ }
+{
+    match slot {
+        Slot::Id => {
+            let given = b.id;
+            let id = given.id;
+            match id {
+                Id::Missing => Step { fits: true, set: s },
+                Id::Given(v) => Step {
+                    fits: true,
+                    set: put_id(s, v),
+                },
+            }
+        }
+        Slot::Class => {
+            let classes = b.classes;
+            Step {
+                fits: true,
+                set: put_classes(s, classes, b.nclass as usize),
+            }
+        }
+        Slot::Key(k) => {
+            let row = b.keys[k as usize];
+            let name = row.name;
+            put_key(text, s, name, row.value)
+        }
+    }
+}
+
+// The slots of b in their order, each put into a. Its classes are counted first: a merge with too many of both is refused for its classes.
+fn merge_rows(text: &[u8], a: Attrs, b: Attrs) -> Filled
+    requires { ⌜ (Held a) × (Sound b) ⌝ }
+    ensures { λ r. ⌜ r ≡ limited (withPuts (one (now (text .entry))) (rowsIn a) (putsBy (rowsIn b))) ⌝ }
+{
+    if Attrs::CLASSES < a.nclass as usize + b.nclass as usize {
+        return set_fill::refusing(Refusal::TooManyClasses);
+    }
+    let n = b.norder as usize;
+    let mut set = a;
+    let mut i: usize = 0;
+    while i < n {
+        let place = b.order[i];
+        let slot = place.slot;
+        let step = put_slot(text, set, b, slot);
+        if !step.fits {
+            return set_fill::refusing(Refusal::TooManyKeys);
+        }
+        set = step.set;
+        i += 1;
+    }
+    Filled {
+        outcome: Outcome::Done,
+        set,
+    }
+}
+
+// The set `incoming` merged into the set `target`, both over the text.
+pub fn merge_attrs(text: &[u8], target: Attrs, incoming: Attrs) -> Filled
+    ensures { λ r. ⌜ r ≡ mergeOf (now (text .entry)) target incoming ⌝ }
+{
+    match text_checks::check_text(text) {
+        Check::Refused(r) => set_fill::refusing(r),
+        Check::Passed => {
+            if !set_wellformed::table_ok(text, target) {
+                return set_fill::refusing(Refusal::NotWellFormed);
+            }
+            if !set_wellformed::table_ok(text, incoming) {
+                return set_fill::refusing(Refusal::NotWellFormed);
+            }
+            merge_rows(text, cleaned(target), incoming)
+        }
+    }
+}
+
+// The set `leading` comes first, and what `target` has wins.
+pub fn merge_leading_attrs(text: &[u8], target: Attrs, leading: Attrs) -> Filled
+    ensures { λ r. ⌜ r ≡ mergeOf (now (text .entry)) leading target ⌝ }
+{
+    merge_attrs(text, leading, target)
+}

@@ -1,0 +1,9 @@
+-- The laws that the proofs of set_table cite.
+pub mod Ranges
+pub mod Table
+pub mod Keys
+pub mod Slots
+pub mod Shaping
+pub mod Meant
+pub mod Items
+pub mod Whole

@@ -1,0 +1,5 @@
+-- The definitions that the contracts of set_table cite.
+pub mod Types
+pub mod Rows
+pub mod Puts
+pub mod Shape

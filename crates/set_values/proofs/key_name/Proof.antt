@@ -1,0 +1,45 @@
+use mathlib.Core.Path.{sym, _∙_}
+use borrow.Author.Tests.{not-true, not-false}
+use Rattle.set_table.specs.Shape.{isFree}
+use borrow.Author.Needs.{needs}
+use Rattle.set_values.proofs.key_name.Statement.{statement}
+use Rattle.set_values.proofs.key_name.Tie as tie
+
+is-identifier-requires : tie.Need-is-identifier-requires
+is-identifier-requires c κs = search needs
+
+returns : tie.Need-returns
+returns c = rw (sym (c .before .is-identifier .ensures) ∙ not-true _ (c .if1 .taken))
+
+slice-aggregate-same-bytes : tie.Need-slice-aggregate-same-bytes
+slice-aggregate-same-bytes c = search needs
+
+same-bytes-requires : tie.Need-same-bytes-requires
+same-bytes-requires c κs = search needs
+
+returns-2 : tie.Need-returns-2
+unfolding isFree
+returns-2 c = rw (sym (c .before .before .before .before .is-identifier .ensures) ∙ not-false _ (c .before .before .before .if1 .left), sym (c .before .same-bytes .ensures) ∙ (c .if2 .taken))
+
+slice-aggregate-same-bytes-2 : tie.Need-slice-aggregate-same-bytes-2
+slice-aggregate-same-bytes-2 c = search needs
+
+same-bytes-requires-2 : tie.Need-same-bytes-requires-2
+same-bytes-requires-2 c κs = search needs
+
+returns-3 : tie.Need-returns-3
+unfolding isFree
+returns-3 c = rw (sym (c .before .before .before .before .before .before .is-identifier .ensures) ∙ not-false _ (c .before .before .before .before .before .if1 .left), sym (c .before .before .before .same-bytes .ensures) ∙ (c .before .before .if2 .left), ← (c .same-bytes2 .ensures))
+
+pub key-name-spec : {M : Type 1} → statement M
+key-name-spec =
+    tie.close
+    (tie.spec
+    is-identifier-requires
+    returns
+    slice-aggregate-same-bytes
+    same-bytes-requires
+    returns-2
+    slice-aggregate-same-bytes-2
+    same-bytes-requires-2
+    returns-3)

@@ -1,0 +1,56 @@
+use mathlib.Core.Path.{sym, _∙_}
+use Prim.Native.Nat.{_-_}
+use native.Mathlib.Omega.{arith}
+use mathlib.Core.Bool.{not}
+use borrow.Author.Needs.{needs}
+use lib.ListN.{length}
+use Rattle.base_lists.specs.Lists.{all}
+use Rattle.base_lists.proofs.Scan as scan
+use Rattle.base_bytes.specs.Bytes.{isSpace}
+use Rattle.set_values.proofs.no_space.Statement.{statement}
+use Rattle.set_values.proofs.no_space.Tie as tie
+
+abbrev Inv-loop : tie.InvT-loop
+Inv-loop s i₀ i = scan.Passes (λ b. not (isSpace b)) s (all (λ b. not (isSpace b)) s) i
+
+abbrev μ-loop : tie.MeasureT-loop
+μ-loop s i₀ i = length s - i
+
+loop-holds : tie.Need-loop-holds Inv-loop μ-loop
+loop-holds c = scan.passes-start (λ b. not (isSpace b)) _
+
+shared-slice-read-is-space : tie.Need-shared-slice-read-is-space Inv-loop μ-loop
+shared-slice-read-is-space c = search needs
+
+is-space-requires : tie.Need-is-space-requires Inv-loop μ-loop
+is-space-requires c κs = search needs
+
+returns : tie.Need-returns Inv-loop μ-loop
+returns c = scan.passes-stop (c .before .before .before .before .loop .inv) (omega arith) (rw (sym (c .before .is-space .ensures) ∙ (c .if1 .taken)))
+
+add-i : tie.Need-add-i Inv-loop μ-loop
+add-i c = omega arith
+
+loop-less : tie.Need-loop-less Inv-loop μ-loop
+loop-less c = omega arith
+
+loop-again : tie.Need-loop-again Inv-loop μ-loop
+loop-again c = scan.passes-go (c .before .before .before .before .loop .inv) (omega arith) (rw (sym (c .before .is-space .ensures) ∙ (c .if1 .left)))
+
+returns-2 : tie.Need-returns-2 Inv-loop μ-loop
+returns-2 c = scan.passes-end (c .before .loop .inv) (omega arith)
+
+pub no-space-spec : {M : Type 1} → statement M
+no-space-spec =
+    tie.close
+    (tie.spec
+    Inv-loop
+    μ-loop
+    loop-holds
+    shared-slice-read-is-space
+    is-space-requires
+    returns
+    add-i
+    loop-less
+    loop-again
+    returns-2)

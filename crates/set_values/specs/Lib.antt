@@ -1,0 +1,2 @@
+-- The definitions that the contracts of set_values cite.
+pub mod Values

@@ -1,0 +1,3 @@
+-- The definitions that the contracts of set_wellformed cite.
+pub mod WellFormed
+pub mod Decide

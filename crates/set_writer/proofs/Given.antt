@@ -1,0 +1,51 @@
+-- What is asked of a set that a caller gives, one check after the other.
+-- Assumes nothing.
+use mathlib.Core.Path.{_≡_, refl, sym}
+use mathlib.Core.Bool.{true, false}
+use mathlib.Core.List.{List, [], _∷_}
+use Prim.Native.Nat.{ℕ, _<_}
+use native.Mathlib.Omega.{arith}
+use lib.ListN.{length}
+use Rattle.base_lists.specs.Lists.{isSome}
+use Rattle.base_refusals.specs.declared.Refusal.{Refusal}
+use Rattle.base_refusals.specs.declared.Refusal.the-variants.{NotWellFormed, EmptySet}
+use Rattle.text_checks.specs.Check.{checkOf}
+use Rattle.text_checks.specs.declared.Check.{Check}
+use Rattle.text_checks.specs.declared.Check.the-variants as checks
+use Rattle.set_canon.specs.Canon.{canon}
+use Rattle.set_table.specs.Types.{one, maxSlots}
+use Rattle.set_table.specs.Rows.{meaningOf}
+use Rattle.set_table.specs.declared.Attrs.{Attrs}
+use Rattle.set_wellformed.specs.WellFormed.{tableOk}
+use Rattle.set_wellformed.proofs.Means.{none-means}
+use Rattle.set_writer.specs.declared.Wrote.{Wrote}
+use Rattle.set_writer.specs.declared.Wrote.the-variants.{Refused}
+use Rattle.set_writer.specs.Write.{wroteOf, contentAfter, writable, attrsWrote, attrsContent}
+use Rattle.set_writer.proofs.Walks.{slots-length}
+
+is-some : {A : Type 0} (s : List A) → 0 < length s → isSome s ≡ true
+is-some [] h = absurd (omega arith)
+is-some (x ∷ s) h = refl
+
+module _ (t : List ℕ) (a : Attrs) (buf : List ℕ) where
+  abbrev pub Answers : Wrote → List ℕ → Type 0
+  Answers r b = (r ≡ attrsWrote t a (length buf)) × (b ≡ attrsContent t a buf)
+
+  module _ {c : Check} (e : c ≡ checkOf t) where
+    pub by-text : {why : Refusal} → c ≡ checks.Refused why → Answers (Refused why) buf
+    unfolding writable attrsWrote attrsContent
+    by-text q = rw (sym e, q) (refl, refl)
+
+    module _ (p : c ≡ checks.Passed) where
+      pub by-table : tableOk (one t) a ≡ false → Answers (Refused NotWellFormed) buf
+      unfolding writable attrsWrote attrsContent
+      by-table f = rw (sym e, p, f) (refl, refl)
+
+      module _ (f : tableOk (one t) a ≡ true) where
+        pub by-none : a .norder ≡ 0 → Answers (Refused EmptySet) buf
+        unfolding writable attrsWrote attrsContent
+        by-none z = rw (sym e, p, f, none-means (one t) a z) (refl, refl)
+
+        pub passed : length (a .order) ≡ maxSlots → (a .norder ≡ 0 → ⊥) → {w : Wrote} {b : List ℕ} → w ≡ wroteOf (canon (meaningOf (one t) a)) (length buf) → b ≡ contentAfter buf (canon (meaningOf (one t) a)) → Answers w b
+        unfolding writable attrsWrote attrsContent
+        passed l z g h = rw (sym e, p, f, is-some (meaningOf (one t) a) (omega (arith, slots-length (one t) a l))) (g, h)

@@ -1,0 +1,64 @@
+use borrow.Author.Needs.{needs}
+use native.Mathlib.Omega.{arith}
+use Prim.Native.Nat.{_-_}
+use Rattle.set_table.specs.Types.{one, maxClasses}
+use Rattle.set_writer.proofs.Walks as walks
+use Rattle.set_writer.proofs.class_items.Statement.{statement}
+use Rattle.set_writer.proofs.class_items.Tie as tie
+
+abbrev Inv-loop : tie.InvT-loop
+Inv-loop out₀ at text n really classes many k₀ i₀ t12 out k i = walks.Classes (one text) really out₀ at n classes out k i
+
+abbrev μ-loop : tie.MeasureT-loop
+μ-loop out₀ at text n really classes many k₀ i₀ t12 out k i = maxClasses - i
+
+least-requires : tie.Need-least-requires Inv-loop μ-loop
+least-requires c κs = search needs
+
+loop-holds : tie.Need-loop-holds Inv-loop μ-loop
+loop-holds c = walks.classes-start _ _ _ _ _ _ ((c .before .before .before .good .1 .1 .1 .0 .1 .0 .1)) ((c .before .before .before .pre .0)) ((c .before .before .before .pre .1))
+
+mul-value : tie.Need-mul-value Inv-loop μ-loop
+mul-value c = omega (arith, (c .before .before .least .ensures), (c .loop-test .taken))
+
+array-copy-out-value : tie.Need-array-copy-out-value Inv-loop μ-loop
+array-copy-out-value c = omega (arith, (c .before .before .least .ensures), (c .loop-test .taken))
+
+slice-aggregate-item : tie.Need-slice-aggregate-item Inv-loop μ-loop
+slice-aggregate-item c = search needs
+
+item-requires : tie.Need-item-requires Inv-loop μ-loop
+item-requires c κs = ((omega (arith, (c .before .before .before .before .loop .inv), (c .before .before .before .before .before .least .ensures), (c .before .before .before .loop-test .taken)), omega arith), walks.classes-room ((c .before .before .before .before .loop .inv)) (omega (arith, (c .before .before .before .before .before .least .ensures), (c .before .before .before .loop-test .taken))))
+
+add-i : tie.Need-add-i Inv-loop μ-loop
+add-i c = omega (arith, (c .before .before .before .before .before .before .before .before .least .ensures), (c .before .before .before .before .before .before .loop-test .taken))
+
+loop-less : tie.Need-loop-less Inv-loop μ-loop
+loop-less c = omega (arith, (c .before .before .before .before .before .before .before .before .least .ensures), (c .before .before .before .before .before .before .loop-test .taken))
+
+loop-again : tie.Need-loop-again Inv-loop μ-loop
+loop-again c = walks.classes-go ((c .before .before .before .before .before .before .before .loop .inv)) (omega (arith, (c .before .before .before .before .before .before .before .before .least .ensures), (c .before .before .before .before .before .before .loop-test .taken))) ((c .before .before .item .ensures .0)) ((c .before .before .item .ensures .1))
+
+same-length : tie.Need-same-length Inv-loop μ-loop
+same-length c = (c .before .loop .inv .fills .long)
+
+returns : tie.Need-returns Inv-loop μ-loop
+returns c = walks.classes-end ((c .before .loop .inv)) (omega (arith, (c .before .before .least .ensures), (c .loop-test .left)))
+
+pub class-items-spec : {M : Type 1} → statement M
+class-items-spec =
+    tie.close
+    (tie.spec
+    Inv-loop
+    μ-loop
+    least-requires
+    loop-holds
+    mul-value
+    array-copy-out-value
+    slice-aggregate-item
+    item-requires
+    add-i
+    loop-less
+    loop-again
+    same-length
+    returns)

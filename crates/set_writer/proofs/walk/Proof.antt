@@ -1,0 +1,157 @@
+use mathlib.Core.Path.{_≡_}
+use lib.ListN.{length, length-map}
+use borrow.Author.Needs.{needs}
+use native.Mathlib.Omega.{arith}
+use Prim.Native.Nat.{_-_}
+use Rattle.set_table.specs.Types.{one, maxSlots, maxKeys}
+use Rattle.set_writer.proofs.Walks as walks
+use Rattle.set_writer.proofs.walk.Statement.{statement}
+use Rattle.set_writer.proofs.walk.Tie as tie
+
+abbrev Inv-slots : tie.InvT-slots
+Inv-slots text out₀ cap really set slots keys n₀ p₀ out n p = walks.Walks (one text) set really out₀ cap out n p
+
+abbrev μ-slots : tie.MeasureT-slots
+μ-slots text out₀ cap really set slots keys n₀ p₀ out n p = maxSlots - p
+
+cast-least : tie.Need-cast-least Inv-slots μ-slots
+cast-least c = search needs
+
+least-requires : tie.Need-least-requires Inv-slots μ-slots
+least-requires c κs = search needs
+
+cast-least-2 : tie.Need-cast-least-2 Inv-slots μ-slots
+cast-least-2 c = search needs
+
+least-requires-2 : tie.Need-least-requires-2 Inv-slots μ-slots
+least-requires-2 c κs = search needs
+
+slots-holds : tie.Need-slots-holds Inv-slots μ-slots
+slots-holds c = let e : length ((c .before .before .before .before .args .t2 .order)) ≡ maxSlots = simp length-map at ((c .before .before .before .before .good .1 .0 .1 .1 .1 .1 .1 .1 .1 .0 .1 .0 .1)) in
+    walks.walks-start _ _ _ _ _ e ((c .before .before .before .before .pre .0 .1)) ((c .before .before .before .before .pre .1))
+
+same-length : tie.Need-same-length Inv-slots μ-slots
+same-length c = (c .before .slots .inv .fills .long)
+
+returns : tie.Need-returns Inv-slots μ-slots
+returns c = walks.walks-over ((c .before .slots .inv)) (omega (arith, (c .if1 .taken)))
+
+close-requires : tie.Need-close-requires Inv-slots μ-slots
+close-requires c κs = (omega (arith, (c .before .before .if1 .left), (c .before .before .before .before .before .before .before .before .pre .0)), walks.close-room ((c .before .before .before .slots .inv)) (omega (arith, (c .before .before .before .before .before .least .ensures), (c .before .if2 .taken))) ((c .before .before .before .before .before .before .before .before .pre .0 .1)))
+
+same-length-2 : tie.Need-same-length-2 Inv-slots μ-slots
+same-length-2 c = omega (arith, (c .before .before .before .before .before .before .slots .inv .fills .long), (c .before .before .close .kept .0))
+
+returns-2 : tie.Need-returns-2 Inv-slots μ-slots
+returns-2 c = walks.walks-end ((c .before .before .before .before .before .before .slots .inv)) (omega (arith, (c .before .before .before .before .before .before .before .before .least .ensures), (c .before .before .before .before .if2 .taken))) ((c .before .before .close .ensures .0)) ((c .before .before .close .ensures .1))
+
+mul-place : tie.Need-mul-place Inv-slots μ-slots
+mul-place c = omega (arith, (c .before .before .before .before .least .ensures), (c .if2 .left))
+
+element-copy-out-place : tie.Need-element-copy-out-place Inv-slots μ-slots
+element-copy-out-place c = omega (arith, (c .before .before .before .before .least .ensures), (c .if2 .left))
+
+add-p : tie.Need-add-p Inv-slots μ-slots
+add-p c = omega (arith, (c .before .before .before .before .before .least .ensures), (c .before .if2 .left))
+
+enum-told : tie.Need-enum-told Inv-slots μ-slots
+enum-told c = search needs
+
+id-item-requires : tie.Need-id-item-requires Inv-slots μ-slots
+id-item-requires c κs = (omega (arith, (c .before .before .before .before .before .before .if1 .left), (c .before .before .before .before .before .before .before .before .before .before .before .before .pre .0)), walks.walks-room ((c .before .before .before .before .before .before .before .slots .inv)) (omega (arith, (c .before .before .before .before .before .before .before .before .before .least .ensures), (c .before .before .before .before .before .if2 .left))) (walks.id-pairs (one ((c .before .before .before .before .before .before .before .before .before .before .before .before .args .text .now))) ((c .before .before .before .before .before .before .before .before .before .before .before .before .args .t2)) ((c .before .before .enum-told .given .1))))
+
+slots-less : tie.Need-slots-less Inv-slots μ-slots
+slots-less c = omega (arith, (c .before .before .before .before .before .before .before .before .before .before .before .before .least .ensures), (c .before .before .before .before .before .before .before .before .if2 .left))
+
+slots-again : tie.Need-slots-again Inv-slots μ-slots
+slots-again c = walks.walks-go ((c .before .before .before .before .before .before .before .before .before .before .slots .inv)) (omega (arith, (c .before .before .before .before .before .before .before .before .before .before .before .before .least .ensures), (c .before .before .before .before .before .before .before .before .if2 .left))) (walks.id-pairs (one ((c .before .before .before .before .before .before .before .before .before .before .before .before .before .before .before .args .text .now))) ((c .before .before .before .before .before .before .before .before .before .before .before .before .before .before .before .args .t2)) ((c .before .before .before .before .before .enum-told .given .1))) ((c .before .before .id-item .ensures .0)) ((c .before .before .id-item .ensures .1))
+
+enum-told-2 : tie.Need-enum-told-2 Inv-slots μ-slots
+enum-told-2 c = search needs
+
+cast-class-items : tie.Need-cast-class-items Inv-slots μ-slots
+cast-class-items c = search needs
+
+class-items-requires : tie.Need-class-items-requires Inv-slots μ-slots
+class-items-requires c κs = (omega (arith, (c .before .before .before .before .before .before .if1 .left), (c .before .before .before .before .before .before .before .before .before .before .before .before .pre .0)), walks.walks-room ((c .before .before .before .before .before .before .before .slots .inv)) (omega (arith, (c .before .before .before .before .before .before .before .before .before .least .ensures), (c .before .before .before .before .before .if2 .left))) (walks.class-pairs (one ((c .before .before .before .before .before .before .before .before .before .before .before .before .args .text .now))) ((c .before .before .before .before .before .before .before .before .before .before .before .before .args .t2)) ((c .before .before .enum-told2 .given .1))))
+
+slots-less-2 : tie.Need-slots-less-2 Inv-slots μ-slots
+slots-less-2 c = omega (arith, (c .before .before .before .before .before .before .before .before .before .before .before .before .least .ensures), (c .before .before .before .before .before .before .before .before .if2 .left))
+
+slots-again-2 : tie.Need-slots-again-2 Inv-slots μ-slots
+slots-again-2 c = walks.walks-go ((c .before .before .before .before .before .before .before .before .before .before .slots .inv)) (omega (arith, (c .before .before .before .before .before .before .before .before .before .before .before .before .least .ensures), (c .before .before .before .before .before .before .before .before .if2 .left))) (walks.class-pairs (one ((c .before .before .before .before .before .before .before .before .before .before .before .before .before .before .before .args .text .now))) ((c .before .before .before .before .before .before .before .before .before .before .before .before .before .before .before .args .t2)) ((c .before .before .before .before .before .enum-told2 .given .1))) ((c .before .before .class-items .ensures .0)) ((c .before .before .class-items .ensures .1))
+
+enum-known-slot : tie.Need-enum-known-slot Inv-slots μ-slots
+enum-known-slot c = search needs
+
+cast-k : tie.Need-cast-k Inv-slots μ-slots
+cast-k c = search needs
+
+mul-key-item : tie.Need-mul-key-item Inv-slots μ-slots
+mul-key-item c = omega (arith, (c .before .before .before .before .before .before .before .before .before .least2 .ensures), (c .before .if3 .taken))
+
+element-copy-out-key-item : tie.Need-element-copy-out-key-item Inv-slots μ-slots
+element-copy-out-key-item c = omega (arith, (c .before .before .before .before .before .before .before .before .before .least2 .ensures), (c .before .if3 .taken))
+
+key-item-requires : tie.Need-key-item-requires Inv-slots μ-slots
+key-item-requires c κs = (omega (arith, (c .before .before .before .before .before .before .before .before .if1 .left), (c .before .before .before .before .before .before .before .before .before .before .before .before .before .before .pre .0)), walks.walks-room ((c .before .before .before .before .before .before .before .before .before .slots .inv)) (omega (arith, (c .before .before .before .before .before .before .before .before .before .before .before .least .ensures), (c .before .before .before .before .before .before .before .if2 .left))) (walks.key-pairs (one ((c .before .before .before .before .before .before .before .before .before .before .before .before .before .before .args .text .now))) ((c .before .before .before .before .before .before .before .before .before .before .before .before .before .before .args .t2)) _ ((c .before .before .before .before .slot .given .1)) (omega (arith, (c .before .before .before .before .before .before .before .before .before .before .least2 .ensures), (c .before .before .if3 .taken)))))
+
+slots-less-3 : tie.Need-slots-less-3 Inv-slots μ-slots
+slots-less-3 c = omega (arith, (c .before .before .before .before .before .before .before .before .before .before .before .before .before .before .least .ensures), (c .before .before .before .before .before .before .before .before .before .before .if2 .left))
+
+slots-again-3 : tie.Need-slots-again-3 Inv-slots μ-slots
+slots-again-3 c = walks.walks-go ((c .before .before .before .before .before .before .before .before .before .before .before .before .slots .inv)) (omega (arith, (c .before .before .before .before .before .before .before .before .before .before .before .before .before .before .least .ensures), (c .before .before .before .before .before .before .before .before .before .before .if2 .left))) (walks.key-pairs (one ((c .before .before .before .before .before .before .before .before .before .before .before .before .before .before .before .before .before .args .text .now))) ((c .before .before .before .before .before .before .before .before .before .before .before .before .before .before .before .before .before .args .t2)) _ ((c .before .before .before .before .before .before .before .slot .given .1)) (omega (arith, (c .before .before .before .before .before .before .before .before .before .before .before .before .before .least2 .ensures), (c .before .before .before .before .before .if3 .taken)))) ((c .before .before .key-item .ensures .0)) ((c .before .before .key-item .ensures .1))
+
+no-row-requires : tie.Need-no-row-requires Inv-slots μ-slots
+no-row-requires c κs = search needs
+
+key-item-requires-2 : tie.Need-key-item-requires-2 Inv-slots μ-slots
+key-item-requires-2 c κs = let e : length ((c .before .before .before .before .before .before .before .before .before .before .before .before .before .before .args .t2 .keys)) ≡ maxKeys = simp length-map at ((c .before .before .before .before .before .before .before .before .before .before .before .before .before .before .good .1 .0 .1 .1 .1 .1 .1 .0 .1 .0 .1)) in
+    (omega (arith, (c .before .before .before .before .before .before .before .before .if1 .left), (c .before .before .before .before .before .before .before .before .before .before .before .before .before .before .pre .0)), walks.walks-room ((c .before .before .before .before .before .before .before .before .before .slots .inv)) (omega (arith, (c .before .before .before .before .before .before .before .before .before .before .before .least .ensures), (c .before .before .before .before .before .before .before .if2 .left))) (walks.no-pairs (one ((c .before .before .before .before .before .before .before .before .before .before .before .before .before .before .args .text .now))) ((c .before .before .before .before .before .before .before .before .before .before .before .before .before .before .args .t2)) ((c .no-row .ensures)) _ ((c .before .before .before .before .slot .given .1)) e (omega (arith, (c .before .before .before .before .before .before .before .before .before .before .least2 .ensures), (c .before .before .if3 .left)))))
+
+slots-less-4 : tie.Need-slots-less-4 Inv-slots μ-slots
+slots-less-4 c = omega (arith, (c .before .before .before .before .before .before .before .before .before .before .before .before .before .before .least .ensures), (c .before .before .before .before .before .before .before .before .before .before .if2 .left))
+
+slots-again-4 : tie.Need-slots-again-4 Inv-slots μ-slots
+slots-again-4 c = let e : length ((c .before .before .before .before .before .before .before .before .before .before .before .before .before .before .before .before .before .args .t2 .keys)) ≡ maxKeys = simp length-map at ((c .before .before .before .before .before .before .before .before .before .before .before .before .before .before .before .before .before .good .1 .0 .1 .1 .1 .1 .1 .0 .1 .0 .1)) in
+    walks.walks-go ((c .before .before .before .before .before .before .before .before .before .before .before .before .slots .inv)) (omega (arith, (c .before .before .before .before .before .before .before .before .before .before .before .before .before .before .least .ensures), (c .before .before .before .before .before .before .before .before .before .before .if2 .left))) (walks.no-pairs (one ((c .before .before .before .before .before .before .before .before .before .before .before .before .before .before .before .before .before .args .text .now))) ((c .before .before .before .before .before .before .before .before .before .before .before .before .before .before .before .before .before .args .t2)) ((c .before .before .before .no-row .ensures)) _ ((c .before .before .before .before .before .before .before .slot .given .1)) e (omega (arith, (c .before .before .before .before .before .before .before .before .before .before .before .before .before .least2 .ensures), (c .before .before .before .before .before .if3 .left)))) ((c .before .before .key-item2 .ensures .0)) ((c .before .before .key-item2 .ensures .1))
+
+pub walk-spec : {M : Type 1} → statement M
+walk-spec =
+    tie.close
+    (tie.spec
+    Inv-slots
+    μ-slots
+    cast-least
+    least-requires
+    cast-least-2
+    least-requires-2
+    slots-holds
+    same-length
+    returns
+    close-requires
+    same-length-2
+    returns-2
+    mul-place
+    element-copy-out-place
+    add-p
+    enum-told
+    id-item-requires
+    slots-less
+    slots-again
+    enum-told-2
+    cast-class-items
+    class-items-requires
+    slots-less-2
+    slots-again-2
+    enum-known-slot
+    cast-k
+    mul-key-item
+    element-copy-out-key-item
+    key-item-requires
+    slots-less-3
+    slots-again-3
+    no-row-requires
+    key-item-requires-2
+    slots-less-4
+    slots-again-4)

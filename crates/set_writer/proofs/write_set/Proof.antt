@@ -1,0 +1,55 @@
+use mathlib.Core.Path.{refl}
+use mathlib.Core.Bool.{false}
+use Rattle.base_lists.proofs.More.{contra}
+use native.Mathlib.Omega.{arith}
+use Rattle.set_canon.specs.Canon.{canon}
+use Rattle.set_table.specs.Types.{one}
+use Rattle.set_table.specs.Rows.{meaningOf}
+use Rattle.set_writer.proofs.Room as room
+use borrow.Author.Needs.{needs}
+use Rattle.set_writer.proofs.write_set.Statement.{statement}
+use Rattle.set_writer.proofs.write_set.Tie as tie
+
+least-requires : tie.Need-least-requires
+least-requires c κs = search needs
+
+walk-requires : tie.Need-walk-requires
+walk-requires c κs = ((omega (arith, (c .before .least .ensures)), omega (arith, (c .before .least .ensures))), λ e. contra false e refl)
+
+enum-known-why : tie.Need-enum-known-why
+enum-known-why c = search needs
+
+enum-told : tie.Need-enum-told
+enum-told c = search needs
+
+walk-requires-2 : tie.Need-walk-requires-2
+walk-requires-2 c κs = let xs = canon (meaningOf (one ((c .before .before .before .before .before .before .before .before .before .before .args .text .now))) ((c .before .before .before .before .before .before .before .before .before .before .args .set))) in
+    ((omega (arith, (c .before .before .before .before .before .before .before .least .ensures)), omega (arith, (c .before .before .before .before .before .before .before .least .ensures), (c .before .before .before .before .before .walk .kept .1 .1 .0))), λ e. room.fits xs ((c .before .before .before .before .before .before .before .before .before .before .args .out .now)) ((c .before .before .before .before .before .before .before .least .ensures)) ((c .before .before .before .before .before .walk .ensures .0)) ((c .before .before .before .before .before .walk .ensures .1)) ((c .before .enum-told .given .1)))
+
+same-length : tie.Need-same-length
+same-length c = search needs
+
+returns : tie.Need-returns
+returns c = let xs = canon (meaningOf (one ((c .before .before .before .before .before .before .before .before .before .before .args .text .now))) ((c .before .before .before .before .before .before .before .before .before .before .args .set))) in
+    room.refused xs ((c .before .before .before .before .before .before .before .before .before .before .args .out .now)) ((c .before .before .before .before .before .before .before .least .ensures)) ((c .before .before .before .before .before .walk .ensures .0)) ((c .before .before .before .before .before .walk .ensures .1)) ((c .before .why .given .1))
+
+same-length-2 : tie.Need-same-length-2
+same-length-2 c = search needs
+
+returns-2 : tie.Need-returns-2
+returns-2 c = let xs = canon (meaningOf (one ((c .before .before .before .before .before .before .before .before .before .before .before .before .before .args .text .now))) ((c .before .before .before .before .before .before .before .before .before .before .before .before .before .args .set))) in
+    room.written xs ((c .before .before .before .before .before .before .before .before .before .before .before .before .before .args .out .now)) ((c .before .before .before .before .before .before .before .before .before .before .least .ensures)) ((c .before .before .before .before .before .before .before .before .walk .ensures .0)) ((c .before .before .before .before .before .before .before .before .walk .ensures .1)) (room.fits xs ((c .before .before .before .before .before .before .before .before .before .before .before .before .before .args .out .now)) ((c .before .before .before .before .before .before .before .before .before .before .least .ensures)) ((c .before .before .before .before .before .before .before .before .walk .ensures .0)) ((c .before .before .before .before .before .before .before .before .walk .ensures .1)) ((c .before .before .before .before .enum-told .given .1))) ((c .before .before .walk2 .ensures .0)) ((c .before .before .walk2 .ensures .1))
+
+pub write-set-spec : {M : Type 1} → statement M
+write-set-spec =
+    tie.close
+    (tie.spec
+    least-requires
+    walk-requires
+    enum-known-why
+    enum-told
+    walk-requires-2
+    same-length
+    returns
+    same-length-2
+    returns-2)

@@ -1,0 +1,3 @@
+-- The definitions that the contracts of set_writer cite.
+pub mod Write
+pub mod Steps

@@ -1,9 +1,0 @@
--- The laws that the proofs of sets cite.
-pub mod Ranges
-pub mod Table
-pub mod Keys
-pub mod Slots
-pub mod Shaping
-pub mod Meant
-pub mod Items
-pub mod Whole

@@ -1,0 +1,271 @@
+-- The loop over the blocks of a sheet: what is laid so far, and what is still to be laid.
+-- Assumes nothing.
+use mathlib.Core.Path.{_≡_, refl, sym, _∙_, ap}
+use mathlib.Core.Bool.{Bool, true, false, cond}
+use mathlib.Core.List.{List, [], _∷_, _++_, append-assoc, append-nil}
+use Prim.Native.Nat.{ℕ, _+_, _-_, _≤_, _<_}
+use native.Mathlib.Nat.{sub-zero}
+use native.Mathlib.Omega.{arith}
+use borrow.Author.Tests.{le-ltb, lt-ltb}
+use lib.Dec.{eqb, eqb·suc-zero}
+use lib.ListN.{length, take, drop, length-append}
+use lib.Seq.{take-append-seam}
+use Rattle.base_lists.specs.Lists.{over}
+use Rattle.base_lists.proofs.More.{contra}
+use Rattle.base_refusals.specs.Numbers.{maxText}
+use Rattle.block_chain.specs.Chain.{readBlocks, blocksFrom, goodLine}
+use Rattle.base_refusals.specs.declared.Refusal.{Refusal}
+use Rattle.set_canon.specs.Canon.{canon}
+use Rattle.set_table.specs.Types.{one, textOver}
+use Rattle.set_table.specs.Rows.{meaningOf}
+use Rattle.set_table.specs.declared.Attrs.{Attrs}
+use Rattle.set_fill.specs.declared.Outcome as outcomes
+use Rattle.set_fill.specs.declared.Outcome.the-variants as outcome
+use Rattle.run_lines.proofs.Joining.{over-long, over-sets}
+use Rattle.read_blocks.specs.Blocks.{Found, joinedIn, textIn, joinHolds, blockOf}
+use Rattle.read_lengths.specs.Lengths.{flushLeft}
+use Rattle.sheet_blocks.specs.declared.Next.{Next}
+use Rattle.sheet_blocks.specs.Sheets.{Try, triesAt, isBlock, onlyBlocks, joinBehind, upToBlock, nextOf, nextTries}
+use Rattle.sheet_blocks.proofs.Tries.{found-by, run-found-by, flush-by, tries-end, try, tries-on, tries-past}
+use Rattle.sheet_blocks.proofs.Goes.{Goes, goes-on, stops, join-long, join-append, upto-join}
+use Rattle.sheet_blocks.proofs.Rooms.{tries-same}
+use Rattle.sheet_report.specs.declared.Told.{Told}
+use Rattle.sheet_report.specs.declared.Told.the-variants.{More, Done}
+use Rattle.sheet_report.specs.declared.Part.{Part}
+use Rattle.sheet_report.specs.Report.{refusedLine, canonLine, lineBy, blockLine}
+use Rattle.sheet_report.specs.Parts.{maxLine, Laid, ended, stopped, behind, tryLine, layFrom, shown}
+use Rattle.sheet_report.specs.Steps.{Put}
+use Rattle.sheet_report.proofs.Laying.{line-le}
+
+-- ---- tries gone past, where the longest line has room
+
+module _ (t : List ℕ) {room : ℕ} (h : maxLine ≤ room) where
+  pub lay-on : (x : Try) (xs : List Try) → isBlock (x .found) ≡ false → layFrom t room (x ∷ xs) ≡ behind (x ∷ []) [] (layFrom t room xs)
+  unfolding layFrom tryLine
+  lay-on x xs e = rw (le-ltb room maxLine h, e, sub-zero room)
+
+  pub lay-here : (x : Try) (xs : List Try) → isBlock (x .found) ≡ true → layFrom t room (x ∷ xs) ≡ behind (x ∷ []) (blockLine t x) (layFrom t (room - length (blockLine t x)) xs)
+  unfolding layFrom tryLine
+  lay-here x xs e = rw (le-ltb room maxLine h, e)
+
+  lay-none : (xs : List Try) → onlyBlocks xs ≡ [] → layFrom t room xs ≡ behind xs [] (ended Done)
+  unfolding onlyBlocks layFrom
+  lay-none [] e = refl
+  lay-none (x ∷ xs) e = go (isBlock (x .found)) refl e (lay-none xs)
+    where
+      go : (b : Bool) → isBlock (x .found) ≡ b → cond b (x ∷ onlyBlocks xs) (onlyBlocks xs) ≡ [] → (onlyBlocks xs ≡ [] → layFrom t room xs ≡ behind xs [] (ended Done))
+          → layFrom t room (x ∷ xs) ≡ behind (x ∷ xs) [] (ended Done)
+      go true b e ih = let z : _≡_ {A = ℕ} 0 1 = cc in absurd (omega arith)
+      go false b e ih = lay-on x xs b ∙ ap (behind (x ∷ []) []) (ih e)
+
+  lay-first : (xs zs : List Try) {y : Try} {ys : List Try} → onlyBlocks xs ≡ y ∷ ys → layFrom t room (upToBlock xs ++ zs) ≡ behind (upToBlock xs) (blockLine t y) (layFrom t (room - length (blockLine t y)) zs)
+  unfolding onlyBlocks upToBlock
+  lay-first [] zs e = let z : _≡_ {A = ℕ} 0 1 = cc in absurd (omega arith)
+  lay-first (x ∷ xs) zs {y} {ys} e = go (isBlock (x .found)) refl e (lay-first xs zs)
+    where
+      go : (b : Bool) → isBlock (x .found) ≡ b → cond b (x ∷ onlyBlocks xs) (onlyBlocks xs) ≡ y ∷ ys
+          → (onlyBlocks xs ≡ y ∷ ys → layFrom t room (upToBlock xs ++ zs) ≡ behind (upToBlock xs) (blockLine t y) (layFrom t (room - length (blockLine t y)) zs))
+          → layFrom t room (x ∷ (cond b [] (upToBlock xs) ++ zs)) ≡ behind (x ∷ cond b [] (upToBlock xs)) (blockLine t y) (layFrom t (room - length (blockLine t y)) zs)
+      go true b e ih = let z : x ≡ y = cc in rw (← z) (lay-here x zs b)
+      go false b e ih = lay-on x (upToBlock xs ++ zs) b ∙ ap (behind (x ∷ []) []) (ih e)
+
+-- where it has none, the next call goes on at the line that was to be tried
+pub lay-stop : (t : List ℕ) (cap n at : ℕ) {room : ℕ} → at < length t → room < maxLine → layFrom t room (triesAt t cap n at) ≡ stopped (try t cap n at)
+unfolding layFrom
+lay-stop t cap n at {room} h l = go (isBlock (flushLeft t cap at)) refl
+  where
+    go : (b : Bool) → isBlock (flushLeft t cap at) ≡ b → layFrom t room (triesAt t cap n at) ≡ stopped (try t cap n at)
+    go true e = rw (tries-past t cap n at h e, lt-ltb room maxLine l)
+    go false e = rw (tries-on t cap n at h e, lt-ltb room maxLine l)
+
+-- ---- the joined bytes of a block stand at the front of the join buffer
+
+holds-front : (buf : List ℕ) (f : Found) → take (length (joinedIn f)) (joinHolds buf f) ≡ joinedIn f
+unfolding joinHolds
+holds-front buf f = take-append-seam (joinedIn f) (drop (length (joinedIn f)) buf)
+
+upto-front : (buf : List ℕ) (xs : List Try) {y : Try} {ys : List Try} → onlyBlocks xs ≡ y ∷ ys → take (length (joinedIn (y .found))) (joinBehind buf (upToBlock xs)) ≡ joinedIn (y .found)
+unfolding onlyBlocks upToBlock joinBehind
+upto-front buf [] e = let z : _≡_ {A = ℕ} 0 1 = cc in absurd (omega arith)
+upto-front buf (x ∷ xs) {y} {ys} e = go (isBlock (x .found)) e (upto-front (joinHolds buf (x .found)) xs)
+  where
+    go : (b : Bool) → cond b (x ∷ onlyBlocks xs) (onlyBlocks xs) ≡ y ∷ ys
+        → (onlyBlocks xs ≡ y ∷ ys → take (length (joinedIn (y .found))) (joinBehind (joinHolds buf (x .found)) (upToBlock xs)) ≡ joinedIn (y .found))
+        → take (length (joinedIn (y .found))) (joinBehind (joinHolds buf (x .found)) (cond b [] (upToBlock xs))) ≡ joinedIn (y .found)
+    go true e ih = let z : x ≡ y = cc in rw (← z) (holds-front buf (x .found))
+    go false e ih = ih e
+
+-- a block that was joined has a byte
+empty-bad : goodLine [] 0 0 ≡ false
+unfolding goodLine readBlocks blocksFrom
+empty-bad = refl
+
+joined-text : (t : List ℕ) (cap at : ℕ) → isBlock (flushLeft t cap at) ≡ true → cond (eqb (length (joinedIn (flushLeft t cap at))) 0) t (joinedIn (flushLeft t cap at)) ≡ textIn t (flushLeft t cap at)
+joined-text t cap at =
+    flush-by P t at cap (λ e. contra false e refl)
+    (found-by P t at 0 cap (λ g e. refl) (λ e. contra false e refl) (λ e. contra false e refl)
+    (run-found-by P t at 0 cap (λ r e g b. more (r .text) g) (λ r e q b. contra false b refl)))
+  where
+    P : Found → Type 0
+    P f = isBlock f ≡ true → cond (eqb (length (joinedIn f)) 0) t (joinedIn f) ≡ textIn t f
+
+    more : (x : List ℕ) → goodLine x 0 (length x) ≡ true → cond (eqb (length x) 0) t x ≡ x
+    more [] g = contra (goodLine [] 0 0) g empty-bad
+    more (b ∷ x) g = rw (eqb·suc-zero (length x))
+
+-- ---- the line of a block, by its outcome and by the text that its set is over
+
+module _ (n k : ℕ) (t join : List ℕ) (joined : ℕ) (a : Attrs) {o : outcomes.Outcome} {at end : ℕ} {out out′ : List ℕ} where
+  pub of-refused : {why : Refusal} → o ≡ outcome.Refused why → Put out at (refusedLine n k why) end out′ → Put out at (lineBy n k (textOver t join joined) a o) end out′
+  of-refused e p = rw e p
+
+  pub of-done : {w : List ℕ} → o ≡ outcome.Done → w ≡ textOver t join joined → Put out at (canonLine n k (canon (meaningOf (one w) a))) end out′ → Put out at (lineBy n k (textOver t join joined) a o) end out′
+  of-done e f p = rw (e, ← f) p
+
+-- ---- the loop
+
+-- so much is laid and gone past; `rest` is what is still to come of R, from the line at `at` on, whose number is `line`
+pub record Lays (t join₀ out₀ : List ℕ) (R : Laid) (join out : List ℕ) (at line k : ℕ) : Type 0 where
+  pub done : List ℕ
+  pub past : List Try
+  pub fits : length t ≤ maxText
+  pub wide : maxText ≤ length join₀
+  pub within : at ≤ length t
+  pub low : line ≤ at + 1
+  pub same : length join ≡ length join₀
+  pub room : k ≤ length out₀
+  pub counted : k ≡ length done
+  pub joins : join ≡ joinBehind join₀ past
+  pub content : out ≡ over done out₀
+  pub rest : R ≡ behind past done (layFrom t (length out₀ - k) (triesAt t (length join₀) line at))
+
+module _ (t join out : List ℕ) (at line : ℕ) where
+  pub lays-start : length t ≤ maxText → at ≤ length t → line ≤ at + 1 → maxText ≤ length join → Lays t join out (layFrom t (length out) (triesAt t maxText line at)) join out at line 0
+  unfolding joinBehind
+  lays-start k w l j =
+      record {
+        done = [];
+        past = [];
+        fits = k;
+        wide = j;
+        within = w;
+        low = l;
+        same = refl;
+        room = omega arith;
+        counted = refl;
+        joins = refl;
+        content = refl;
+        rest = rw (sub-zero (length out), sym (tries-same t maxText k line at) ∙ tries-same t (length join) (omega arith) line at);
+      }
+
+-- what is promised
+abbrev pub Tells : List ℕ → List ℕ → Laid → Part → List ℕ → List ℕ → Type 0
+Tells join₀ out₀ R p join out = (p ≡ shown R) × ((join ≡ joinBehind join₀ (R .past)) × (out ≡ over (R .text) out₀))
+
+module _ {t join₀ out₀ : List ℕ} {R : Laid} {join out : List ℕ} {at line k : ℕ} (inv : Lays t join₀ out₀ R join out at line k) where
+  pub lays-long : length out ≡ length out₀
+  lays-long = rw (inv .content) (over-long (inv .done) out₀ (omega (arith, inv .room, inv .counted)))
+
+  -- nothing more is laid, and ys are gone past
+  ends-so : (ys : List Try) (a : Told) (m n : ℕ) {join′ : List ℕ} → R ≡ behind (inv .past) (inv .done) (behind ys [] (record { told = a; text = []; past = []; at = m; line = n }))
+      → join′ ≡ joinBehind join ys → Tells join₀ out₀ R (record { told = a; len = k; at = m; line = n }) join′ out
+  ends-so ys a m n e j =
+      rw (e, append-nil (inv .done), append-nil ys)
+      (rw (← (inv .counted)), (j ∙ rw (inv .joins) (sym (join-append join₀ (inv .past) ys)), inv .content))
+
+  pub lays-end : {p : Part} → length t ≤ at → p ≡ record { told = Done; len = k; at = 0; line = 0 } → Tells join₀ out₀ R p join out
+  unfolding layFrom joinBehind
+  lays-end h e = rw e (ends-so [] Done 0 0 (rw (tries-end t (length join₀) line at h) at (inv .rest)) refl)
+
+  module _ (h : at < length t) where
+    pub lays-stop : {p : Part} → length out - k < maxLine → p ≡ record { told = More; len = k; at = at; line = line } → Tells join₀ out₀ R p join out
+    unfolding joinBehind
+    lays-stop l e = rw e (ends-so [] More at line (rw (lay-stop t (length join₀) line at h (rw lays-long at l)) at (inv .rest)) refl)
+
+    module _ (l : maxLine ≤ length out - k) {r : Next} {join′ : List ℕ} (e : r ≡ nextOf t (length join) at) (j : join′ ≡ joinBehind join (nextTries t (length join) at)) where
+      has-room : maxLine ≤ length out₀ - k
+      has-room = rw lays-long at l
+
+      is : r ≡ nextOf t (length join₀) at
+      is = rw (inv .same) at e
+
+      join-is : join′ ≡ joinBehind join (nextTries t (length join₀) at)
+      join-is = rw (inv .same) at j
+
+      pub join-same : length join′ ≡ length join₀
+      join-same = rw j (join-long t at join) ∙ inv .same
+
+      pub lays-none : {p : Part} → r .block .lines ≡ 0 → p ≡ record { told = Done; len = k; at = 0; line = 0 } → Tells join₀ out₀ R p join′ out
+      lays-none z q =
+          let w = stops t (length join₀) at (inv .fits) (inv .wide) (rw is at z) in
+          rw q (ends-so (triesAt t (length join₀) line at) Done 0 0 (rw (lay-none t has-room (triesAt t (length join₀) line at) (w .blocks line)) at (inv .rest)) (join-is ∙ sym (w .joins line join)))
+
+      module _ (z : r .block .lines ≡ 0 → ⊥) where
+        goes : Goes t (length join₀) at r
+        goes = rw is (goes-on t (length join₀) at (inv .fits) (inv .wide) (λ y. z (rw is y)))
+
+        abbrev f : Found
+        f = flushLeft t (length join₀) (r .at)
+
+        abbrev here : Try
+        here = try t (length join₀) (line + r .skipped) (r .at)
+
+        pub sum-le : line + r .skipped + r .block .lines ≤ r .block .next + 1
+        sum-le = omega (arith, inv .low, goes .order, goes .beyond)
+
+        pub next-within : r .block .next ≤ length t
+        next-within = goes .inside
+
+        pub lays-less : length t - r .block .next < length t - at
+        lays-less = omega (arith, h, goes .order, goes .beyond, goes .some, goes .inside)
+
+        abbrev gone : List Try
+        gone = upToBlock (triesAt t (length join₀) line at)
+
+        joined-so : join′ ≡ joinBehind join gone
+        joined-so = join-is ∙ sym (upto-join t (length join₀) line at join (inv .fits) (inv .wide))
+
+        front : take (length (joinedIn f)) join′ ≡ joinedIn f
+        front = rw joined-so (upto-front join (triesAt t (length join₀) line at) (goes .blocks line))
+
+        text-is : textOver t join′ (length (joinedIn f)) ≡ textIn t f
+        unfolding textOver
+        text-is = rw front (joined-text t (length join₀) (r .at) (goes .is))
+
+        abbrev L : List ℕ
+        L = blockLine t here
+
+        line-is : lineBy (line + r .skipped) (r .block .lines) (textOver t join′ (r .block .joined)) (r .block .set) (r .block .outcome) ≡ L
+        unfolding blockLine blockOf
+        line-is = rw (goes .read, text-is)
+
+        pub lays-go : {k′ : ℕ} {out′ : List ℕ}
+            → Put out k (lineBy (line + r .skipped) (r .block .lines) (textOver t join′ (r .block .joined)) (r .block .set) (r .block .outcome)) k′ out′
+            → Lays t join₀ out₀ R join′ out′ (r .block .next) (line + r .skipped + r .block .lines) k′
+        lays-go {k′} {out′} p =
+            record {
+              done = inv .done ++ L;
+              past = inv .past ++ gone;
+              fits = inv .fits;
+              wide = inv .wide;
+              within = next-within;
+              low = sum-le;
+              same = join-same;
+              room = omega (arith, short, has-room, ends);
+              counted = omega (arith, ends, inv .counted, length-append (inv .done) L);
+              joins = joined-so ∙ rw (inv .joins) (sym (join-append join₀ (inv .past) gone));
+              content = (rw line-is at (p .content)) ∙ rw (inv .content, inv .counted) (over-sets (inv .done) L out₀ (omega (arith, short, has-room, inv .counted)));
+              rest = inv .rest ∙ ap (behind (inv .past) (inv .done)) step ∙ rw (append-assoc (inv .done), append-assoc (inv .past));
+            }
+          where
+            short : length L ≤ maxLine
+            short = rw line-is at (line-le (line + r .skipped) (r .block .lines) (textOver t join′ (r .block .joined)) (r .block .set) (r .block .outcome) (omega (arith, sum-le, next-within, inv .fits)) (omega (arith, sum-le, next-within, inv .fits)))
+
+            ends : k′ ≡ k + length L
+            ends = rw line-is at (p .behind)
+
+            left : length out₀ - k - length L ≡ length out₀ - k′
+            left = omega (arith, ends)
+
+            step : layFrom t (length out₀ - k) (triesAt t (length join₀) line at) ≡ behind gone L (layFrom t (length out₀ - k′) (triesAt t (length join₀) (line + r .skipped + r .block .lines) (r .block .next)))
+            step = ap (layFrom t (length out₀ - k)) (goes .tries line) ∙ lay-first t has-room (triesAt t (length join₀) line at) _ (goes .blocks line) ∙ rw left

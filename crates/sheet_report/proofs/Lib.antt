@@ -1,0 +1,8 @@
+-- Laws that the proofs of sheet_report cite.
+pub mod Decimals
+pub mod Laying
+pub mod Lays
+pub mod Entries
+pub mod Numbers
+pub mod Calls
+pub mod Said

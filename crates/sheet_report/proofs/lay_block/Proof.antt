@@ -1,0 +1,45 @@
+use Rattle.sheet_report.proofs.Lays as lays
+use borrow.Author.Needs.{needs}
+use Rattle.sheet_report.proofs.lay_block.Statement.{statement}
+use Rattle.sheet_report.proofs.lay_block.Tie as tie
+
+enum-known-outcome : tie.Need-enum-known-outcome
+enum-known-outcome c = search needs
+
+lay-refused-requires : tie.Need-lay-refused-requires
+lay-refused-requires c κs = search needs
+
+enum-told : tie.Need-enum-told
+enum-told c = search needs
+
+text-over-requires : tie.Need-text-over-requires
+text-over-requires c κs = search needs
+
+lay-set-requires : tie.Need-lay-set-requires
+lay-set-requires c κs = search needs
+
+same-length : tie.Need-same-length
+same-length c = search needs
+
+returns : tie.Need-returns
+returns c = lays.of-refused (c .before .before .before .before .before .before .before .before .before .before .args .n) (c .before .before .before .before .before .before .before .before .before .before .args .block .lines) (c .before .before .before .before .before .before .before .before .before .before .args .text .now) (c .before .before .before .before .before .before .before .before .before .before .args .join .now) (c .before .before .before .before .before .before .before .before .before .before .args .block .joined) (c .before .before .before .before .before .before .before .before .before .before .args .block .set) (c .before .before .before .before .before .outcome .given .1) (c .before .before .lay-refused .ensures)
+
+same-length-2 : tie.Need-same-length-2
+same-length-2 c = search needs
+
+returns-2 : tie.Need-returns-2
+returns-2 c = lays.of-done (c .before .before .before .before .before .before .before .before .before .before .args .n) (c .before .before .before .before .before .before .before .before .before .before .args .block .lines) (c .before .before .before .before .before .before .before .before .before .before .args .text .now) (c .before .before .before .before .before .before .before .before .before .before .args .join .now) (c .before .before .before .before .before .before .before .before .before .before .args .block .joined) (c .before .before .before .before .before .before .before .before .before .before .args .block .set) (c .before .before .before .before .before .enum-told .given .1) (c .before .before .before .before .text-over .ensures) (c .before .before .lay-set .ensures)
+
+pub lay-block-spec : {M : Type 1} → statement M
+lay-block-spec =
+    tie.close
+    (tie.spec
+    enum-known-outcome
+    lay-refused-requires
+    enum-told
+    text-over-requires
+    lay-set-requires
+    same-length
+    returns
+    same-length-2
+    returns-2)

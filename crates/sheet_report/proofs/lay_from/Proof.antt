@@ -1,0 +1,103 @@
+use Prim.Native.Nat.{_-_}
+use native.Mathlib.Omega.{arith}
+use lib.ListN.{length}
+use Rattle.base_refusals.specs.Numbers.{maxText}
+use Rattle.sheet_blocks.specs.Sheets.{triesAt}
+use Rattle.sheet_report.specs.Parts.{layFrom}
+use Rattle.sheet_report.proofs.Lays as lays
+use borrow.Author.Needs.{needs}
+use Rattle.sheet_report.proofs.lay_from.Statement.{statement}
+use Rattle.sheet_report.proofs.lay_from.Tie as tie
+
+abbrev Inv-sheet : tie.InvT-sheet
+Inv-sheet text from first join₀ out₀ at₀ line₀ k₀ join out at line k = lays.Lays text join₀ out₀ (layFrom text (length out₀) (triesAt text maxText first from)) join out at line k
+
+abbrev μ-sheet : tie.MeasureT-sheet
+μ-sheet text from first join₀ out₀ at₀ line₀ k₀ join out at line k = length text - at
+
+sheet-holds : tie.Need-sheet-holds Inv-sheet μ-sheet
+sheet-holds c = lays.lays-start _ _ _ _ _ (omega (arith, (c .before .before .before .pre))) (omega (arith, (c .before .before .before .pre))) (omega (arith, (c .before .before .before .pre))) (omega (arith, (c .before .before .before .pre)))
+
+done-requires : tie.Need-done-requires Inv-sheet μ-sheet
+done-requires c κs = search needs
+
+same-length : tie.Need-same-length Inv-sheet μ-sheet
+same-length c = (c .before .before .sheet .inv .same)
+
+same-length-2 : tie.Need-same-length-2 Inv-sheet μ-sheet
+same-length-2 c = lays.lays-long (c .before .before .sheet .inv)
+
+returns : tie.Need-returns Inv-sheet μ-sheet
+returns c = lays.lays-end (c .before .before .sheet .inv) (omega (arith, (c .before .if1 .taken))) (c .done .ensures)
+
+sub-if2 : tie.Need-sub-if2 Inv-sheet μ-sheet
+sub-if2 c = omega (arith, lays.lays-long (c .before .sheet .inv), (c .before .sheet .inv .room))
+
+more-requires : tie.Need-more-requires Inv-sheet μ-sheet
+more-requires c κs = search needs
+
+same-length-3 : tie.Need-same-length-3 Inv-sheet μ-sheet
+same-length-3 c = (c .before .before .before .sheet .inv .same)
+
+same-length-4 : tie.Need-same-length-4 Inv-sheet μ-sheet
+same-length-4 c = lays.lays-long (c .before .before .before .sheet .inv)
+
+returns-2 : tie.Need-returns-2 Inv-sheet μ-sheet
+returns-2 c = lays.lays-stop (c .before .before .before .sheet .inv) (omega (arith, (c .before .before .if1 .left))) (omega (arith, (c .before .if2 .taken))) (c .more .ensures)
+
+next-block-requires : tie.Need-next-block-requires Inv-sheet μ-sheet
+next-block-requires c κs = search needs
+
+done-requires-2 : tie.Need-done-requires-2 Inv-sheet μ-sheet
+done-requires-2 c κs = search needs
+
+same-length-5 : tie.Need-same-length-5 Inv-sheet μ-sheet
+same-length-5 c = lays.join-same (c .before .before .before .before .before .before .before .before .before .before .sheet .inv) (omega (arith, (c .before .before .before .before .before .before .before .before .before .if1 .left))) (omega (arith, (c .before .before .before .before .before .before .before .before .if2 .left))) (c .before .before .before .before .before .before .next-block .ensures .0) (c .before .before .before .before .before .before .next-block .ensures .1)
+
+same-length-6 : tie.Need-same-length-6 Inv-sheet μ-sheet
+same-length-6 c = lays.lays-long (c .before .before .before .before .before .before .before .before .before .before .sheet .inv)
+
+returns-3 : tie.Need-returns-3 Inv-sheet μ-sheet
+returns-3 c = lays.lays-none (c .before .before .before .before .before .before .before .before .before .before .sheet .inv) (omega (arith, (c .before .before .before .before .before .before .before .before .before .if1 .left))) (omega (arith, (c .before .before .before .before .before .before .before .before .if2 .left))) (c .before .before .before .before .before .before .next-block .ensures .0) (c .before .before .before .before .before .before .next-block .ensures .1) (c .before .if3 .taken) (c .done2 .ensures)
+
+add-n : tie.Need-add-n Inv-sheet μ-sheet
+add-n c = omega (arith, lays.sum-le (c .before .before .before .before .before .before .before .before .before .before .sheet .inv) (omega (arith, (c .before .before .before .before .before .before .before .before .before .if1 .left))) (omega (arith, (c .before .before .before .before .before .before .before .before .if2 .left))) (c .before .before .before .before .before .before .next-block .ensures .0) (c .before .before .before .before .before .before .next-block .ensures .1) (c .before .if3 .left), lays.next-within (c .before .before .before .before .before .before .before .before .before .before .sheet .inv) (omega (arith, (c .before .before .before .before .before .before .before .before .before .if1 .left))) (omega (arith, (c .before .before .before .before .before .before .before .before .if2 .left))) (c .before .before .before .before .before .before .next-block .ensures .0) (c .before .before .before .before .before .before .next-block .ensures .1) (c .before .if3 .left), (c .before .before .before .before .before .before .before .before .before .before .sheet .inv .fits))
+
+lay-block-requires : tie.Need-lay-block-requires Inv-sheet μ-sheet
+lay-block-requires c κs = omega (arith, (c .before .before .before .before .before .before .before .before .before .before .if2 .left), (c .before .before .before .before .before .before .before .before .before .before .before .before .sheet .inv .room), lays.lays-long (c .before .before .before .before .before .before .before .before .before .before .before .before .sheet .inv))
+
+add-line : tie.Need-add-line Inv-sheet μ-sheet
+add-line c = omega (arith, lays.sum-le (c .before .before .before .before .before .before .before .before .before .before .before .before .before .before .before .before .sheet .inv) (omega (arith, (c .before .before .before .before .before .before .before .before .before .before .before .before .before .before .before .if1 .left))) (omega (arith, (c .before .before .before .before .before .before .before .before .before .before .before .before .before .before .if2 .left))) (c .before .before .before .before .before .before .before .before .before .before .before .before .next-block .ensures .0) (c .before .before .before .before .before .before .before .before .before .before .before .before .next-block .ensures .1) (c .before .before .before .before .before .before .before .if3 .left), lays.next-within (c .before .before .before .before .before .before .before .before .before .before .before .before .before .before .before .before .sheet .inv) (omega (arith, (c .before .before .before .before .before .before .before .before .before .before .before .before .before .before .before .if1 .left))) (omega (arith, (c .before .before .before .before .before .before .before .before .before .before .before .before .before .before .if2 .left))) (c .before .before .before .before .before .before .before .before .before .before .before .before .next-block .ensures .0) (c .before .before .before .before .before .before .before .before .before .before .before .before .next-block .ensures .1) (c .before .before .before .before .before .before .before .if3 .left), (c .before .before .before .before .before .before .before .before .before .before .before .before .before .before .before .before .sheet .inv .fits))
+
+sheet-less : tie.Need-sheet-less Inv-sheet μ-sheet
+sheet-less c = lays.lays-less (c .before .before .before .before .before .before .before .before .before .before .before .before .before .before .before .before .sheet .inv) (omega (arith, (c .before .before .before .before .before .before .before .before .before .before .before .before .before .before .before .if1 .left))) (omega (arith, (c .before .before .before .before .before .before .before .before .before .before .before .before .before .before .if2 .left))) (c .before .before .before .before .before .before .before .before .before .before .before .before .next-block .ensures .0) (c .before .before .before .before .before .before .before .before .before .before .before .before .next-block .ensures .1) (c .before .before .before .before .before .before .before .if3 .left)
+
+sheet-again : tie.Need-sheet-again Inv-sheet μ-sheet
+sheet-again c = lays.lays-go (c .before .before .before .before .before .before .before .before .before .before .before .before .before .before .before .before .sheet .inv) (omega (arith, (c .before .before .before .before .before .before .before .before .before .before .before .before .before .before .before .if1 .left))) (omega (arith, (c .before .before .before .before .before .before .before .before .before .before .before .before .before .before .if2 .left))) (c .before .before .before .before .before .before .before .before .before .before .before .before .next-block .ensures .0) (c .before .before .before .before .before .before .before .before .before .before .before .before .next-block .ensures .1) (c .before .before .before .before .before .before .before .if3 .left) (c .before .before .before .lay-block .ensures)
+
+pub lay-from-spec : {M : Type 1} → statement M
+lay-from-spec =
+    tie.close
+    (tie.spec
+    Inv-sheet
+    μ-sheet
+    sheet-holds
+    done-requires
+    same-length
+    same-length-2
+    returns
+    sub-if2
+    more-requires
+    same-length-3
+    same-length-4
+    returns-2
+    next-block-requires
+    done-requires-2
+    same-length-5
+    same-length-6
+    returns-3
+    add-n
+    lay-block-requires
+    add-line
+    sheet-less
+    sheet-again)

@@ -1,0 +1,28 @@
+use native.Mathlib.Omega.{arith}
+use Rattle.sheet_report.proofs.Entries as entries
+use borrow.Author.Needs.{needs}
+use Rattle.sheet_report.proofs.lay_refusal.Statement.{statement}
+use Rattle.sheet_report.proofs.lay_refusal.Tie as tie
+
+refused-requires : tie.Need-refused-requires
+refused-requires c κs = search needs
+
+returns : tie.Need-returns
+returns c = entries.refusal-none (c .before .before .before .args .out .now) (c .before .before .before .args .why) (omega (arith, (c .before .if1 .taken))) (c .refused .ensures)
+
+lay-refused-requires : tie.Need-lay-refused-requires
+lay-refused-requires c κs = search needs
+
+done-requires : tie.Need-done-requires
+done-requires c κs = search needs
+
+same-length : tie.Need-same-length
+same-length c = search needs
+
+returns-2 : tie.Need-returns-2
+returns-2 c = entries.refusal-laid (c .before .before .before .before .before .before .before .args .out .now) (c .before .before .before .before .before .before .before .args .why) (omega (arith, (c .before .before .before .before .before .if1 .left))) (c .before .before .before .lay-refused .ensures) (c .done .ensures)
+
+pub lay-refusal-spec : {M : Type 1} → statement M
+lay-refusal-spec =
+    tie.close
+    (tie.spec refused-requires returns lay-refused-requires done-requires same-length returns-2)

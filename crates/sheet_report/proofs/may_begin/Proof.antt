@@ -1,0 +1,26 @@
+use native.Mathlib.Omega.{arith}
+use Rattle.sheet_report.proofs.Entries as entries
+use borrow.Author.Needs.{needs}
+use Rattle.sheet_report.proofs.may_begin.Statement.{statement}
+use Rattle.sheet_report.proofs.may_begin.Tie as tie
+
+returns : tie.Need-returns
+returns c = entries.begins-far (c .before .before .args .text .now) (c .before .before .args .at) (c .before .before .args .line) (omega (arith, (c .if1 .taken)))
+
+returns-2 : tie.Need-returns-2
+returns-2 c = entries.begins-none (c .before .before .before .args .text .now) (c .before .before .before .args .at) (c .before .before .before .args .line) (c .if2 .taken)
+
+sub-if3 : tie.Need-sub-if3
+sub-if3 c = search needs
+
+returns-3 : tie.Need-returns-3
+returns-3 c = entries.begins-over (c .before .before .before .before .args .text .now) (c .before .before .before .before .args .at) (c .before .before .before .before .args .line) (omega (arith, (c .if3 .taken)))
+
+begins-line-requires : tie.Need-begins-line-requires
+begins-line-requires c κs = search needs
+
+returns-4 : tie.Need-returns-4
+returns-4 c = entries.begins-is (c .before .before .before .before .before .args .text .now) (c .before .before .before .before .before .args .at) (c .before .before .before .before .before .args .line) (omega (arith, (c .before .before .before .if1 .left))) (c .before .before .if2 .left) (omega (arith, (c .before .if3 .left))) (c .begins-line .ensures)
+
+pub may-begin-spec : {M : Type 1} → statement M
+may-begin-spec = tie.close (tie.spec returns returns-2 sub-if3 returns-3 begins-line-requires returns-4)

@@ -1,0 +1,36 @@
+use Rattle.set_canon.specs.Canon.{canon}
+use Rattle.set_table.specs.Types.{one}
+use Rattle.set_table.specs.Rows.{meaningOf}
+use Rattle.sheet_report.proofs.Laying as laying
+use borrow.Author.Needs.{needs}
+use Rattle.sheet_report.proofs.put_set.Statement.{statement}
+use Rattle.sheet_report.proofs.put_set.Tie as tie
+
+sub-write-set : tie.Need-sub-write-set
+sub-write-set c = search needs
+
+part-write-set-start : tie.Need-part-write-set-start
+part-write-set-start c = search needs
+
+part-write-set-end : tie.Need-part-write-set-end
+part-write-set-end c = search needs
+
+write-set-requires : tie.Need-write-set-requires
+write-set-requires c κs = search needs
+
+same-length : tie.Need-same-length
+same-length c = search needs
+
+returns : tie.Need-returns
+returns c = laying.set-put (canon (meaningOf (one (c .before .before .before .before .before .before .args .text .now)) (c .before .before .before .before .before .before .args .set))) (c .before .before .before .before .before .before .args .out .now) (c .before .before .before .before .before .before .args .at) (c .before .before .before .before .before .before .pre) (c .before .before .write-set .ensures .0) (c .before .before .write-set .ensures .1)
+
+pub put-set-spec : {M : Type 1} → statement M
+put-set-spec =
+    tie.close
+    (tie.spec
+    sub-write-set
+    part-write-set-start
+    part-write-set-end
+    write-set-requires
+    same-length
+    returns)

@@ -1,0 +1,49 @@
+use Rattle.sheet_report.proofs.Entries as entries
+use borrow.Author.Needs.{needs}
+use Rattle.sheet_report.proofs.report_start.Statement.{statement}
+use Rattle.sheet_report.proofs.report_start.Tie as tie
+
+check-text-requires : tie.Need-check-text-requires
+check-text-requires c κs = search needs
+
+enum-known-why : tie.Need-enum-known-why
+enum-known-why c = search needs
+
+lay-refusal-requires : tie.Need-lay-refusal-requires
+lay-refusal-requires c κs = search needs
+
+enum-told : tie.Need-enum-told
+enum-told c = search needs
+
+report-part-requires : tie.Need-report-part-requires
+report-part-requires c κs = search needs
+
+same-length : tie.Need-same-length
+same-length c = search needs
+
+returns : tie.Need-returns
+returns c = entries.start-refused (c .before .before .before .before .before .before .before .before .before .before .before .args .text .now) (c .before .before .before .before .before .before .before .before .before .before .before .args .join .now) (c .before .before .before .before .before .before .before .before .before .before .before .args .out .now) (c .before .before .before .before .before .before .before .check-text .ensures) (c .before .before .before .before .before .why .given .1) (c .before .before .lay-refusal .ensures)
+
+same-length-2 : tie.Need-same-length-2
+same-length-2 c = search needs
+
+same-length-3 : tie.Need-same-length-3
+same-length-3 c = search needs
+
+returns-2 : tie.Need-returns-2
+returns-2 c = entries.told-by (c .before .before .before .before .before .before .before .before .before .before .before .before .before .args .join .now) (c .before .before .before .before .before .before .before .before .before .before .before .before .before .args .out .now) (entries.start-passed (c .before .before .before .before .before .before .before .before .before .before .before .before .before .args .text .now) (c .before .before .before .before .before .before .before .before .before .before .before .before .before .args .join .now) (c .before .before .before .before .before .before .before .before .before .before .before .before .before .args .out .now) (c .before .before .before .before .before .before .before .before .before .check-text .ensures) (c .before .before .before .before .before .before .before .enum-told .given .1)) (c .before .before .before .before .report-part .ensures)
+
+pub report-start-spec : {M : Type 1} → statement M
+report-start-spec =
+    tie.close
+    (tie.spec
+    check-text-requires
+    enum-known-why
+    lay-refusal-requires
+    enum-told
+    report-part-requires
+    same-length
+    returns
+    same-length-2
+    same-length-3
+    returns-2)

@@ -1,0 +1,5 @@
+-- The definitions that the contracts of sheet_report cite.
+pub mod Decimal
+pub mod Report
+pub mod Parts
+pub mod Steps

@@ -1,0 +1,23 @@
+-- The parts of a line, as the code's own functions promise them. No definition of a public promise rests on these.
+use Prim.Native.Nat.{ℕ, _+_}
+use mathlib.Core.Path.{_≡_}
+use mathlib.Core.List.{List, _∷_, _++_}
+use lib.Dec.{leb}
+use lib.ListN.{length}
+use lib.Seq.{sets}
+use Rattle.base_refusals.specs.Numbers.{maxText}
+use Rattle.set_writer.specs.Steps.{put}
+use Rattle.sheet_report.specs.Decimal.{decimal}
+
+-- xs put at `at` of buf: where it ends, and what then stands there
+pub record Put (buf : List ℕ) (at : ℕ) (xs : List ℕ) (end : ℕ) (after : List ℕ) : Type 0 where
+  pub behind : end ≡ at + length xs
+  pub content : after ≡ sets buf at xs
+
+-- a word, the first line and the line count
+unfoldable pub front : List ℕ → ℕ → ℕ → List ℕ
+front word n k = word ++ ((9 ∷ decimal n) ++ (9 ∷ decimal k))
+
+-- xs at `at`, unless it is longer than a text may be
+unfoldable pub putShort : List ℕ → ℕ → List ℕ → List ℕ
+putShort buf at xs = put (leb (length xs) maxText) buf at xs

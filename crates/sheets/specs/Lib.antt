@@ -1,3 +1,0 @@
--- The definitions that the contracts of sheets cite.
-pub mod Sheets
-pub mod Steps

@@ -1,2 +1,0 @@
--- The definitions that the contracts of spots cite.
-pub mod Spots

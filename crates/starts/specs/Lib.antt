@@ -1,2 +1,0 @@
--- The definitions that the contract of starts cites.
-pub mod Starts

@@ -1,2 +1,0 @@
--- The laws that the proofs of the crates over tells cite.
-pub mod Laws

@@ -1,0 +1,4 @@
+-- What callers of text_escapes cite beyond the contracts.
+pub mod Pieces
+pub mod Rules
+pub mod Laws

@@ -1,0 +1,3 @@
+-- The definitions that the contracts of text_escapes cite.
+pub mod Unescape
+pub mod Rules

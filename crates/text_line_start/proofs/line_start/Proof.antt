@@ -1,0 +1,48 @@
+use Rattle.text_line_start.specs.Starts.{startAt}
+use borrow.Author.Needs.{needs}
+use Rattle.text_line_start.proofs.line_start.Statement.{statement}
+use Rattle.text_line_start.proofs.line_start.Tie as tie
+
+check-text-requires : tie.Need-check-text-requires
+check-text-requires c κs = search needs
+
+enum-known-r : tie.Need-enum-known-r
+enum-known-r c = search needs
+
+enum-told : tie.Need-enum-told
+enum-told c = search needs
+
+line-of-requires : tie.Need-line-of-requires
+line-of-requires c κs = search needs
+
+enum-told-2 : tie.Need-enum-told-2
+enum-told-2 c = search needs
+
+enum-known-r-2 : tie.Need-enum-known-r-2
+enum-known-r-2 c = search needs
+
+returns : tie.Need-returns
+unfolding startAt
+returns c = rw (← (c .before .before .before .check-text .ensures), (c .before .r .given .1))
+
+returns-2 : tie.Need-returns-2
+unfolding startAt
+returns-2 c = rw (← (c .before .before .before .before .before .check-text .ensures), (c .before .before .before .enum-told .given .1), ← (c .before .before .line-of .ensures), (c .enum-told2 .given .1))
+
+returns-3 : tie.Need-returns-3
+unfolding startAt
+returns-3 c = rw (← (c .before .before .before .before .before .before .check-text .ensures), (c .before .before .before .before .enum-told .given .1), ← (c .before .before .before .line-of .ensures), (c .before .r2 .given .1))
+
+pub line-start-spec : {M : Type 1} → statement M
+line-start-spec =
+    tie.close
+    (tie.spec
+    check-text-requires
+    enum-known-r
+    enum-told
+    line-of-requires
+    enum-told-2
+    enum-known-r-2
+    returns
+    returns-2
+    returns-3)

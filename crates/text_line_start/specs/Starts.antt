@@ -1,0 +1,35 @@
+-- Where the line of a number begins: "elsewhere 1, 2, 3, .."
+use Prim.Native.Nat.{ℕ}
+use mathlib.Core.List.{List}
+use Rattle.base_refusals.specs.Numbers.{numberOf}
+use Rattle.base_refusals.specs.declared.Refusal.{Refusal}
+use Rattle.base_refusals.specs.declared.Refusal.the-variants.{NothingThere}
+use Rattle.text_checks.specs.Check.{checkOf}
+use Rattle.text_checks.specs.declared.Check as checks
+use Rattle.text_checks.specs.declared.Check.the-variants as check
+use Rattle.text_lines.specs.Lines.{lineOf}
+use Rattle.text_lines.specs.declared.Line as places
+use Rattle.text_lines.specs.declared.Line.the-variants as place
+use Rattle.text_line_start.specs.declared.Start as starts
+use Rattle.text_line_start.specs.declared.Start.the-variants as start
+
+-- where the line of a number begins, or 1, 2, or 3: "no such line"
+abbrev pub begun : checks.Check → places.Line → starts.Start
+begun (check.Refused r) l = start.Refused r
+begun check.Passed place.Missing = start.Refused NothingThere
+begun check.Passed (place.At r) = start.At (r .from)
+
+unfoldable pub startAt : List ℕ → ℕ → starts.Start
+startAt t n = begun (checkOf t) (lineOf n t)
+
+abbrev pub onStart : {A : Type 0} → (Refusal → A) → (ℕ → A) → starts.Start → A
+onStart f g (start.Refused r) = f r
+onStart f g (start.At at) = g at
+
+-- the line's place, 0 where there is none
+abbrev pub placeOf : List ℕ → ℕ → ℕ
+placeOf t n = onStart (λ r. 0) (λ at. at) (startAt t n)
+
+-- the number of an answer: 0 where the line begins
+abbrev pub startNo : starts.Start → ℕ
+startNo s = onStart numberOf (λ at. 0) s

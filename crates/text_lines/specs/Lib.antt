@@ -1,0 +1,3 @@
+-- The definitions that the contracts of text_lines cite.
+pub mod Trim
+pub mod Lines

@@ -1,0 +1,137 @@
+// The three kinds of name, and language tags.
+ghost use mathlib.Core.Path.{_≡_};
+ghost use Rattle.base_lists.specs.Lists.{all, run};
+ghost use Rattle.base_bytes.specs.Bytes.{isAlnum, isNamePart};
+ghost use Rattle.text_names.specs.Names.{isName, isKey, isBareName};
+ghost use Rattle.text_names.specs.Tags.{isSize, isTag, isLanguage};
+
+// Whether each byte is a later byte of a name.
+fn all_parts(s: &[u8]) -> bool
+    ensures { λ r. ⌜ r ≡ all isNamePart (now (s .entry)) ⌝ }
+{
+    let mut i = 0;
+    while i < s.len() {
+        if !base_letters::is_attr_ident_part(s[i]) {
+            return false;
+        }
+        i += 1;
+    }
+    true
+}
+
+// A name, as it stands behind `#` or `.`.
+pub fn is_css_identifier(s: &[u8]) -> bool
+    ensures { λ r. ⌜ r ≡ isName (now (s .entry)) ⌝ }
+{
+    if s.len() == 0 {
+        return false;
+    }
+    if !base_letters::is_css_ident_start(s[0]) {
+        return false;
+    }
+    all_parts(&s[1..])
+}
+
+// A key, as it stands before `=`.
+pub fn is_identifier(s: &[u8]) -> bool
+    ensures { λ r. ⌜ r ≡ isKey (now (s .entry)) ⌝ }
+{
+    if s.len() == 0 {
+        return false;
+    }
+    if !base_letters::is_attr_ident_start(s[0]) {
+        return false;
+    }
+    all_parts(&s[1..])
+}
+
+// A bare name, with no value.
+pub fn is_boolean_attr_name(s: &[u8]) -> bool
+    ensures { λ r. ⌜ r ≡ isBareName (now (s .entry)) ⌝ }
+{
+    if s.len() == 0 {
+        return false;
+    }
+    if !base_letters::is_letter(s[0]) {
+        return false;
+    }
+    all_parts(&s[1..])
+}
+
+// How many letters and digits stand at the front.
+fn subtag_len(s: &[u8]) -> usize
+    ensures { λ r. ⌜ r ≡ run isAlnum (now (s .entry)) ⌝ }
+{
+    let mut i = 0;
+    while i < s.len() {
+        if !base_letters::is_alnum(s[i]) {
+            return i;
+        }
+        i += 1;
+    }
+    i
+}
+
+// A tag, by recursion on the rest of the slice behind a subtag and its hyphen.
+pub fn is_tag(s: &[u8]) -> bool
+    ensures { λ r. ⌜ r ≡ isTag (now (s .entry)) ⌝ }
+{
+    let n = subtag_len(s);
+    if n < 1 {
+        return false;
+    }
+    if 8 < n {
+        return false;
+    }
+    if n == s.len() {
+        return true;
+    }
+    if s[n] != b'-' {
+        return false;
+    }
+    is_tag(&s[n + 1..])
+}
+
+// Whether a subtag has 1 to 8 bytes.
+fn is_size(k: usize) -> bool
+    ensures { λ r. ⌜ r ≡ isSize k ⌝ }
+{
+    if k < 1 {
+        return false;
+    }
+    k <= 8
+}
+
+// The same as `is_tag` in a loop, a byte at a time: what readers of long texts ask, since it takes no more stack for a longer tag.
+fn is_long_tag(s: &[u8]) -> bool
+    ensures { λ r. ⌜ r ≡ isTag (now (s .entry)) ⌝ }
+{
+    let mut k = 0;
+    let mut i = 0;
+    while i < s.len() {
+        if base_letters::is_alnum(s[i]) {
+            k += 1;
+            i += 1;
+            continue;
+        }
+        if !is_size(k) {
+            return false;
+        }
+        if s[i] != b'-' {
+            return false;
+        }
+        k = 0;
+        i += 1;
+    }
+    is_size(k)
+}
+
+// What may stand behind `:`: nothing, or a tag.
+pub fn is_language_tag(s: &[u8]) -> bool
+    ensures { λ r. ⌜ r ≡ isLanguage (now (s .entry)) ⌝ }
+{
+    if s.len() == 0 {
+        return true;
+    }
+    is_long_tag(s)
+}

@@ -1,0 +1,3 @@
+-- What callers of text_tabs cite beyond the contracts.
+pub mod Laws
+pub mod Tabs

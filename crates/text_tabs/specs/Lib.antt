@@ -1,0 +1,2 @@
+-- The definitions that the contracts of text_tabs cite.
+pub mod Columns

@@ -1,0 +1,67 @@
+-- Well-formed UTF-8 by computing, a byte at a time; character boundaries; the count of characters.
+use Prim.Native.Nat.{ℕ, suc, _-_}
+use mathlib.Core.Bool.{Bool, false, cond, not, _&&_}
+use mathlib.Core.List.{List, [], _∷_}
+use lib.Dec.{leb, eqb}
+use lib.ListN.{length, getD}
+use Rattle.base_bytes.specs.Bytes.{within, isTail}
+
+-- `owed` more bytes belong to the character, and the next of them is from lo to hi
+pub record Want : Type 0 where
+  pub owed : ℕ
+  pub lo : ℕ
+  pub hi : ℕ
+
+-- what comes of a byte: none such may stand there, or more is wanted
+pub data Next : Type 0 where
+  bad : Next
+  go : Want → Next
+
+abbrev pub want : ℕ → ℕ → ℕ → Next
+want owed lo hi = Next.go (record { owed = owed; lo = lo; hi = hi })
+
+-- what the first byte of a character asks of those after it: how many, and the next one's range
+unfoldable pub leadOf : ℕ → Next
+leadOf a =
+    cond (leb a 0x7F) (want 0 0x80 0xBF)
+    (cond (leb a 0xC1) Next.bad
+    (cond (leb a 0xDF) (want 1 0x80 0xBF)
+    (cond (leb a 0xE0) (want 2 0xA0 0xBF)
+    (cond (leb a 0xEC) (want 2 0x80 0xBF)
+    (cond (leb a 0xED) (want 2 0x80 0x9F)
+    (cond (leb a 0xEF) (want 2 0x80 0xBF)
+    (cond (leb a 0xF0) (want 3 0x90 0xBF)
+    (cond (leb a 0xF3) (want 3 0x80 0xBF)
+    (cond (leb a 0xF4) (want 3 0x80 0x8F)
+    Next.bad)))))))))
+
+-- what is wanted after the byte a, where w was wanted before it
+unfoldable pub afterOf : Want → ℕ → Next
+afterOf w a = cond (eqb (w .owed) 0) (leadOf a) (cond (within (w .lo) (w .hi) a) (want (w .owed - 1) 0x80 0xBF) Next.bad)
+
+abbrev pub goOn : Next → (Want → Bool) → Bool
+goOn Next.bad rest = false
+goOn (Next.go v) rest = rest v
+
+-- the list is what w wants, and then characters
+unfoldable pub octetsFrom : List ℕ → Want → Bool
+octetsFrom [] w = eqb (w .owed) 0
+octetsFrom (a ∷ s) w = goOn (afterOf w a) (octetsFrom s)
+
+-- nothing is owed: a character may begin
+abbrev pub fresh : Want
+fresh = record { owed = 0; lo = 0x80; hi = 0xBF }
+
+-- the list is well-formed UTF-8
+unfoldable pub isUtf8 : List ℕ → Bool
+isUtf8 s = octetsFrom s fresh
+
+-- "on character boundaries": the place is the text's end, or a byte stands there that goes on no character.
+-- In well-formed text these are the places that part it into whole characters.
+unfoldable pub isBoundary : List ℕ → ℕ → Bool
+isBoundary s i = leb i (length s) && not (isTail (getD s i 0))
+
+-- how many characters well-formed text has: each is counted at its first byte
+unfoldable pub charCount : List ℕ → ℕ
+charCount [] = 0
+charCount (b ∷ s) = cond (isTail b) (charCount s) (suc (charCount s))

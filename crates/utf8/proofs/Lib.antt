@@ -1,7 +1,0 @@
--- The laws that the proofs of utf8 cite, and the theorems about its definitions.
-pub mod Laws
-pub mod Grammar
-pub mod Shape
-pub mod Boundaries
-pub mod Count
-pub mod Vectors

@@ -1,4 +1,0 @@
--- The definitions that the contracts of utf8 cite, and the grammar that they compute.
-pub mod Grammar
-pub mod Utf8
-pub mod Blocks

@@ -1,2 +1,0 @@
--- The definitions that the contracts of values cite.
-pub mod Values

@@ -1,3 +1,0 @@
--- The definitions that the contracts of wellformed cite.
-pub mod WellFormed
-pub mod Decide

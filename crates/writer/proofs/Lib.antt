@@ -1,8 +1,0 @@
--- What callers of writer cite beyond the contracts.
-pub mod Fills
-pub mod Writes
-pub mod Items
-pub mod Walks
-pub mod Room
-pub mod Given
-pub mod Numbers
