@@ -1,8 +1,8 @@
 //! Document 01's payload grammar, close and good line, set down after its words and not after source 000's functions.
 //!
 //! The layer holds the readings against the original on every request, so that a place where the document and the
-//! original part stops the oracle loudly. Only `close` also answers: it parts 4 from 5 and gives the payload's range,
-//! which the original tells only where it reads the payload.
+//! original part stops the oracle loudly. Two of them also answer, as the original doesn't tell: `close`, which parts 4
+//! from 5 and gives the payload's range, and `tokens`, whose places the module `rows` puts into a set's rows.
 
 use crate::ast::{AttrSlot, Attrs};
 use crate::standins::{is_ascii_blank, unescape_bytes};
@@ -72,92 +72,145 @@ impl Builder {
     }
 }
 
-fn text(bytes: &[u8]) -> String {
+pub fn text(bytes: &[u8]) -> String {
     String::from_utf8(bytes.to_vec()).expect("a part of UTF-8 text cut at ASCII bytes")
 }
 
-/// The reading of a payload in strict mode (blanks are spaces) or loose mode (also CR and LF).
-pub fn payload(src: &str, loose: bool) -> Option<Attrs> {
-    let s = src.as_bytes();
-    let blank = |at: usize| s[at] == b' ' || loose && (s[at] == b'\r' || s[at] == b'\n');
-    // Where a token ends: before a blank, or at the payload's end.
-    let ends = |at: usize| at == s.len() || blank(at);
-    let mut out = Builder::default();
-    let mut tokens = 0;
-    let mut at = 0;
-    loop {
-        while at < s.len() && blank(at) {
-            at += 1;
-        }
-        if at == s.len() {
-            return if tokens == 0 { None } else { Some(out.attrs) };
-        }
-        tokens += 1;
-        let start = at;
-        let first = s[at];
+/// How an id, class or value stands in its text: as it is, in quotes, which its range is without, or not at all.
+#[derive(Clone, Copy, Debug, PartialEq)]
+pub enum Value {
+    Plain(usize, usize),
+    Quoted(usize, usize),
+    /// A bare name's.
+    Empty,
+}
+
+/// A plain value stands as it is, a quoted one unescaped, an empty one as no bytes.
+pub fn stands_for(text: &[u8], value: Value) -> Vec<u8> {
+    match value {
+        Value::Plain(from, to) => text[from..to].to_vec(),
+        Value::Quoted(from, to) => unescape_bytes(&text[from..to]),
+        Value::Empty => Vec::new(),
+    }
+}
+
+/// A token with the places of its parts.
+pub enum Token {
+    /// `:` and its tag, which may have no bytes.
+    Lang(Value),
+    /// `#` and a name.
+    Id(Value),
+    /// `.` and a name.
+    Class(Value),
+    /// A key with its value, or a bare name; the range is the name's.
+    Named(usize, usize, Value),
+}
+
+/// A walk over a payload that goes to the end of `s`. In strict mode blanks are spaces, in loose mode also CR and LF.
+struct Walk<'a> {
+    s: &'a [u8],
+    at: usize,
+    loose: bool,
+}
+
+impl Walk<'_> {
+    fn blank(&self) -> bool {
+        self.s.get(self.at).is_some_and(|&b| b == b' ' || self.loose && (b == b'\r' || b == b'\n'))
+    }
+    /// Whether a token may end here: before a blank, or at the payload's end.
+    fn ends(&self) -> bool {
+        self.at == self.s.len() || self.blank()
+    }
+    /// The token that begins here; whether it may end where it does is for the caller to see.
+    fn token(&mut self) -> Option<Token> {
+        let start = self.at;
+        let first = self.s[start];
         if first == b':' || first == b'#' || first == b'.' {
-            while !ends(at) {
-                at += 1;
+            while !self.ends() {
+                self.at += 1;
             }
-            let rest = &s[start + 1..at];
-            match first {
-                b':' if rest.is_empty() || is_tag(rest) => out.key(b"lang", rest),
-                b'#' if is_name(rest) => out.id(rest),
-                b'.' if is_name(rest) => out.class(rest),
-                _ => return None,
-            }
-            continue;
+            let rest = &self.s[start + 1..self.at];
+            let value = Value::Plain(start + 1, self.at);
+            return match first {
+                b':' if rest.is_empty() || is_tag(rest) => Some(Token::Lang(value)),
+                b'#' if is_name(rest) => Some(Token::Id(value)),
+                b'.' if is_name(rest) => Some(Token::Class(value)),
+                _ => None,
+            };
         }
         if !(first.is_ascii_alphabetic() || first == b'_') {
             return None;
         }
-        while at < s.len() && is_name_byte(s[at]) {
-            at += 1;
+        while self.at < self.s.len() && is_name_byte(self.s[self.at]) {
+            self.at += 1;
         }
-        let name = &s[start..at];
-        if ends(at) {
-            if !first.is_ascii_alphabetic() {
-                return None;
+        let end = self.at;
+        if self.s.get(end) != Some(&b'=') {
+            return first.is_ascii_alphabetic().then_some(Token::Named(start, end, Value::Empty));
+        }
+        self.at += 1;
+        Some(Token::Named(start, end, self.value()?))
+    }
+    /// The value behind `=`.
+    fn value(&mut self) -> Option<Value> {
+        let first = *self.s.get(self.at)?;
+        if first == b'"' || first == b'\'' {
+            return self.quoted(first);
+        }
+        let from = self.at;
+        while self.at < self.s.len() && !b"}|\"'\\ \t\r\n".contains(&self.s[self.at]) {
+            self.at += 1;
+        }
+        (self.at > from).then_some(Value::Plain(from, self.at))
+    }
+    fn quoted(&mut self, quote: u8) -> Option<Value> {
+        self.at += 1;
+        let from = self.at;
+        loop {
+            match *self.s.get(self.at)? {
+                // The next character goes along; its first byte is enough, as no later byte of one is a quote.
+                b'\\' => self.at += 2,
+                b if b == quote => break,
+                _ => self.at += 1,
             }
-            out.key(name, b"");
-            continue;
         }
-        if s[at] != b'=' {
+        self.at += 1;
+        Some(Value::Quoted(from, self.at - 1))
+    }
+}
+
+/// The tokens of the payload that goes from `from` to the end of `s`: one or more, parted by blanks, which may stand at
+/// both ends.
+pub fn tokens(s: &[u8], from: usize, loose: bool) -> Option<Vec<Token>> {
+    let mut walk = Walk { s, at: from, loose };
+    let mut list = Vec::new();
+    loop {
+        while walk.blank() {
+            walk.at += 1;
+        }
+        if walk.at == s.len() {
+            return (!list.is_empty()).then_some(list);
+        }
+        list.push(walk.token()?);
+        if !walk.ends() {
             return None;
-        }
-        at += 1;
-        if at == s.len() {
-            return None;
-        }
-        let quote = s[at];
-        if quote == b'"' || quote == b'\'' {
-            at += 1;
-            let from = at;
-            loop {
-                match s.get(at) {
-                    None => return None,
-                    // The next character goes along; its first byte is enough, as no later byte of one is a quote.
-                    Some(b'\\') => at += 2,
-                    Some(&b) if b == quote => break,
-                    Some(_) => at += 1,
-                }
-            }
-            out.key(name, &unescape_bytes(&s[from..at]));
-            at += 1;
-            if !ends(at) {
-                return None;
-            }
-        } else {
-            let from = at;
-            while at < s.len() && !b"}|\"'\\ \t\r\n".contains(&s[at]) {
-                at += 1;
-            }
-            if at == from || !ends(at) {
-                return None;
-            }
-            out.key(name, &s[from..at]);
         }
     }
+}
+
+/// The reading of a payload in strict or loose mode.
+pub fn payload(src: &str, loose: bool) -> Option<Attrs> {
+    let s = src.as_bytes();
+    let mut out = Builder::default();
+    for token in tokens(s, 0, loose)? {
+        match token {
+            Token::Lang(value) => out.key(b"lang", &stands_for(s, value)),
+            Token::Id(value) => out.id(&stands_for(s, value)),
+            Token::Class(value) => out.class(&stands_for(s, value)),
+            Token::Named(from, to, value) => out.key(&s[from..to], &stands_for(s, value)),
+        }
+    }
+    Some(out.attrs)
 }
 
 /// Where the payload behind the brace at `place` ends: before the first `}` that no quote or backslash covers.

@@ -4,13 +4,13 @@
 //!     generate exhaustive FAMILY LENGTH FROM COUNT  all strings of up to LENGTH atoms, in every request of the family
 //!     generate size FAMILY LENGTH                   how many requests that is
 //!
-//! FAMILIES are names parted by commas: leaves, brace, lines, refused, merge, sheet; `all` stands for these six. The
-//! family `errors`, which is in no `all`, damages the request lines themselves.
+//! FAMILIES are names parted by commas: leaves, brace, lines, refused, merge, sheet, rows, quick; `all` stands for these
+//! eight. The family `errors`, which is in no `all`, damages the request lines themselves.
 //! Each request is made from the seed and its own number, so any part of the list can be made again.
 
 use std::io::{self, BufWriter, Write};
 
-const FAMILIES: [&str; 6] = ["leaves", "brace", "lines", "refused", "merge", "sheet"];
+const FAMILIES: [&str; 8] = ["leaves", "brace", "lines", "refused", "merge", "sheet", "rows", "quick"];
 const TEXT_LIMIT: usize = 65_535;
 
 // ---- Chance ----
@@ -612,6 +612,8 @@ fn random(family: &str, rng: &mut Rng, out: &mut Out) {
         "lines" => lines(rng, out),
         "refused" => refused(rng, out),
         "merge" => merge(rng, out),
+        "rows" => rows(rng, out),
+        "quick" => quick(rng, out),
         "errors" => errors(rng, out),
         _ => sheet(rng, out),
     }
@@ -763,6 +765,28 @@ fn place_in(rng: &mut Rng, text: &[u8]) -> u64 {
     number(rng, inside, 90)
 }
 
+/// A text with a block in it, mostly at the place.
+fn block_in_text(rng: &mut Rng, make: fn(&mut Rng) -> String) -> (Vec<u8>, u64) {
+    let mut text = Vec::new();
+    match rng.weighted(&[75, 15, 4, 6]) {
+        0 => {}
+        1 => text.extend_from_slice(prose(rng).as_bytes()),
+        2 => text.extend_from_slice(rng.pick(BROKEN)),
+        _ => text.extend_from_slice(block(rng).as_bytes()),
+    }
+    let place = text.len();
+    text.extend_from_slice(make(rng).as_bytes());
+    match rng.weighted(&[70, 12, 4, 14]) {
+        0 => {}
+        1 => text.extend_from_slice(prose(rng).as_bytes()),
+        2 => text.extend_from_slice(rng.pick(BROKEN)),
+        _ => text.extend_from_slice(block(rng).as_bytes()),
+    }
+    damage(rng, &mut text, 3);
+    let place = if rng.once_in(15) { rng.below(text.len() + 2) } else { place };
+    (text, number(rng, place, 97))
+}
+
 fn brace(rng: &mut Rng, out: &mut Out) {
     if rng.once_in(3000) {
         let mut text = if rng.percent(75) { long_line(rng) } else { long_lines(rng) }.into_bytes();
@@ -781,24 +805,7 @@ fn brace(rng: &mut Rng, out: &mut Out) {
     }
     match rng.weighted(&[55, 8, 12, 12, 13]) {
         0 | 1 => {
-            let mut text = Vec::new();
-            match rng.weighted(&[75, 15, 4, 6]) {
-                0 => {}
-                1 => text.extend_from_slice(prose(rng).as_bytes()),
-                2 => text.extend_from_slice(rng.pick(BROKEN)),
-                _ => text.extend_from_slice(block(rng).as_bytes()),
-            }
-            let place = text.len();
-            text.extend_from_slice(block(rng).as_bytes());
-            match rng.weighted(&[70, 12, 4, 14]) {
-                0 => {}
-                1 => text.extend_from_slice(prose(rng).as_bytes()),
-                2 => text.extend_from_slice(rng.pick(BROKEN)),
-                _ => text.extend_from_slice(block(rng).as_bytes()),
-            }
-            damage(rng, &mut text, 3);
-            let place = if rng.once_in(15) { rng.below(text.len() + 2) } else { place };
-            let place = number(rng, place, 97);
+            let (text, place) = block_in_text(rng, block);
             let words = if rng.once_in(8) {
                 format!("payload_at {place}")
             } else {
@@ -826,6 +833,84 @@ fn brace(rng: &mut Rng, out: &mut Out) {
             out.request("valid_wrapped_attr_continuation", &text, "");
         }
     }
+}
+
+/// A block of few names in many spellings, so that rows are met again and slots stand in every order.
+fn row_block(rng: &mut Rng) -> String {
+    let mut tokens = Vec::new();
+    for _ in 0..rng.between(1, 7) {
+        let name = rng.pick(&["k", "k", "m", "_n", "lang", "id", "class", "class"]);
+        tokens.push(match rng.below(8) {
+            0 => format!(":{}", tag(rng)),
+            1 => format!("#{name}"),
+            2 => format!(".{name}"),
+            3 if name != "_n" => name.to_string(),
+            4 | 5 => format!("{name}={}", quoted(rng)),
+            _ => format!("{name}={}", value(rng)),
+        });
+    }
+    let blank = rng.pick(&[" ", " ", " ", "  ", "\r", "\n"]);
+    let (before, behind) = (rng.pick(&["", "", " "]), rng.pick(&["", "", " "]));
+    format!("{{{before}{}{behind}}}", tokens.join(blank))
+}
+
+/// The rows of the set that is read at a brace.
+fn rows(rng: &mut Rng, out: &mut Out) {
+    let mode = rng.pick(&["strict", "strict", "loose"]);
+    if rng.once_in(3000) {
+        let mut text = long_line(rng).into_bytes();
+        damage(rng, &mut text, 6);
+        text.truncate(65_600);
+        return out.request(&format!("rows 0 {mode}"), &text, "");
+    }
+    let make = if rng.percent(60) { row_block } else { block };
+    let (text, place) = block_in_text(rng, make);
+    out.request(&format!("rows {place} {mode}"), &text, "");
+}
+
+/// What the quick test goes past, and where it may end: each kind of byte at a token's front and in its inside.
+const PASSED: &[&str] = &[".a", "#b9", ".0-_", "#_", "name", "_x-", "Z-9", " ", " ", " ", "  ", "\t", "\r"];
+const QUICK_ENDS: &[&[u8]] = &[
+    b"", b"}", b"\n", b"\"", b"'", b"\\", b":", b":en}", b"=", b"=x", b"a=", b"a=}", b"a= ", b"a=\t", b"a=\r", b"a=\n", b"a=x", b"a=\"", b"a=\x80", b"a=\x0C",
+    b"_=", b"a-=}", b"#", b".", b"#-", b".=", b"#}", b". ", b".#", b"#\x80", b".\xC3\xA9", b"-", b"0", b"9a", b"{", b"[", b"(", b"|", b"~", b"\0", b"\x7F",
+    b"\x0B", b"\x0C", b"\x80", b"\xC3\xA9", b"\xFF",
+];
+
+/// The quick test, over any bytes and at any place.
+fn quick(rng: &mut Rng, out: &mut Out) {
+    let (mut text, mut place) = (Vec::new(), 0);
+    match rng.weighted(&[5990, 1500, 1500, 1000, 10]) {
+        0 => {
+            text.extend_from_slice(if rng.percent(80) { b"" } else { rng.pick(&["}", "x", " ", "{.a", "\n"]).as_bytes() });
+            place = text.len();
+            text.push(b'{');
+            for _ in 0..rng.below(7) {
+                text.extend_from_slice(rng.pick(PASSED).as_bytes());
+            }
+            text.extend_from_slice(rng.pick(QUICK_ENDS));
+            if rng.percent(40) {
+                text.extend_from_slice(rng.pick(&["}", " ", "a", "x}", "=", " .a}"]).as_bytes());
+            }
+            damage(rng, &mut text, 5);
+        }
+        1 => {
+            let (text, place) = block_in_text(rng, block);
+            return out.request(&format!("attr_payload_provably_invalid {place}"), &text, "");
+        }
+        2 => {
+            text = utf8_mix(rng);
+            place = rng.below(text.len() + 2);
+            text.insert(place.min(text.len()), b'{');
+        }
+        3 => text.extend((0..rng.below(9)).map(|_| rng.below(256) as u8)),
+        _ => {
+            let size = long_size(rng);
+            let (filler, tail) = (rng.pick(&[".a ", "#b\t", "name ", "x", " ", "a-"]), rng.pick(&["", "}", "=", "a=x}", ".", "-", "\n"]));
+            text = filled(size, "{", filler, tail).into_bytes();
+        }
+    }
+    let place = number(rng, place, 94);
+    out.request(&format!("attr_payload_provably_invalid {place}"), &text, "");
 }
 
 fn indent_some(rng: &mut Rng, out: &mut String) {
@@ -1195,6 +1280,10 @@ const TEXT_FORMS: &[(&str, &[u8], &[u8])] = &[
     ("wrapped_attrs_run_at 0 1", b"", b""),
 ];
 
+/// Both modes, and a block that doesn't stand at the text's front, with what isn't UTF-8 before it.
+const ROW_FORMS: &[(&str, &[u8], &[u8])] =
+    &[("rows 0 strict", b"{", b"}"), ("rows 0 loose", b"{", b"}"), ("rows 3 strict", b"\xC3\xA9\xFF{", b"}{.z}")];
+
 fn sections(family: &str) -> &'static [Section] {
     match family {
         "payload" => &[Section {
@@ -1287,6 +1376,32 @@ fn sections(family: &str) -> &'static [Section] {
                 forms: REFUSED_FORMS,
             },
         ],
+        "quick" => &[Section {
+            atoms: &[
+                b"}", b"\n", b"\"", b"'", b"\\", b":", b" ", b"\t", b"\r", b"#", b".", b"=", b"-", b"_", b"a", b"0", b"\x80",
+            ],
+            forms: &[("attr_payload_provably_invalid 0", b"{", b"")],
+        }],
+        "rows" => &[
+            Section {
+                atoms: &[
+                    b"#a ", b".b ", b"k=1 ", b"k=\"\\\"2\" ", b"k ", b"_m='' ", b"id ", b"id=\"c d\" ", b"id=\xC3\xA9 ", b"class ", b"class=\"e\\\\  f\" ",
+                    b"class=' ' ", b"class=g\x0Ch ", b": ", b":en-1 ", b"lang=x ", b"lang ", b"\r", b"\n", b"}",
+                ],
+                forms: ROW_FORMS,
+            },
+            // What stands in a value.
+            Section {
+                atoms: &[b"a", b"\\", b"\"", b"'", b" ", b"\t", b"\r", b"\x0C", b"_", b"\xC3\xA9", b"}", b"\x80"],
+                forms: &[
+                    ("rows 0 strict", b"{class=\"", b"\"}"),
+                    ("rows 0 loose", b"{class='", b"'}"),
+                    ("rows 0 strict", b"{class=", b"}"),
+                    ("rows 0 strict", b"{k=\"", b"\" id=b}"),
+                    ("rows 0 loose", b"{id=", b" .b}"),
+                ],
+            },
+        ],
         "merge" => &[Section {
             atoms: &[b".a ", b".b ", b"#x ", b"#y ", b"k=1 ", b"k=2 ", b"m ", b"id ", b":en ", b"lang=\"\\\"\" ", b"class=\"c d\" ", b"}{"],
             forms: &[("merge", b"{", b"}"), ("merge_leading", b"{", b"}")],
@@ -1318,16 +1433,24 @@ fn pairs(atoms: usize, length: usize) -> u64 {
     (0..=length as u64).map(|n| (n + 1) * (atoms as u64).pow(n as u32)).sum()
 }
 
-/// The leaves begin with all 256 byte classes, then come the texts by size, then pairs of raw and unescaped text.
+/// What the quick test goes past before it meets a byte that decides.
+const BEFORE_A_BYTE: [&[u8]; 7] = [b"{", b"{ ", b"{#", b"{.", b"{.a", b"{a", b"{a="];
+
+/// The leaves begin with all 256 byte classes, then come the texts by size, then pairs of raw and unescaped text. The
+/// quick test begins with each of the 256 bytes wherever one decides.
 fn extra(family: &str, length: usize) -> u64 {
-    if family == "leaves" {
-        256 + (SIZES.len() * SIZED.len()) as u64 + pairs(ESCAPE_ATOMS.len(), length)
-    } else {
-        0
+    match family {
+        "leaves" => 256 + (SIZES.len() * SIZED.len()) as u64 + pairs(ESCAPE_ATOMS.len(), length),
+        "quick" => 256 * BEFORE_A_BYTE.len() as u64,
+        _ => 0,
     }
 }
 
-fn exhaustive_extra(mut number: u64, out: &mut Out) {
+fn exhaustive_extra(family: &str, mut number: u64, out: &mut Out) {
+    if family == "quick" {
+        let text = [BEFORE_A_BYTE[(number / 256) as usize], &[(number % 256) as u8]].concat();
+        return out.request("attr_payload_provably_invalid 0", &text, "");
+    }
     if number < 256 {
         return out.words(&format!("leaf is_class {number}"));
     }
@@ -1368,7 +1491,7 @@ fn exhaustive_size(family: &str, length: usize) -> u64 {
 
 fn exhaustive(family: &str, length: usize, mut number: u64, out: &mut Out) {
     if number < extra(family, length) {
-        return exhaustive_extra(number, out);
+        return exhaustive_extra(family, number, out);
     }
     number -= extra(family, length);
     for section in sections(family) {

@@ -7,6 +7,7 @@
 use crate::ast::{AttrSlot, Attrs};
 use crate::document;
 use crate::parse::attrs::door::{self, RefusedBraceRun};
+use crate::rows::Rows;
 use crate::standins::*;
 
 pub const TEXT_LIMIT: usize = 65_535;
@@ -135,6 +136,30 @@ fn read_payload(inner: &str, loose: bool) -> Option<Attrs> {
     let original = door::parse_attrs_with(inner, !loose);
     assert_eq!(original, document::payload(inner, loose), "document 01's grammar and the original read alike");
     original
+}
+
+/// The rows of the reading at a brace, and the place after its close. The rows are document 01's; their meaning is held
+/// against the original's set.
+pub fn rows(bytes: &[u8], place: usize, loose: bool) -> Result<(Rows, usize), Number> {
+    let (attrs, next) = read_attrs_at(bytes, place, loose)?;
+    let (from, to) = payload_at(bytes, place).expect("what was read has a payload");
+    let rows = Rows::read(&bytes[..to], from, loose).expect("what was read has tokens");
+    assert_eq!(rows.meaning(bytes), attrs, "the rows mean the original's set");
+    assert_eq!(rows.keys.len(), attrs.key_values.len(), "one row for each key");
+    Ok((rows, next))
+}
+
+/// The original's quick test on any bytes. At the last of all numbers its sum would leave its range; as behind every
+/// other place past the end, no byte stands there, and a payload that runs off the end is refused.
+pub fn attr_payload_provably_invalid(bytes: &[u8], place: usize) -> bool {
+    let answer = place == usize::MAX || door::attr_payload_provably_invalid(bytes, place);
+    if answer && place < bytes.len() {
+        if let Some(inner) = document::close(bytes, place).and_then(|to| std::str::from_utf8(&bytes[place + 1..to]).ok()) {
+            let read = [false, true].map(|loose| document::payload(inner, loose).is_some());
+            assert_eq!(read, [false, false], "the quick test refuses nothing that the grammar accepts");
+        }
+    }
+    answer
 }
 
 // ---- Payload entries: yes or no, and no for 1 and 2 ----

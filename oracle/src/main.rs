@@ -6,6 +6,7 @@ mod document;
 mod layer;
 mod parse;
 mod requests;
+mod rows;
 mod standins;
 
 use std::io::{self, BufRead, BufReader, BufWriter, Read, Write};

@@ -1,8 +1,10 @@
 //! One request line in, one answer line out.
 
 use crate::ast::Attrs;
+use crate::document::Value;
 use crate::layer::{self, Entry, MergeRefusal, Number, Refused, Trace, Traced};
 use crate::parse::attrs::door;
+use crate::rows::{Name, Rows, Slot};
 use crate::standins::*;
 use std::io::Write;
 
@@ -24,6 +26,15 @@ fn number(field: &[u8]) -> Option<usize> {
     }
     let value: u64 = std::str::from_utf8(field).ok()?.parse().ok()?;
     usize::try_from(value).ok()
+}
+
+/// The mode of a reading at a brace.
+fn is_loose(field: &[u8]) -> Option<bool> {
+    match field {
+        b"strict" => Some(false),
+        b"loose" => Some(true),
+        _ => None,
+    }
 }
 
 fn digit(byte: u8) -> Option<u8> {
@@ -84,6 +95,44 @@ fn put_canon(text: Result<Vec<u8>, Number>, out: &mut Vec<u8>) {
     }
 }
 
+fn put_value(value: Value, out: &mut Vec<u8>) {
+    match value {
+        Value::Plain(from, to) => put!(out, " plain {from} {to}"),
+        Value::Quoted(from, to) => put!(out, " quoted {from} {to}"),
+        Value::Empty => out.extend_from_slice(b" empty"),
+    }
+}
+
+/// `ok NEXT`, then the rows of each table behind their count. Here no row is past its count, and so all of them are zero.
+fn put_rows(rows: &Rows, next: usize, out: &mut Vec<u8>) {
+    put!(out, "ok {next} id");
+    match rows.id {
+        Some(value) => put_value(value, out),
+        None => out.extend_from_slice(b" none"),
+    }
+    put!(out, " classes {}", rows.classes.len());
+    for &class in &rows.classes {
+        put_value(class, out);
+    }
+    put!(out, " keys {}", rows.keys.len());
+    for &(name, value) in &rows.keys {
+        match name {
+            Name::At(from, to) => put!(out, " at {from} {to}"),
+            Name::Lang => out.extend_from_slice(b" lang"),
+        }
+        put_value(value, out);
+    }
+    put!(out, " slots {}", rows.slots.len());
+    for &slot in &rows.slots {
+        match slot {
+            Slot::Id => out.extend_from_slice(b" id"),
+            Slot::Class => out.extend_from_slice(b" class"),
+            Slot::Key(row) => put!(out, " key {row}"),
+        }
+    }
+    out.extend_from_slice(b" past zero");
+}
+
 /// `ok lines N RUN`, with the set behind it where the entry hands one out.
 fn put_block(found: Traced<Result<(Attrs, usize), Number>>, with_set: bool, out: &mut Vec<u8>) {
     match &found.answer {
@@ -110,12 +159,7 @@ fn answer_known(request: &[u8], out: &mut Vec<u8>) -> Option<()> {
     }
     match (fields[0], &fields[1..]) {
         (b"read_attrs_at", [place, mode, text]) => {
-            let (place, text) = (number(place)?, hex(text)?);
-            let loose = match *mode {
-                b"strict" => false,
-                b"loose" => true,
-                _ => return None,
-            };
+            let (place, loose, text) = (number(place)?, is_loose(mode)?, hex(text)?);
             match layer::read_attrs_at(&text, place, loose) {
                 Ok((attrs, next)) => {
                     put!(out, "ok next {next}");
@@ -123,6 +167,17 @@ fn answer_known(request: &[u8], out: &mut Vec<u8>) -> Option<()> {
                 }
                 Err(number) => put_refused(number, out),
             }
+        }
+        (b"rows", [place, mode, text]) => {
+            let (place, loose, text) = (number(place)?, is_loose(mode)?, hex(text)?);
+            match layer::rows(&text, place, loose) {
+                Ok((rows, next)) => put_rows(&rows, next, out),
+                Err(number) => put_refused(number, out),
+            }
+        }
+        (b"attr_payload_provably_invalid", [place, text]) => {
+            let (place, text) = (number(place)?, hex(text)?);
+            put_yes(layer::attr_payload_provably_invalid(&text, place), out);
         }
         (b"payload_at", [place, text]) => {
             let (place, text) = (number(place)?, hex(text)?);

@@ -1,4 +1,4 @@
-// The bytes between and in values, a function for each class, and which bytes part tokens.
+// The classes of bytes that document 01 names, with a function for each that stands between or in values, and the two modes.
 ghost use mathlib.Core.Path.{_≡_};
 ghost use Rattle.base_bytes.specs.Bytes.{isSpace, isPunct, isQuote, isPlain, isBlank, isIndent, isTail};
 

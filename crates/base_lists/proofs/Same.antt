@@ -3,11 +3,11 @@
 use mathlib.Core.Path.{_≡_, refl, ap}
 use mathlib.Core.Bool.{Bool, true, false, _&&_}
 use mathlib.Core.List.{List, [], _∷_}
-use Prim.Native.Nat.{ℕ, suc, _+_, _<_, _≤_, zero-le}
+use Prim.Native.Nat.{ℕ, suc, _+_, _<_, _≤_, zero-le, _-_}
 use native.Mathlib.Omega.{arith}
 use native.Mathlib.Numerals.{add-one}
-use borrow.Author.Tests.{eqb-true, eq-eqb, ne-eqb}
-use lib.Dec.{eqb}
+use borrow.Author.Tests.{eqb-true, eq-eqb, ne-eqb, leb-true, leb-false}
+use lib.Dec.{eqb, leb}
 use lib.ListN.{length, getD, drop, drop-of-length-le}
 use lib.Seq.{drop-cons}
 use Rattle.base_lists.specs.Lists.{same}
@@ -69,3 +69,11 @@ module _ {s t : List ℕ} {i : ℕ} (inv : Agrees s t i) where
   pub agrees-end : length s ≤ i → true ≡ same s t
   unfolding same
   agrees-end h = rw (drop-of-length-le s h, drop-of-length-le t {i = i} (omega (arith, inv .long))) at (inv .rest)
+
+pub same-nil : (k : ℕ) (t : List ℕ) → k ≤ length t → eqb k (length t) ≡ same [] (drop k t)
+unfolding same
+same-nil k t h = go (leb (length t) k) refl
+  where
+    go : (x : Bool) → leb (length t) k ≡ x → eqb k (length t) ≡ same [] (drop k t)
+    go true e = rw (drop-of-length-le t (leb-true (length t) k e)) (eq-eqb k (length t) (omega (arith, leb-true)))
+    go false e = rw (drop-cons t k 0 (leb-false (length t) k e)) (ne-eqb k (length t) (λ q. omega (arith, leb-false)))

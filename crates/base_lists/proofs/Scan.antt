@@ -1,14 +1,13 @@
 -- How `all` and `run` go on from the byte at i: what a loop over a slice asks, one law for each way on.
 -- Assumes nothing.
-use mathlib.Core.Path.{_≡_, refl, sym, _∙_}
+use mathlib.Core.Path.{_≡_, refl, _∙_}
 use mathlib.Core.Bool.{Bool, true, false, cond, _&&_}
 use mathlib.Core.List.{List, [], _∷_, _++_}
-use Prim.Native.Nat.{ℕ, suc, _+_, _<_, _≤_, zero-le}
-use native.Mathlib.Nat.{zero-add, add-zero}
+use Prim.Native.Nat.{ℕ, _+_, _<_, _≤_, zero-le, suc, _-_, zero}
 use native.Mathlib.Omega.{arith}
 use native.Mathlib.Numerals.{add-one}
 use lib.Dec.{eqb, eqb·zero-suc, eqb·suc-suc}
-use lib.ListN.{length, getD, drop, drop-of-length-le}
+use lib.ListN.{length, getD, drop, drop-of-length-le, take}
 use lib.Seq.{drop-cons}
 use Rattle.base_lists.specs.Lists.{all, run}
 
@@ -43,28 +42,6 @@ all-append f [] t e q = q
 all-append f (a ∷ s) t e q = let h = both (f a) (all f s) e in rw (h .0) (all-append f s t (h .1) q)
 
 -- ---- a loop that counts the bytes at the front that pass: i were passed
-pub record Runs (f : ℕ → Bool) (s : List ℕ) (i : ℕ) : Type 0 where
-  pub within : i ≤ length s
-  pub rest : i + run f (drop i s) ≡ run f s
-
-pub runs-start : (f : ℕ → Bool) (s : List ℕ) → Runs f s 0
-runs-start f s = record { within = zero-le; rest = zero-add (run f s) }
-
-module _ {f : ℕ → Bool} {s : List ℕ} {i : ℕ} (inv : Runs f s i) where
-  pub runs-stop : i < length s → f (getD s i 0) ≡ false → i ≡ run f s
-  unfolding run
-  runs-stop h e = sym (add-zero i) ∙ (rw (drop-cons s i 0 h, e) at (inv .rest))
-
-  pub runs-go : i < length s → f (getD s i 0) ≡ true → Runs f s (i + 1)
-  unfolding run
-  runs-go h e =
-      let r : i + suc (run f (drop (suc i) s)) ≡ run f s = rw (drop-cons s i 0 h, e) at (inv .rest) in
-      record { within = omega arith; rest = rw add-one (omega arith) }
-
-  pub runs-end : length s ≤ i → i ≡ run f s
-  unfolding run
-  runs-end h = sym (add-zero i) ∙ (rw (drop-of-length-le s h) at (inv .rest))
-
 pub run-le : (f : ℕ → Bool) (s : List ℕ) → run f s ≤ length s
 unfolding run
 run-le f [] = zero-le
@@ -95,3 +72,30 @@ all-run f (a ∷ s) = go (f a) refl (all-run f s)
     go : (x : Bool) → f a ≡ x → eqb (run f s) (length s) ≡ all f s → eqb (run f (a ∷ s)) (length (a ∷ s)) ≡ all f (a ∷ s)
     go true e ih = rw (e, eqb·suc-suc (run f s) (length s)) ih
     go false e ih = rw (e, eqb·zero-suc (length s))
+
+pub run-all : (f : ℕ → Bool) (s : List ℕ) → all f (take (run f s) s) ≡ true
+unfolding run all
+run-all f [] = refl
+run-all f (b ∷ s) = go (f b) refl (run-all f s)
+  where
+    go : (x : Bool) → f b ≡ x → all f (take (run f s) s) ≡ true → all f (take (cond x (suc (run f s)) 0) (b ∷ s)) ≡ true
+    go true p h = rw (p, h)
+    go false p h = refl
+
+pub all-drop : (f : ℕ → Bool) (n : ℕ) (s : List ℕ) → all f s ≡ true → all f (drop n s) ≡ true
+unfolding all
+all-drop f zero s e = e
+all-drop f (suc n) [] e = refl
+all-drop f (suc n) (b ∷ s) e = all-drop f n s (both (f b) (all f s) e .1)
+
+pub all-take : (f : ℕ → Bool) (n : ℕ) (s : List ℕ) → all f s ≡ true → all f (take n s) ≡ true
+unfolding all
+all-take f zero s e = refl
+all-take f (suc n) [] e = refl
+all-take f (suc n) (b ∷ s) e = rw (both (f b) (all f s) e .0) (all-take f n s (both (f b) (all f s) e .1))
+
+pub all-front : (f : ℕ → Bool) (k s : List ℕ) (i : ℕ) → all f k ≡ true → i < length k → f (getD (k ++ s) i 0) ≡ true
+unfolding all
+all-front f [] s i e h = absurd (omega arith)
+all-front f (a ∷ k) s zero e h = both (f a) (all f k) e .0
+all-front f (a ∷ k) s (suc i) e h = all-front f k s i (both (f a) (all f k) e .1) (omega arith)

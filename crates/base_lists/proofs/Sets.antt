@@ -2,12 +2,13 @@
 -- Assumes nothing.
 use mathlib.Core.Path.{_≡_, refl, _∙_}
 use mathlib.Core.List.{List, [], _∷_, _++_}
-use Prim.Native.Nat.{ℕ, suc, _+_, _<_, _≤_}
+use Prim.Native.Nat.{ℕ, suc, _+_, _<_, _≤_, _-_}
 use native.Mathlib.Nat.{add-zero, add-suc, suc-add}
 use native.Mathlib.Numerals.{add-one}
 use native.Mathlib.Omega.{arith}
-use lib.ListN.{length, getD, drop, set, length-set, drop-of-length-le}
-use lib.Seq.{sets, set-out, drop-cons}
+use lib.ListN.{length, getD, drop, set, length-set, drop-of-length-le, length-append, length-drop, take}
+use lib.Seq.{sets, set-out, drop-cons, take-set-le, drop-set-lt}
+use Rattle.base_lists.specs.Lists.{over}
 
 pub sets-append : (l : List ℕ) (i : ℕ) (xs ys : List ℕ) → sets l i (xs ++ ys) ≡ sets (sets l i xs) (i + length xs) ys
 sets-append l i [] ys = rw add-zero
@@ -35,3 +36,15 @@ module _ {buf₀ : List ℕ} {at : ℕ} {s buf : List ℕ} {k i : ℕ} (inv : Pu
 
   pub puts-full : length buf ≤ k → buf ≡ sets buf₀ at s
   puts-full h = rw (sets-out buf k (drop i s) h) at (inv .rest)
+
+-- the joined text stands at its front, and the next line is written behind
+pub over-long : (xs buf : List ℕ) → length xs ≤ length buf → length (over xs buf) ≡ length buf
+over-long xs buf h = omega (arith, length-append xs (drop (length xs) buf), length-drop (length xs) buf)
+
+pub take-sets : (xs l : List ℕ) (i j : ℕ) → i ≤ j → take i (sets l j xs) ≡ take i l
+take-sets [] l i j h = refl
+take-sets (x ∷ xs) l i j h = take-sets xs (set l j x) i (suc j) (omega arith) ∙ take-set-le i l j x h
+
+pub drop-sets : (xs l : List ℕ) (i j : ℕ) → j + length xs ≤ i → drop i (sets l j xs) ≡ drop i l
+drop-sets [] l i j h = refl
+drop-sets (x ∷ xs) l i j h = drop-sets xs (set l j x) i (suc j) (omega arith) ∙ drop-set-lt i l j x (omega arith)

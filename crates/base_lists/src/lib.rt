@@ -1,4 +1,4 @@
-// Byte strings. Most of this crate is laws about lists, which every other crate cites.
+// Lists, most of them of bytes: the words that definitions are written in, laws about lists, and two functions over byte strings.
 ghost use mathlib.Core.Path.{_≡_};
 ghost use lib.Seq.{sets};
 ghost use Rattle.base_lists.specs.Lists.{same};

@@ -1,1 +1,1 @@
-// Laws for proofs that walk code by hand. No code.
+// Laws for proofs that walk code by hand; no code.

@@ -1,11 +1,25 @@
 -- The refusals and their numbers: the table of document 01's 'Sizes and refusal numbers'.
 use Prim.Native.Nat.{ℕ}
+use mathlib.Core.Bool.{Bool}
+use mathlib.Core.List.{List}
+use lib.Dec.{ltb}
+use lib.ListN.{length}
 use Rattle.base_refusals.specs.declared.Refusal.{Refusal}
 use Rattle.base_refusals.specs.declared.Refusal.the-variants.{TextTooLong, NotUtf8, NothingThere, NoClose, NoReading, TooManyClasses, TooManyKeys, TooManySlots, JoinFull, CanonTooLong, NotWellFormed, EmptySet}
+use Rattle.base_refusals.specs.declared.Outcome.{Outcome}
+use Rattle.base_refusals.specs.declared.Outcome.the-variants.{Passed, Refused}
 
 -- "Text at most 65,535 bytes"
 abbrev pub maxText : ℕ
 maxText = 65535
+
+-- "text above 65,535 bytes"
+abbrev pub tooLong : List ℕ → Bool
+tooLong t = ltb maxText (length t)
+
+-- the last number of the table
+abbrev pub lastNumber : ℕ
+lastNumber = 12
 
 unfoldable pub numberOf : Refusal → ℕ
 -- "text above 65,535 bytes"
@@ -32,3 +46,8 @@ numberOf CanonTooLong = 10
 numberOf NotWellFormed = 11
 -- "empty set given to the writer"
 numberOf EmptySet = 12
+
+-- the number of an outcome: 0 where nothing is refused
+abbrev pub outcomeNo : Outcome → ℕ
+outcomeNo Passed = 0
+outcomeNo (Refused r) = numberOf r

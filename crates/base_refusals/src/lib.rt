@@ -1,6 +1,6 @@
 // The refusals of every entry, and their numbers.
 ghost use mathlib.Core.Path.{_≡_};
-ghost use Rattle.base_refusals.specs.Numbers.{numberOf};
+ghost use Rattle.base_refusals.specs.Numbers.{numberOf, outcomeNo};
 
 // The longest text that is read, joined or written.
 pub const MAX_TEXT: usize = 65535;
@@ -20,6 +20,12 @@ pub enum Refusal {
     EmptySet,
 }
 
+// Whether something is refused, and by what.
+pub enum Outcome {
+    Passed,
+    Refused(Refusal),
+}
+
 // The number that a person is told.
 pub fn number(r: Refusal) -> u8
     ensures { λ n. ⌜ n ≡ numberOf r ⌝ }
@@ -37,5 +43,15 @@ pub fn number(r: Refusal) -> u8
         Refusal::CanonTooLong => 10,
         Refusal::NotWellFormed => 11,
         Refusal::EmptySet => 12,
+    }
+}
+
+// The same of an outcome, 0 where nothing is refused.
+pub fn outcome_number(o: Outcome) -> u8
+    ensures { λ n. ⌜ n ≡ outcomeNo o ⌝ }
+{
+    match o {
+        Outcome::Passed => 0,
+        Outcome::Refused(r) => number(r),
     }
 }

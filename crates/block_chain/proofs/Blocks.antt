@@ -12,16 +12,16 @@ use lib.Dec.{eqb}
 use lib.ListN.{length, getD, take, drop, length-append, length-drop}
 use lib.Seq.{drop-nil, drop-cons, drop-drop, take-at, slice}
 use Rattle.base_lists.proofs.More.{contra}
-use Rattle.base_lists.proofs.Parts.{slice-part}
+use Rattle.base_lists.proofs.Parts.{slice-part, drop-behind}
 use Rattle.base_bytes.specs.declared.Mode.{Mode}
 use Rattle.block_grammar.specs.Grammar.{Placed, Payload}
 use Rattle.block_grammar.specs.Read.{Reading, readFrom, oneOrMore, readPayload}
 use Rattle.block_grammar.specs.Close.{Closes, fresh, closeFrom, findClose}
 use Rattle.block_grammar.specs.declared.Place.{Place}
 use Rattle.block_grammar.specs.declared.Place.the-variants.{Nothing, At}
-use Rattle.block_grammar.proofs.Close.{close-found, close-complete, found}
+use Rattle.block_grammar.proofs.Close.{close-found, found}
 use Rattle.block_grammar.proofs.Payload as payload
-use Rattle.block_chain.specs.Chain.{Block, Blocks, joined, blockTo, blocksFrom, readBlocks}
+use Rattle.block_chain.specs.Chain.{OneBlock, Blocks, joined, blockTo, blocksFrom, readBlocks}
 
 -- ---- what a block took is skipped
 skipped : (m : Mode) (s : List ℕ) (k at : ℕ) → blocksFrom m s k at ≡ blocksFrom m (drop k s) 0 (at + k)
@@ -30,35 +30,12 @@ skipped m [] k at = rw (drop-nil k)
 skipped m (b ∷ s) zero at = rw add-zero
 skipped m (b ∷ s) (suc k) at = rw (add-suc, ← suc-add at k) (skipped m s k (suc at))
 
--- behind the close
-past : (a : List ℕ) (c : ℕ) (b : List ℕ) → drop (suc (length a)) (a ++ (c ∷ b)) ≡ b
-past [] c b = refl
-past (x ∷ a) c b = past a c b
-
 -- ---- a brace and its close
-block-at : (m : Mode) (s : List ℕ) (at : ℕ) {e : ℕ} → closeFrom s fresh (suc at) ≡ At e → blocksFrom m (123 ∷ s) 0 at ≡ joined (readPayload m (suc at) (take (e - suc at) s)) (blocksFrom m (drop (suc (e - suc at)) s) 0 (suc e))
+pub block-at : (m : Mode) (s : List ℕ) (at : ℕ) {e : ℕ} → closeFrom s fresh (suc at) ≡ At e → blocksFrom m (123 ∷ s) 0 at ≡ joined (readPayload m (suc at) (take (e - suc at) s)) (blocksFrom m (drop (suc (e - suc at)) s) 0 (suc e))
 unfolding blocksFrom
 block-at m s at {e} h =
     let z : suc at + suc (e - suc at) ≡ suc e = omega (arith, close-found s (suc at) e h .place) in
     rw (h, skipped m s (suc (e - suc at)) (suc at), z)
-
--- ======== every line of blocks is read
-read-block : {m : Mode} {at : ℕ} {b : List ℕ} {is : List Placed} → Block m at b is → (rest : List ℕ) → blocksFrom m (b ++ rest) 0 at ≡ joined (Reading.items is) (blocksFrom m rest 0 (at + length b))
-read-block {m} {at} {is = is} (Block.block {inside = a} c f p) rest =
-    let e = suc at + length a in
-    let w : (a ++ (125 ∷ [])) ++ rest ≡ a ++ (125 ∷ rest) = append-assoc a (125 ∷ []) rest in
-    let h : closeFrom (a ++ (125 ∷ rest)) fresh (suc at) ≡ At e = close-complete (record { inside = a; rest = rest; whole = refl; place = refl; covered = c; flat = f }) in
-    let n : e - suc at ≡ length a = omega arith in
-    let l : suc e ≡ at + suc (length (a ++ (125 ∷ []))) = omega (arith, length-append a (125 ∷ [])) in
-    rw (w, block-at m (a ++ (125 ∷ rest)) at h, n, take-at a (125 ∷ rest) (length a) refl, payload.complete p, past a 125 rest, l)
-
-no-more : (m : Mode) (at : ℕ) → blocksFrom m [] 0 at ≡ Reading.items []
-unfolding blocksFrom
-no-more m at = refl
-
-complete-from : {m : Mode} {at : ℕ} {s : List ℕ} {is : List Placed} → Blocks m at s is → blocksFrom m s 0 at ≡ Reading.items is
-complete-from {m} {at} (Blocks.one {b = b} {is = is} x) = (rw append-nil at (read-block x [])) ∙ (rw (no-more m (at + length b), append-nil))
-complete-from (Blocks.more {s = s} x y) = read-block x s ∙ (rw (complete-from y))
 
 -- a block has an item
 kept : (r : Reading) (is js : List Placed) → oneOrMore r ≡ Reading.items is → oneOrMore (Reading.items (is ++ js)) ≡ Reading.items (is ++ js)
@@ -67,24 +44,16 @@ kept (Reading.items []) is js e = contra true refl (cc)
 kept (Reading.items (p ∷ ks)) [] js e = contra true refl (cc)
 kept (Reading.items (p ∷ ks)) (q ∷ is) js e = refl
 
-block-some : {m : Mode} {at : ℕ} {b : List ℕ} {is : List Placed} → Block m at b is → (js : List Placed) → oneOrMore (Reading.items (is ++ js)) ≡ Reading.items (is ++ js)
+pub block-some : {m : Mode} {at : ℕ} {b : List ℕ} {is : List Placed} → OneBlock m at b is → (js : List Placed) → oneOrMore (Reading.items (is ++ js)) ≡ Reading.items (is ++ js)
 unfolding readPayload
-block-some {m} {at} {is = is} (Block.block {inside = a} c f p) js = kept (readFrom m a 0 (suc at)) is js (payload.complete p)
-
-some : {m : Mode} {at : ℕ} {s : List ℕ} {is : List Placed} → Blocks m at s is → oneOrMore (Reading.items is) ≡ Reading.items is
-some (Blocks.one x) = rw append-nil at (block-some x [])
-some (Blocks.more {js = js} x y) = block-some x js
-
-pub complete : {m : Mode} {at : ℕ} {s : List ℕ} {is : List Placed} → Blocks m at s is → readBlocks m at s ≡ Reading.items is
-unfolding readBlocks
-complete p = rw (complete-from p) (some p)
+block-some {m} {at} {is = is} (OneBlock.block {inside = a} c f p) js = kept (readFrom m a 0 (suc at)) is js (payload.complete p)
 
 -- ======== nothing else is read
 
 -- none or more blocks
 data Row (m : Mode) : ℕ → List ℕ → List Placed → Type 0 where
   none : {at : ℕ} → Row m at [] []
-  and : {at : ℕ} {b s : List ℕ} {is js : List Placed} → Block m at b is → Row m (at + length b) s js → Row m at (b ++ s) (is ++ js)
+  and : {at : ℕ} {b s : List ℕ} {is js : List Placed} → OneBlock m at b is → Row m (at + length b) s js → Row m at (b ++ s) (is ++ js)
 
 joined-of : (r q : Reading) (is : List Placed) → joined r q ≡ Reading.items is → (hs : List Placed) × (js : List Placed) × (r ≡ Reading.items hs) × (q ≡ Reading.items js) × (is ≡ hs ++ js)
 joined-of Reading.refused q is e = contra true refl (cc)
@@ -98,8 +67,8 @@ block-row m s at e hs js c p r =
     let n : e - suc at ≡ length a = omega (arith, c .place) in
     let l : suc at + suc (length a) ≡ at + suc (length (a ++ (125 ∷ []))) = omega (arith, length-append a (125 ∷ [])) in
     let q : Payload m (suc at) a hs = payload.sound m (suc at) a hs (rw (n, c .whole, take-at a (125 ∷ c .rest) (length a) refl) at p) in
-    let t : Row m (at + suc (length (a ++ (125 ∷ [])))) (c .rest) js = rw (n, c .whole, past a 125 (c .rest), l) at r in
-    rw (c .whole, ← append-assoc a (125 ∷ []) (c .rest)) (Row.and (Block.block (c .covered) (c .flat) q) t)
+    let t : Row m (at + suc (length (a ++ (125 ∷ [])))) (c .rest) js = rw (n, c .whole, drop-behind a 125 (c .rest), l) at r in
+    rw (c .whole, ← append-assoc a (125 ∷ []) (c .rest)) (Row.and (OneBlock.block (c .covered) (c .flat) q) t)
 
 sound-from : (m : Mode) (s : List ℕ) (k at : ℕ) (is : List Placed) → blocksFrom m s k at ≡ Reading.items is → Row m (at + k) (drop k s) is
 unfolding blocksFrom
@@ -119,7 +88,7 @@ one-of Reading.refused is e = contra true refl (cc)
 one-of (Reading.items []) is e = contra true refl (cc)
 one-of (Reading.items (p ∷ js)) is e = (e, λ q. contra true refl (cc))
 
-row-blocks : {m : Mode} {at : ℕ} {b s : List ℕ} {is js : List Placed} → Block m at b is → Row m (at + length b) s js → Blocks m at (b ++ s) (is ++ js)
+row-blocks : {m : Mode} {at : ℕ} {b s : List ℕ} {is js : List Placed} → OneBlock m at b is → Row m (at + length b) s js → Blocks m at (b ++ s) (is ++ js)
 row-blocks {b = b} {is = is} x Row.none = rw (append-nil b, append-nil is) (Blocks.one x)
 row-blocks x (Row.and y r) = Blocks.more x (row-blocks y r)
 
@@ -131,14 +100,6 @@ of-row (Row.and x r) n = row-blocks x r
 pub sound : (m : Mode) (at : ℕ) (s : List ℕ) (is : List Placed) → readBlocks m at s ≡ Reading.items is → Blocks m at s is
 unfolding readBlocks
 sound m at s is e = let h = one-of (blocksFrom m s 0 at) is e in of-row (rw add-zero at (sound-from m s 0 at is (h .0))) (h .1)
-
--- at most one reading
-pub one-reading : {m : Mode} {at : ℕ} {s : List ℕ} {is js : List Placed} → Blocks m at s is → Blocks m at s js → is ≡ js
-one-reading p q = let e = complete p in let f = complete q in cc
-
--- refused only where the rules have no reading
-pub no-reading : (m : Mode) (at : ℕ) (s : List ℕ) → readBlocks m at s ≡ Reading.refused → (is : List Placed) → Blocks m at s is → ⊥
-no-reading m at s e is p = let f = complete p in contra true refl (cc)
 
 -- ======== how the reader goes on at a place i of a text
 module _ (m : Mode) (w : List ℕ) (i : ℕ) (h : i < length w) where

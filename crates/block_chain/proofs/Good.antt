@@ -18,7 +18,7 @@ use Rattle.block_grammar.specs.declared.Place.{Place}
 use Rattle.block_grammar.specs.declared.Place.the-variants.{Nothing, At}
 use Rattle.block_tokens.specs.Shown.{accepted}
 use Rattle.block_chain.specs.Chain.{joined, blocksFrom, readBlocks, goodLine}
-use Rattle.block_chain.specs.Walk.{blocksOk, Passed}
+use Rattle.block_chain.specs.Inner.{blocksOk, WentPast}
 use Rattle.block_chain.proofs.Blocks as blocks
 
 -- ---- where a payload stands changes nothing
@@ -65,11 +65,11 @@ both (Reading.items is) Reading.refused = refl
 both (Reading.items is) (Reading.items js) = refl
 
 module _ (m : Mode) (s : List ℕ) (i : ℕ) (h : i < length s) where
-  pub no-brace : (getD s i 0 ≡ 123 → ⊥) → Passed m s i Nothing
+  pub no-brace : (getD s i 0 ≡ 123 → ⊥) → WentPast m s i Nothing
   no-brace n = record { told = rw (blocks.no-brace m s i h n) }
 
   module _ (b : getD s i 0 ≡ 123) {p : Place} (f : p ≡ findClose s (i + 1)) where
-    pub no-close : p ≡ Nothing → Passed m s i Nothing
+    pub no-close : p ≡ Nothing → WentPast m s i Nothing
     no-close q = record { told = rw (blocks.no-close m s i h b f q) }
 
     module _ {e : ℕ} (q : p ≡ At e) where
@@ -83,10 +83,10 @@ module _ (m : Mode) (s : List ℕ) (i : ℕ) (h : i < length s) where
             let z : accepted (readPayload m (i + 1) (slice (i + 1) e s)) ≡ x = rw (slice-part (i + 1) e s) (anywhere m (take (e - (i + 1)) (drop (i + 1) s)) (i + 1) 0 ∙ sym g) in
             rw (blocks.block m s i h b f q, both (readPayload m (i + 1) (slice (i + 1) e s)) (blocksFrom m (drop (e + 1) s) 0 (e + 1)), z)
 
-        pub bad-payload : x ≡ false → Passed m s i Nothing
+        pub bad-payload : x ≡ false → WentPast m s i Nothing
         bad-payload y = record { told = rw y at good }
 
-        pub good-payload : x ≡ true → Passed m s i (At e)
+        pub good-payload : x ≡ true → WentPast m s i (At e)
         good-payload y = record { told = (within .0, within .1, rw y at good) }
 
 -- ---- the loop stands before the block at i, and the answer is r
@@ -102,7 +102,7 @@ module _ {m : Mode} {s : List ℕ} {r : Bool} {i : ℕ} (inv : Walks m s r i) wh
   unfolding blocksFrom
   end h = rw (drop-of-length-le s h) at (inv .rest)
 
-  module _ {p : Place} (y : Passed m s i p) where
+  module _ {p : Place} (y : WentPast m s i p) where
     pub stop : p ≡ Nothing → false ≡ r
     stop q = sym (rw q at (y .told)) ∙ inv .rest
 

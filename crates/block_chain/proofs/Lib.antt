@@ -1,5 +1,3 @@
 -- The theorems about lines of blocks, and the laws that the proofs of block_chain cite.
 pub mod Blocks
 pub mod Good
-pub mod Merged
-pub mod Stands

@@ -8,6 +8,7 @@ use lib.ListN.{length, take}
 use lib.Seq.{slice}
 use Rattle.base_bytes.specs.declared.Mode.{Mode}
 use Rattle.base_bytes.specs.declared.Mode.the-variants.{Loose}
+use Rattle.base_bytes.specs.Bytes.{closeBrace, openBrace}
 use Rattle.block_grammar.specs.Grammar.{Placed, Payload}
 use Rattle.block_grammar.specs.Read.{Reading, oneOrMore, readPayload}
 use Rattle.block_grammar.specs.Meaning.{Entry, puts}
@@ -19,13 +20,13 @@ use Rattle.block_tokens.specs.Shown.{accepted}
 -- ---- by rules
 
 -- a block whose brace stands at `at`: "the payload ends before the first `}` that no quote or backslash covers; .. An LF before it means no close."
-pub data Block (m : Mode) : ℕ → List ℕ → List Placed → Type 0 where
-  block : {at : ℕ} {inside : List ℕ} {is : List Placed} → Covered inside → noLf inside ≡ true → Payload m (suc at) inside is → Block m at (123 ∷ (inside ++ (125 ∷ []))) is
+pub data OneBlock (m : Mode) : ℕ → List ℕ → List Placed → Type 0 where
+  block : {at : ℕ} {inside : List ℕ} {is : List Placed} → Covered inside → noLf inside ≡ true → Payload m (suc at) inside is → OneBlock m at (openBrace ∷ (inside ++ (closeBrace ∷ []))) is
 
 -- one or more blocks, back to back; their items one after the other
 pub data Blocks (m : Mode) : ℕ → List ℕ → List Placed → Type 0 where
-  one : {at : ℕ} {b : List ℕ} {is : List Placed} → Block m at b is → Blocks m at b is
-  more : {at : ℕ} {b s : List ℕ} {is js : List Placed} → Block m at b is → Blocks m (at + length b) s js → Blocks m at (b ++ s) (is ++ js)
+  one : {at : ℕ} {b : List ℕ} {is : List Placed} → OneBlock m at b is → Blocks m at b is
+  more : {at : ℕ} {b s : List ℕ} {is js : List Placed} → OneBlock m at b is → Blocks m (at + length b) s js → Blocks m at (b ++ s) (is ++ js)
 
 -- the items of each block
 abbrev pub blockItems : {m : Mode} {at : ℕ} {s : List ℕ} {is : List Placed} → Blocks m at s is → List (List Placed)
@@ -52,7 +53,7 @@ blockTo m s at (At e) rest = joined (readPayload m at (take (e - at) s)) (rest (
 -- the list's first byte stands at `at`, and k bytes of the list belong to a block already read
 unfoldable pub blocksFrom : Mode → List ℕ → ℕ → ℕ → Reading
 blocksFrom m [] k at = Reading.items []
-blocksFrom m (b ∷ s) zero at = cond (eqb b 123) (blockTo m s (suc at) (closeFrom s fresh (suc at)) (λ n. blocksFrom m s n (suc at))) Reading.refused
+blocksFrom m (b ∷ s) zero at = cond (eqb b openBrace) (blockTo m s (suc at) (closeFrom s fresh (suc at)) (λ n. blocksFrom m s n (suc at))) Reading.refused
 blocksFrom m (b ∷ s) (suc k) at = blocksFrom m s k (suc at)
 
 -- "blocks stand back to back to its end": one or more

@@ -1,3 +1,3 @@
 -- The definitions that the contracts of block_chain cite.
 pub mod Chain
-pub mod Walk
+pub mod Inner

@@ -6,7 +6,7 @@ ghost use Prim.Native.Nat.{_≤_, _<_};
 ghost use lib.ListN.{length, take};
 ghost use Rattle.base_bytes.specs.declared.Mode.the-variants.{Loose};
 ghost use Rattle.block_chain.specs.Chain.{goodLine};
-ghost use Rattle.block_chain.specs.Walk.{blocksOk, Passed};
+ghost use Rattle.block_chain.specs.Inner.{blocksOk, WentPast};
 
 // The front of the text up to `to`; the whole of it where it is shorter.
 fn front(text: &[u8], to: usize) -> &[u8]
@@ -21,7 +21,7 @@ fn front(text: &[u8], to: usize) -> &[u8]
 // Where the block closes whose brace stands at i, if it is a good one.
 fn block_close(s: &[u8], i: usize) -> Place
     requires { ⌜ i < length (now s) ⌝ }
-    ensures { λ r. ⌜ Passed Loose (now (s .entry)) i r ⌝ }
+    ensures { λ r. ⌜ WentPast Loose (now (s .entry)) i r ⌝ }
 {
     if s[i] != b'{' {
         return Place::Nothing;

@@ -1,3 +1,2 @@
--- The laws that the proofs cite.
+-- The laws that the proofs of block_close cite.
 pub mod Search
-pub mod Walks

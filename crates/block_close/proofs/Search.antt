@@ -15,7 +15,7 @@ use Rattle.base_lists.specs.Lists.{all, isIn}
 use Rattle.base_lists.proofs.Steady.{met}
 use Rattle.base_lists.proofs.More.{contra, among-not}
 use Rattle.base_bytes.specs.Bytes.{isQuote}
-use Rattle.block_grammar.specs.Close.{uncovered, turned, stepOf, closeFrom, fresh, findClose}
+use Rattle.block_grammar.specs.Close.{uncovered, turned, scanStep, closeFrom, fresh, findClose}
 use Rattle.block_grammar.specs.declared.Quote.{Quote}
 use Rattle.block_grammar.specs.declared.Quote.the-variants.{In}
 use Rattle.block_grammar.specs.declared.Scan.{Scan}
@@ -24,20 +24,20 @@ use Rattle.block_grammar.specs.declared.Place.the-variants.{Nothing, At}
 use Rattle.block_grammar.proofs.Close as close
 use Rattle.block_grammar.proofs.Close.{Scans, quote-lf}
 use Rattle.block_grammar.proofs.Tokens.{quote-not}
-use Rattle.block_close.specs.Steps.{goesOn, closeBehind, Shuts}
+use Rattle.block_close.specs.Inner.{noLfFirst, closeBehind, Shuts}
 
 -- a byte that is no LF stands at k
 pub record On (s : List ℕ) (k : ℕ) : Type 0 where
   pub there : k < length s
   pub flat : eqb (getD s k 0) 10 ≡ false
 
-pub past-end : (s : List ℕ) (k : ℕ) → length s ≤ k → false ≡ goesOn (drop k s)
+pub past-end : (s : List ℕ) (k : ℕ) → length s ≤ k → false ≡ noLfFirst (drop k s)
 past-end s k h = rw (drop-of-length-le s h)
 
-pub byte-on : (s : List ℕ) (k : ℕ) → k < length s → not (eqb (getD s k 0) 10) ≡ goesOn (drop k s)
+pub byte-on : (s : List ℕ) (k : ℕ) → k < length s → not (eqb (getD s k 0) 10) ≡ noLfFirst (drop k s)
 byte-on s k h = rw (drop-cons s k 0 h)
 
-is-on : {s : List ℕ} {k : ℕ} {x : Bool} → x ≡ goesOn (drop k s) → not x ≡ false → On s k
+is-on : {s : List ℕ} {k : ℕ} {x : Bool} → x ≡ noLfFirst (drop k s) → not x ≡ false → On s k
 is-on {s} {k} {x} is e = go (leb (length s) k) refl
   where
     go : (y : Bool) → leb (length s) k ≡ y → On s k
@@ -46,15 +46,15 @@ is-on {s} {k} {x} is e = go (leb (length s) k) refl
 
 -- before byte k, the line goes on at k, and one byte further
 module _ {s : List ℕ} {r : Place} {k : ℕ} {st : Scan} (inv : Scans s r k st) {x : Bool} where
-  pub here : x ≡ goesOn (drop k s) → not x ≡ false → On s k
+  pub here : x ≡ noLfFirst (drop k s) → not x ≡ false → On s k
   here is e = is-on is e
 
-  pub next : x ≡ goesOn (drop (k + 1) s) → not x ≡ false → On s (k + 1)
+  pub next : x ≡ noLfFirst (drop (k + 1) s) → not x ≡ false → On s (k + 1)
   next is e = is-on is e
 
 -- the line ends, in any state
-pub ended : {s : List ℕ} {r : Place} {k : ℕ} {st : Scan} → Scans s r k st → goesOn (drop k s) ≡ false → Nothing ≡ r
-unfolding stepOf
+pub ended : {s : List ℕ} {r : Place} {k : ℕ} {st : Scan} → Scans s r k st → noLfFirst (drop k s) ≡ false → Nothing ≡ r
+unfolding scanStep
 ended {s} {r} {k} {st} inv e = go (leb (length s) k) refl
   where
     go : (x : Bool) → leb (length s) k ≡ x → Nothing ≡ r
@@ -64,14 +64,14 @@ ended {s} {r} {k} {st} inv e = go (leb (length s) k) refl
 -- a backslash, in a quote or outside, and the byte that it covers
 module _ {s : List ℕ} {r : Place} {k : ℕ} {q : Quote} (inv : Scans s r k (uncovered q)) (on : On s k) (e : getD s k 0 ≡ 92) where
   backslash : Scans s r (k + 1) (record { quote = q; escaped = true })
-  unfolding stepOf
+  unfolding scanStep
   backslash = close.go inv (on .there) (rw e)
 
-  pub cut : goesOn (drop (k + 1) s) ≡ false → Nothing ≡ r
+  pub cut : noLfFirst (drop (k + 1) s) ≡ false → Nothing ≡ r
   cut h = ended backslash h
 
   pub pair : On s (k + 1) → Scans s r (k + 2) (uncovered q)
-  unfolding stepOf
+  unfolding scanStep
   pair o =
       let two : k + 1 + 1 ≡ k + 2 = omega arith in
       rw two at (close.go backslash (o .there) {v = uncovered q} (rw (o .flat)))
@@ -89,25 +89,25 @@ nowhere : {s : List ℕ} {q i : ℕ} → Nothing ≡ closeFrom (drop i s) (uncov
 nowhere e = record { same = e; within = λ e h. contra true refl (cc) }
 
 module _ {s : List ℕ} {q i k : ℕ} (inv : Quoted s q i k) where
-  pub quote-ended : goesOn (drop k s) ≡ false → Shuts s q i Nothing
+  pub quote-ended : noLfFirst (drop k s) ≡ false → Shuts s q i Nothing
   quote-ended h = nowhere (ended (inv .scan) h)
 
   module _ (on : On s k) where
-    pub quote-cut : getD s k 0 ≡ 92 → goesOn (drop (k + 1) s) ≡ false → Shuts s q i Nothing
+    pub quote-cut : getD s k 0 ≡ 92 → noLfFirst (drop (k + 1) s) ≡ false → Shuts s q i Nothing
     quote-cut e h = nowhere (cut (inv .scan) on e h)
 
     pub quote-pair : getD s k 0 ≡ 92 → On s (k + 1) → Quoted s q i (k + 2)
     quote-pair e o = record { scan = pair (inv .scan) on e o; from = omega (arith, inv .from) }
 
     pub quote-byte : (getD s k 0 ≡ q → ⊥) → (getD s k 0 ≡ 92 → ⊥) → Quoted s q i (k + 1)
-    unfolding stepOf turned
+    unfolding scanStep turned
     quote-byte n w = record {
       scan = close.go (inv .scan) (on .there) {v = uncovered (In q)} (rw (on .flat, ne-eqb (getD s k 0) 92 w, ne-eqb (getD s k 0) q n));
       from = omega (arith, inv .from);
     }
 
     pub shut : isQuote q ≡ true → getD s k 0 ≡ q → Shuts s q i (At k)
-    unfolding stepOf turned findClose
+    unfolding scanStep turned findClose
     shut h e =
         let o = close.go (inv .scan) (on .there) {v = fresh} (rw (e, quote-lf q h, ne-eqb q 92 (quote-not q h), eq-eqb q q refl)) in
         record { same = o .rest; within = λ x p. let z : k ≡ x = cc in omega (arith, inv .from, on .there) }
@@ -123,17 +123,17 @@ quote-brace q h = among-not (λ x. eqb x 125) (34 ∷ 39 ∷ []) q refl h
 
 module _ {s : List ℕ} {r : Place} {k : ℕ} (inv : Scans s r k fresh) (on : On s k) where
   pub closed : getD s k 0 ≡ 125 → At k ≡ r
-  unfolding stepOf
+  unfolding scanStep
   closed e = close.closed inv (on .there) (rw e)
 
   pub byte : (getD s k 0 ≡ 125 → ⊥) → (getD s k 0 ≡ 92 → ⊥) → (OneOf (34 ∷ 39 ∷ []) (getD s k 0) → ⊥) → Scans s r (k + 1) fresh
-  unfolding stepOf turned isQuote isIn
+  unfolding scanStep turned isQuote isIn
   byte c w n = close.go inv (on .there) {v = fresh} (rw (on .flat, ne-eqb (getD s k 0) 92 w, ne-eqb (getD s k 0) 125 c, ne-eqb (getD s k 0) 34 (λ e. n (inl e)), ne-eqb (getD s k 0) 39 (λ e. n (inr e))))
 
   -- a quote: the search is the one behind its close
   module _ (h : OneOf (34 ∷ 39 ∷ []) (getD s k 0)) {p : Place} (q : Shuts s (getD s k 0) (k + 1) p) where
     behind : closeBehind s p ≡ r
-    unfolding stepOf turned
+    unfolding scanStep turned
     behind =
         let b = getD s k 0 in
         let x = quoting h in

@@ -1,3 +1,2 @@
--- What private functions promise: of the search for the close, and of the quick test.
-pub mod Steps
-pub mod Walks
+-- What the private functions of block_close promise.
+pub mod Inner

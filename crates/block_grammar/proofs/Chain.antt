@@ -11,12 +11,12 @@ use Rattle.base_lists.proofs.Scan.{both}
 use Rattle.base_lists.proofs.More.{contra}
 use Rattle.base_bytes.specs.declared.Mode.{Mode}
 use Rattle.base_bytes.specs.Bytes.{isBlank}
-use Rattle.block_grammar.specs.Grammar.{Item, Placed, Token, Blanks, Gap, Tokens, Payload}
+use Rattle.block_grammar.specs.Grammar.{Item, Placed, IsToken, Blanks, Gap, Tokens, Payload}
 
 pub data Chain (m : Mode) : ℕ → List ℕ → List Placed → Type 0 where
   blank : {at b : ℕ} {s : List ℕ} {is : List Placed} → isBlank m b ≡ true → Chain m (suc at) s is → Chain m at (b ∷ s) is
-  last : {at : ℕ} {t e : List ℕ} {i : Item} → Token t i → Blanks m e → Chain m at (t ++ e) (record { at = at; item = i } ∷ [])
-  more : {at : ℕ} {t s : List ℕ} {i : Item} {is : List Placed} (b : ℕ) → Token t i → isBlank m b ≡ true → Chain m (suc (at + length t)) s is → Chain m at (t ++ (b ∷ s)) (record { at = at; item = i } ∷ is)
+  last : {at : ℕ} {t e : List ℕ} {i : Item} → IsToken t i → Blanks m e → Chain m at (t ++ e) (record { at = at; item = i } ∷ [])
+  more : {at : ℕ} {t s : List ℕ} {i : Item} {is : List Placed} (b : ℕ) → IsToken t i → isBlank m b ≡ true → Chain m (suc (at + length t)) s is → Chain m at (t ++ (b ∷ s)) (record { at = at; item = i } ∷ is)
 
 pub no-blanks : (m : Mode) → Blanks m []
 unfolding all
@@ -34,7 +34,7 @@ behind m (c ∷ b) {at} h p =
     let g = both (isBlank m c) (all (isBlank m) b) h in
     Chain.blank (g .0) (behind m b (g .1) (rw (add-suc, ← suc-add at (length b)) at p))
 
-across : (m : Mode) (b : List ℕ) {at : ℕ} {t s : List ℕ} {i : Item} {is : List Placed} → Token t i → headed (isBlank m) (isBlank m) b ≡ true → Chain m (at + length t + length b) s is → Chain m at (t ++ (b ++ s)) (record { at = at; item = i } ∷ is)
+across : (m : Mode) (b : List ℕ) {at : ℕ} {t s : List ℕ} {i : Item} {is : List Placed} → IsToken t i → headed (isBlank m) (isBlank m) b ≡ true → Chain m (at + length t + length b) s is → Chain m at (t ++ (b ++ s)) (record { at = at; item = i } ∷ is)
 unfolding headed
 across m [] h g p = contra false g refl
 across m (c ∷ b) {at} {t} h g p =
@@ -61,7 +61,7 @@ gap : {m : Mode} (c : ℕ) {b : List ℕ} → isBlank m c ≡ true → Blanks m 
 unfolding headed
 gap c h e = record { each = rw h (e .each) }
 
-before : {m : Mode} {at : ℕ} {t s : List ℕ} {i : Item} {is : List Placed} (c : ℕ) → Token t i → isBlank m c ≡ true → Payload m (suc (at + length t)) s is → Payload m at (t ++ (c ∷ s)) (record { at = at; item = i } ∷ is)
+before : {m : Mode} {at : ℕ} {t s : List ℕ} {i : Item} {is : List Placed} (c : ℕ) → IsToken t i → isBlank m c ≡ true → Payload m (suc (at + length t)) s is → Payload m at (t ++ (c ∷ s)) (record { at = at; item = i } ∷ is)
 before {m} {at} {t = t} {i = i} {is = is} c h q (Payload.payload {b = b} {t = u} {e = e} p r f) =
     let z : Tokens m (at + length t + length (c ∷ b)) u is = rw (add-suc, ← suc-add (at + length t) (length b)) r in
     let w : Payload m at ((t ++ (c ∷ (b ++ u))) ++ e) (record { at = at; item = i } ∷ is) = from-tokens (Tokens.more h (gap c q p) z) f in

@@ -5,8 +5,4 @@ pub mod Chain
 pub mod Payload
 pub mod Loop
 pub mod Places
-pub mod Pieces
-pub mod Views
 pub mod Close
-pub mod Quick
-pub mod Characters

@@ -6,7 +6,6 @@ use mathlib.Core.List.{List, [], _∷_}
 use Prim.Native.Nat.{ℕ, suc, _+_, _<_, _≤_, zero-le}
 use native.Mathlib.Nat.{add-zero, add-suc, suc-add}
 use native.Mathlib.Omega.{arith}
-use native.Mathlib.Numerals.{add-one}
 use lib.ListN.{length, getD, drop, drop-of-length-le, length-drop, length-append}
 use lib.Seq.{drop-cons, drop-drop, drop-append-seam, getD-drop}
 use Rattle.base_lists.specs.Lists.{run}
@@ -15,7 +14,7 @@ use Rattle.base_lists.proofs.More.{run-stops}
 use Rattle.base_bytes.specs.declared.Mode.{Mode}
 use Rattle.base_bytes.specs.Bytes.{isBlank}
 use Rattle.block_grammar.specs.Grammar.{Item, Placed}
-use Rattle.block_grammar.specs.Read.{First, Reading, text, tokenOf, also, readFrom, oneOrMore, readPayload}
+use Rattle.block_grammar.specs.Read.{First, Reading, text, tokenOf, also, readFrom}
 use Rattle.block_grammar.proofs.Tokens.{token-sound}
 use Rattle.block_grammar.proofs.Payload.{blank-step, token-step}
 
@@ -51,24 +50,10 @@ module _ {S R : Type 0} (step : S → Placed → S) (bad : R) (out : S → R) wh
   pub start : (m : Mode) (s : List ℕ) (at : ℕ) (st : S) → Reads m s at (fill st (readFrom m s 0 at)) 0 st
   start m s at st = record { within = zero-le; rest = rw add-zero }
 
-  -- where the first state already answers `bad`, a payload with no token needs no test of its own
-  pub payload : (m : Mode) (s : List ℕ) (at : ℕ) (st : S) → out st ≡ bad → Reads m s at (fill st (readPayload m at s)) 0 st
-  unfolding readPayload
-  payload m s at st e = rw (go (readFrom m s 0 at)) (start m s at st)
-    where
-      go : (r : Reading) → fill st (oneOrMore r) ≡ fill st r
-      go Reading.refused = refl
-      go (Reading.items []) = sym e
-      go (Reading.items (p ∷ is)) = refl
-
   module _ {m : Mode} {s : List ℕ} {at : ℕ} {r : R} {i : ℕ} {st : S} (inv : Reads m s at r i st) where
     pub end : length s ≤ i → out st ≡ r
     unfolding readFrom
     end h = rw (drop-of-length-le s h) at (inv .rest)
-
-    pub blank : i < length s → isBlank m (getD s i 0) ≡ true → Reads m s at r (i + 1) st
-    unfolding readFrom
-    blank h b = record { within = omega arith; rest = rw (add-one i, add-suc) (rw (drop-cons s i 0 h, b) at (inv .rest)) }
 
     pub none : i < length s → isBlank m (getD s i 0) ≡ false → tokenOf m (drop i s) ≡ First.none → bad ≡ r
     unfolding readFrom

@@ -11,24 +11,25 @@ use lib.Seq.{drop-nil}
 use Rattle.base_lists.specs.Lists.{all, headed}
 use Rattle.base_lists.proofs.Scan.{both}
 use Rattle.base_lists.proofs.More.{contra}
+use Rattle.base_lists.proofs.Parts.{drop-behind}
 use Rattle.base_bytes.specs.declared.Mode.{Mode}
 use Rattle.base_bytes.specs.Bytes.{isBlank, within, isLetter, isNamePart, isKeyStart}
 use Rattle.text_names.specs.Names.{isKey}
-use Rattle.block_grammar.specs.Grammar.{Item, Placed, Token, Blanks, Payload}
+use Rattle.block_grammar.specs.Grammar.{Item, Placed, IsToken, Blanks, Payload}
 use Rattle.block_grammar.specs.Read.{First, Reading, ends, text, tokenOf, also, tailOf, turn, readFrom, oneOrMore, readPayload}
 use Rattle.block_grammar.proofs.Bytes.{blanks, not-blank, bare-key}
-use Rattle.block_grammar.proofs.Tokens.{token-complete, token-sound, drop-past}
+use Rattle.block_grammar.proofs.Tokens.{token-complete, token-sound}
 use Rattle.block_grammar.proofs.Chain.{Chain, no-blanks, blanks-cons, payload-chain, chain-payload}
 
 -- ---- tokens
-pub token-text : {t : List ℕ} {i : Item} → Token t i → text i ≡ t
+pub token-text : {t : List ℕ} {i : Item} → IsToken t i → text i ≡ t
 unfolding text
-token-text (Token.colon h) = refl
-token-text (Token.hash h) = refl
-token-text (Token.dot h) = refl
-token-text (Token.plain h g) = refl
-token-text (Token.quoted h g v) = refl
-token-text (Token.bare h) = refl
+token-text (IsToken.tag h) = refl
+token-text (IsToken.id h) = refl
+token-text (IsToken.class h) = refl
+token-text (IsToken.plain h g) = refl
+token-text (IsToken.quoted h g v) = refl
+token-text (IsToken.bare h) = refl
 
 -- a token's first byte is there and is no blank
 pub record Front (m : Mode) (t : List ℕ) : Type 0 where
@@ -45,14 +46,14 @@ unfolding isKey headed all isKeyStart isLetter within
 key-front m [] s e = contra false e refl
 key-front m (a ∷ k) s e = record { head = a; tail = k ++ s; is = refl; solid = not-blank isKeyStart m a refl (both (isKeyStart a) (all isNamePart k) e .0) }
 
-pub token-front : {t : List ℕ} {i : Item} (m : Mode) → Token t i → Front m t
+pub token-front : {t : List ℕ} {i : Item} (m : Mode) → IsToken t i → Front m t
 unfolding all
-token-front m (Token.colon {t = t} h) = byte-front m 58 t refl refl
-token-front m (Token.hash {n = t} h) = byte-front m 35 t refl refl
-token-front m (Token.dot {n = t} h) = byte-front m 46 t refl refl
-token-front m (Token.plain {k = k} {v = v} h g) = key-front m k (61 ∷ v) h
-token-front m (Token.quoted {k = k} {q = q} {v = v} h g i) = key-front m k (61 ∷ (q ∷ (v ++ (q ∷ [])))) h
-token-front m (Token.bare {n = n} h) = rw append-nil at (key-front m n [] (bare-key n h))
+token-front m (IsToken.tag {t = t} h) = byte-front m 58 t refl refl
+token-front m (IsToken.id {n = t} h) = byte-front m 35 t refl refl
+token-front m (IsToken.class {n = t} h) = byte-front m 46 t refl refl
+token-front m (IsToken.plain {k = k} {v = v} h g) = key-front m k (61 ∷ v) h
+token-front m (IsToken.quoted {k = k} {q = q} {v = v} h g i) = key-front m k (61 ∷ (q ∷ (v ++ (q ∷ [])))) h
+token-front m (IsToken.bare {n = n} h) = rw append-nil at (key-front m n [] (bare-key n h))
 
 -- ---- what a token took is skipped
 skip : (m : Mode) (t s : List ℕ) (at : ℕ) → readFrom m (t ++ s) (length t) at ≡ readFrom m s 0 (at + length t)
@@ -74,7 +75,7 @@ token-step′ : (m : Mode) (b : ℕ) (s rest : List ℕ) (i : Item) (at : ℕ) �
 unfolding readFrom
 token-step′ m b s rest i at h e q = rw (h, e, q, skip m s rest (suc at), add-suc, suc-add)
 
-pub token-step : {t : List ℕ} {i : Item} (m : Mode) → Token t i → (rest : List ℕ) (at : ℕ) → ends m rest ≡ true → readFrom m (t ++ rest) 0 at ≡ also (record { at = at; item = i }) (readFrom m rest 0 (at + length t))
+pub token-step : {t : List ℕ} {i : Item} (m : Mode) → IsToken t i → (rest : List ℕ) (at : ℕ) → ends m rest ≡ true → readFrom m (t ++ rest) 0 at ≡ also (record { at = at; item = i }) (readFrom m rest 0 (at + length t))
 token-step {t} {i} m h rest at e =
     let f = token-front m h in
     let c = rw (f .is) at (token-complete m h rest e) in
@@ -113,7 +114,7 @@ rest-blank : {m : Mode} {at : ℕ} {s : List ℕ} {is : List Placed} (b : ℕ) �
 rest-blank b h (Rest.empty e) = Rest.empty (blanks-cons b h e)
 rest-blank b h (Rest.full p) = Rest.full (Chain.blank h p)
 
-rest-token : {m : Mode} {at : ℕ} {t s : List ℕ} {i : Item} {is : List Placed} (b : ℕ) → Token t i → isBlank m b ≡ true → Rest m (suc (at + length t)) s is → Rest m at (t ++ (b ∷ s)) (record { at = at; item = i } ∷ is)
+rest-token : {m : Mode} {at : ℕ} {t s : List ℕ} {i : Item} {is : List Placed} (b : ℕ) → IsToken t i → isBlank m b ≡ true → Rest m (suc (at + length t)) s is → Rest m at (t ++ (b ∷ s)) (record { at = at; item = i } ∷ is)
 rest-token b t h (Rest.empty e) = Rest.full (Chain.last t (blanks-cons b h e))
 rest-token b t h (Rest.full p) = Rest.full (Chain.more b t h p)
 
@@ -129,14 +130,14 @@ unfolding readFrom
 none-left m at = refl
 
 -- behind the token b ∷ t, where the induction hypothesis knows the rest
-token-rest : (m : Mode) (t rest : List ℕ) (b : ℕ) (s : List ℕ) (i : Item) (at : ℕ) (is : List Placed) → Token (b ∷ t) i → ends m rest ≡ true → t ++ rest ≡ s → readFrom m s (length t) (suc at) ≡ Reading.items is → ((k : ℕ) → readFrom m s k (suc at) ≡ Reading.items is → Rest m (suc at + k) (drop k s) is) → Rest m at (b ∷ s) (record { at = at; item = i } ∷ is)
+token-rest : (m : Mode) (t rest : List ℕ) (b : ℕ) (s : List ℕ) (i : Item) (at : ℕ) (is : List Placed) → IsToken (b ∷ t) i → ends m rest ≡ true → t ++ rest ≡ s → readFrom m s (length t) (suc at) ≡ Reading.items is → ((k : ℕ) → readFrom m s k (suc at) ≡ Reading.items is → Rest m (suc at + k) (drop k s) is) → Rest m at (b ∷ s) (record { at = at; item = i } ∷ is)
 unfolding ends
 token-rest m t [] b s i at is h e q r ih =
     let z : is ≡ [] = items-is is (sym r ∙ (rw (← q) (skip m t [] (suc at))) ∙ none-left m (suc at + length t)) in
     rw (z, ← q) (Rest.full (Chain.last h (no-blanks m)))
 token-rest m t (c ∷ rest) b s i at is h e q r ih =
     let x : readFrom m s (suc (length t)) (suc at) ≡ Reading.items is = rw (← q) (skip-blank m t c rest (suc at) ∙ sym (blank-step m c rest (suc at + length t) e) ∙ sym (skip m t (c ∷ rest) (suc at)) ∙ (rw (← q) at r)) in
-    let y = rw (← q, drop-past t c rest, suc-add) at (ih (suc (length t)) x) in
+    let y = rw (← q, drop-behind t c rest, suc-add) at (ih (suc (length t)) x) in
     rw (← q) (rest-token c h e y)
 
 token-case : (m : Mode) (b : ℕ) (s : List ℕ) (i : Item) (at : ℕ) (js : List Placed) → tokenOf m (b ∷ s) ≡ First.token i → readFrom m s (tailOf (text i)) (suc at) ≡ Reading.items js → ((k : ℕ) → readFrom m s k (suc at) ≡ Reading.items js → Rest m (suc at + k) (drop k s) js) → Rest m at (b ∷ s) (record { at = at; item = i } ∷ js)
@@ -146,7 +147,7 @@ token-case m b s i at js q r ih =
     let whole : h .head ∷ (h .tail ++ f .rest) ≡ b ∷ s = rw (h .is) at (f .whole) in
     let one : h .head ≡ b = cc in
     let two : h .tail ++ f .rest ≡ s = cc in
-    let t′ : Token (b ∷ h .tail) i = rw (h .is, one) at (f .token) in
+    let t′ : IsToken (b ∷ h .tail) i = rw (h .is, one) at (f .token) in
     token-rest m (h .tail) (f .rest) b s i at js t′ (f .ended) two (rw (h .is) at r) ih
 
 sound-from : (m : Mode) (s : List ℕ) (k at : ℕ) (is : List Placed) → readFrom m s k at ≡ Reading.items is → Rest m (at + k) (drop k s) is
@@ -181,11 +182,3 @@ sound m at s is e =
 pub complete : {m : Mode} {at : ℕ} {s : List ℕ} {is : List Placed} → Payload m at s is → readPayload m at s ≡ Reading.items is
 unfolding readPayload
 complete p = let c = payload-chain p in rw (complete-from c) (one-or-more c)
-
--- at most one reading
-pub one-reading : {m : Mode} {at : ℕ} {s : List ℕ} {is js : List Placed} → Payload m at s is → Payload m at s js → is ≡ js
-one-reading p q = let e = complete p in let f = complete q in cc
-
--- refused only where the grammar has no reading
-pub no-reading : (m : Mode) (at : ℕ) (s : List ℕ) → readPayload m at s ≡ Reading.refused → (is : List Placed) → Payload m at s is → ⊥
-no-reading m at s e is p = let f = complete p in contra true refl (cc)

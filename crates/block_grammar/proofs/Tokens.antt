@@ -11,12 +11,13 @@ use borrow.Author.Tests.{eqb-true, eqb-false, ne-eqb, eq-eqb}
 use Rattle.base_lists.specs.Lists.{all, headed, run, isIn}
 use Rattle.base_lists.proofs.Scan.{both}
 use Rattle.base_lists.proofs.More.{contra, apart, among-not, not-in, headed-all, stops, take-run, drop-run}
+use Rattle.base_lists.proofs.Parts.{drop-behind}
 use Rattle.base_bytes.specs.declared.Mode.{Mode}
 use Rattle.base_bytes.specs.Bytes.{isBlank, within, isLetter, isDigit, isAlnum, isNamePart, isKeyStart, isQuote, isPlain}
 use Rattle.text_names.specs.Names.{isName, isKey, isBareName}
 use Rattle.text_names.specs.Tags.{isLanguage}
 use Rattle.text_names.proofs.Grammar.{language-sound, language-complete}
-use Rattle.block_grammar.specs.Grammar.{Item, Inside, Token, isValue}
+use Rattle.block_grammar.specs.Grammar.{Item, Inside, IsToken, isValue}
 use Rattle.block_grammar.specs.Read.{First, Shut, ends, finish, text, later, shutStep, shutOf, quotedToken, plainToken, valueToken, afterName, nameToken, wordToken, tokenOf}
 use Rattle.block_grammar.proofs.Bytes.{blank-not, ends-stop, part-ends, name-parts, key-parts, bare-key, language-parts}
 
@@ -88,25 +89,21 @@ pub quote-not : (q : ℕ) → isQuote q ≡ true → q ≡ 92 → ⊥
 unfolding isQuote all
 quote-not q h = eqb-false q 92 (among-not (λ x. eqb x 92) (34 ∷ 39 ∷ []) q refl h)
 
-pub drop-past : (v : List ℕ) (q : ℕ) (rest : List ℕ) → drop (suc (length v)) (v ++ (q ∷ rest)) ≡ rest
-drop-past [] q rest = refl
-drop-past (a ∷ v) q rest = drop-past v q rest
-
 quoted-read : (m : Mode) (k : List ℕ) (q : ℕ) (v rest : List ℕ) → isQuote q ≡ true → Inside q v → ends m rest ≡ true → valueToken m k (q ∷ ((v ++ (q ∷ [])) ++ rest)) ≡ First.token (Item.quoted k q v)
 unfolding valueToken
 quoted-read m k q v rest h i e =
-    rw (h, append-assoc v (q ∷ []) rest, shuts i (quote-not q h) rest, take-append-seam v (q ∷ rest), drop-past v q rest)
+    rw (h, append-assoc v (q ∷ []) rest, shuts i (quote-not q h) rest, take-append-seam v (q ∷ rest), drop-behind v q rest)
     (done m true (Item.quoted k q v) rest refl e)
 
-pub token-complete : {t : List ℕ} {i : Item} (m : Mode) → Token t i → (rest : List ℕ) → ends m rest ≡ true → tokenOf m (t ++ rest) ≡ First.token i
+pub token-complete : {t : List ℕ} {i : Item} (m : Mode) → IsToken t i → (rest : List ℕ) → ends m rest ≡ true → tokenOf m (t ++ rest) ≡ First.token i
 unfolding tokenOf
-token-complete m (Token.colon {t = t} h) rest e = word-read m isLanguage (λ t. Item.tag t) t rest (language-complete h) (language-parts h) e
-token-complete m (Token.hash {n = n} h) rest e = word-read m isName (λ n. Item.id n) n rest h (name-parts n h) e
-token-complete m (Token.dot {n = n} h) rest e = word-read m isName (λ n. Item.class n) n rest h (name-parts n h) e
-token-complete m (Token.plain {k = k} {v = v} h g) rest e = rw (append-assoc k (61 ∷ v) rest, key-read m k (v ++ rest) h) (plain-read m k v rest g e)
-token-complete m (Token.quoted {k = k} {q = q} {v = v} h g i) rest e =
+token-complete m (IsToken.tag {t = t} h) rest e = word-read m isLanguage (λ t. Item.tag t) t rest (language-complete h) (language-parts h) e
+token-complete m (IsToken.id {n = n} h) rest e = word-read m isName (λ n. Item.id n) n rest h (name-parts n h) e
+token-complete m (IsToken.class {n = n} h) rest e = word-read m isName (λ n. Item.class n) n rest h (name-parts n h) e
+token-complete m (IsToken.plain {k = k} {v = v} h g) rest e = rw (append-assoc k (61 ∷ v) rest, key-read m k (v ++ rest) h) (plain-read m k v rest g e)
+token-complete m (IsToken.quoted {k = k} {q = q} {v = v} h g i) rest e =
     rw (append-assoc k (61 ∷ (q ∷ (v ++ (q ∷ [])))) rest, key-read m k (q ∷ ((v ++ (q ∷ [])) ++ rest)) h) (quoted-read m k q v rest g i e)
-token-complete m (Token.bare {n = n} h) rest e = bare-read m n rest h e
+token-complete m (IsToken.bare {n = n} h) rest e = bare-read m n rest h e
 
 -- ======== nothing else is read
 
@@ -114,7 +111,7 @@ token-complete m (Token.bare {n = n} h) rest e = bare-read m n rest h e
 pub record Found (m : Mode) (s : List ℕ) (i : Item) : Type 0 where
   pub rest : List ℕ
   pub whole : text i ++ rest ≡ s
-  pub token : Token (text i) i
+  pub token : IsToken (text i) i
   pub ended : ends m rest ≡ true
 
 finished : (m : Mode) (good : Bool) (i j : Item) (rest : List ℕ) → finish m good i rest ≡ First.token j → (good ≡ true) × (ends m rest ≡ true) × (i ≡ j)
@@ -127,7 +124,7 @@ finished m good i j rest e = go good (ends m rest) refl refl e
     go false b p q e = contra true refl (cc)
 
 -- behind a byte c that says which kind of item it is
-word-found : (m : Mode) (c : ℕ) (test : List ℕ → Bool) (item : List ℕ → Item) (s : List ℕ) (j : Item) → ((n : List ℕ) → text (item n) ≡ c ∷ n) → ((n : List ℕ) → test n ≡ true → Token (c ∷ n) (item n)) → wordToken m test item s ≡ First.token j → Found m (c ∷ s) j
+word-found : (m : Mode) (c : ℕ) (test : List ℕ → Bool) (item : List ℕ → Item) (s : List ℕ) (j : Item) → ((n : List ℕ) → text (item n) ≡ c ∷ n) → ((n : List ℕ) → test n ≡ true → IsToken (c ∷ n) (item n)) → wordToken m test item s ≡ First.token j → Found m (c ∷ s) j
 word-found m c test item s j x w e =
     let n = run isNamePart s in
     let h = finished m (test (take n s)) (item (take n s)) j (drop n s) e in
@@ -135,15 +132,15 @@ word-found m c test item s j x w e =
 
 colon-found : (m : Mode) (s : List ℕ) (j : Item) → wordToken m isLanguage (λ t. Item.tag t) s ≡ First.token j → Found m (58 ∷ s) j
 unfolding text
-colon-found m s j e = word-found m 58 isLanguage (λ t. Item.tag t) s j (λ t. refl) (λ t h. Token.colon (language-sound t h)) e
+colon-found m s j e = word-found m 58 isLanguage (λ t. Item.tag t) s j (λ t. refl) (λ t h. IsToken.tag (language-sound t h)) e
 
 hash-found : (m : Mode) (s : List ℕ) (j : Item) → wordToken m isName (λ n. Item.id n) s ≡ First.token j → Found m (35 ∷ s) j
 unfolding text
-hash-found m s j e = word-found m 35 isName (λ n. Item.id n) s j (λ n. refl) (λ n h. Token.hash h) e
+hash-found m s j e = word-found m 35 isName (λ n. Item.id n) s j (λ n. refl) (λ n h. IsToken.id h) e
 
 dot-found : (m : Mode) (s : List ℕ) (j : Item) → wordToken m isName (λ n. Item.class n) s ≡ First.token j → Found m (46 ∷ s) j
 unfolding text
-dot-found m s j e = word-found m 46 isName (λ n. Item.class n) s j (λ n. refl) (λ n h. Token.dot h) e
+dot-found m s j e = word-found m 46 isName (λ n. Item.class n) s j (λ n. refl) (λ n h. IsToken.class h) e
 
 -- ---- quoted text
 later-of : (c : Shut) (n : ℕ) → later c ≡ Shut.after n → (k : ℕ) × (c ≡ Shut.after k) × (n ≡ suc k)
@@ -182,7 +179,7 @@ module _ (m : Mode) (k : List ℕ) (hk : isKey k ≡ true) (j : Item) where
   plain-found s e =
       let n = run isPlain s in
       let h = finished m (isValue (take n s)) (Item.plain k (take n s)) j (drop n s) e in
-      rw (← h .2) (record { rest = drop n s; whole = rw (append-assoc, take-append-drop n s); token = Token.plain hk (h .0); ended = h .1 })
+      rw (← h .2) (record { rest = drop n s; whole = rw (append-assoc, take-append-drop n s); token = IsToken.plain hk (h .0); ended = h .1 })
 
   quoted-found : (q : ℕ) (s : List ℕ) (c : Shut) → isQuote q ≡ true → shutOf q s false ≡ c → quotedToken m k q s c ≡ First.token j → Found m (k ++ (61 ∷ (q ∷ s))) j
   unfolding text
@@ -190,7 +187,7 @@ module _ (m : Mode) (k : List ℕ) (hk : isKey k ≡ true) (j : Item) where
   quoted-found q s (Shut.after n) hq p e =
       let h = finished m true (Item.quoted k q (take n s)) j (drop (suc n) s) e in
       let g = shut-found q s false n p in
-      rw (← h .2) (record { rest = drop (suc n) s; whole = rw (append-assoc k (61 ∷ (q ∷ (take n s ++ (q ∷ [])))) (drop (suc n) s), append-assoc (take n s) (q ∷ []) (drop (suc n) s), g .1); token = Token.quoted hk hq (g .0); ended = h .1 })
+      rw (← h .2) (record { rest = drop (suc n) s; whole = rw (append-assoc k (61 ∷ (q ∷ (take n s ++ (q ∷ [])))) (drop (suc n) s), append-assoc (take n s) (q ∷ []) (drop (suc n) s), g .1); token = IsToken.quoted hk hq (g .0); ended = h .1 })
 
   value-found : (s : List ℕ) → valueToken m k s ≡ First.token j → Found m (k ++ (61 ∷ s)) j
   unfolding valueToken
@@ -206,7 +203,7 @@ bare-found : (m : Mode) (k s : List ℕ) (j : Item) → finish m (isBareName k) 
 unfolding text
 bare-found m k s j e =
     let h = finished m (isBareName k) (Item.bare k) j s e in
-    rw (← h .2) (record { rest = s; whole = refl; token = Token.bare (h .0); ended = h .1 })
+    rw (← h .2) (record { rest = s; whole = refl; token = IsToken.bare (h .0); ended = h .1 })
 
 after-found : (m : Mode) (k s : List ℕ) (j : Item) → afterName m k s ≡ First.token j → Found m (k ++ s) j
 unfolding afterName

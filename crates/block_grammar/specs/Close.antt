@@ -6,7 +6,7 @@ use Prim.Native.Nat.{ℕ, suc, _+_}
 use lib.Dec.{eqb, ltb}
 use lib.ListN.{length, drop}
 use Rattle.base_lists.specs.Lists.{all, isIn}
-use Rattle.base_bytes.specs.Bytes.{isQuote}
+use Rattle.base_bytes.specs.Bytes.{isQuote, apostrophe, backslash, closeBrace, lf, quote}
 use Rattle.block_grammar.specs.Grammar.{Inside}
 use Rattle.block_grammar.specs.declared.Quote.{Quote}
 use Rattle.block_grammar.specs.declared.Quote.the-variants.{Out, In}
@@ -33,14 +33,14 @@ turned (In k) b = cond (eqb b k) Out (In k)
 -- a byte that no backslash covers, by the quote that it stands in
 abbrev pub bareStep : Quote → ℕ → Step
 bareStep (In k) b = going (turned (In k) b) false
-bareStep Out b = cond (eqb b 125) Closed (going (turned Out b) false)
+bareStep Out b = cond (eqb b closeBrace) Closed (going (turned Out b) false)
 
 -- an LF stops the search also where a backslash or a quote covers it; a backslash covers the next byte in quotes and outside
-unfoldable pub stepOf : Scan → ℕ → Step
-stepOf st b =
-    cond (eqb b 10) Broken
+unfoldable pub scanStep : Scan → ℕ → Step
+scanStep st b =
+    cond (eqb b lf) Broken
     (cond (st .escaped) (going (st .quote) false)
-    (cond (eqb b 92) (going (st .quote) true)
+    (cond (eqb b backslash) (going (st .quote) true)
     (bareStep (st .quote) b)))
 
 abbrev pub goOn : Step → ℕ → (Scan → Place) → Place
@@ -51,7 +51,7 @@ goOn (Go st) i rest = rest st
 -- the search in the state st over a list whose first byte stands at i
 unfoldable pub closeFrom : List ℕ → Scan → ℕ → Place
 closeFrom [] st i = Nothing
-closeFrom (b ∷ s) st i = goOn (stepOf st b) i (λ v. closeFrom s v (suc i))
+closeFrom (b ∷ s) st i = goOn (scanStep st b) i (λ v. closeFrom s v (suc i))
 
 abbrev pub fresh : Scan
 fresh = uncovered Out
@@ -65,20 +65,20 @@ findClose s at = closeFrom (drop at s) fresh at
 -- each `}` is one that a quote or a backslash covers
 pub data Covered : List ℕ → Type 0 where
   end : Covered []
-  byte : {b : ℕ} {s : List ℕ} → isIn (34 ∷ 39 ∷ 92 ∷ 125 ∷ []) b ≡ false → Covered s → Covered (b ∷ s)
+  byte : {b : ℕ} {s : List ℕ} → isIn (quote ∷ apostrophe ∷ backslash ∷ closeBrace ∷ []) b ≡ false → Covered s → Covered (b ∷ s)
   -- "here a backslash covers the next byte outside quotes too"
-  pair : {b : ℕ} {s : List ℕ} → Covered s → Covered (92 ∷ (b ∷ s))
+  pair : {b : ℕ} {s : List ℕ} → Covered s → Covered (backslash ∷ (b ∷ s))
   quoted : {q : ℕ} {v s : List ℕ} → isQuote q ≡ true → Inside q v → Covered s → Covered (q ∷ (v ++ (q ∷ s)))
 
 unfoldable pub noLf : List ℕ → Bool
-noLf s = all (λ b. not (eqb b 10)) s
+noLf s = all (λ b. not (eqb b lf)) s
 
 -- "the payload ends before the first `}` that no quote or backslash covers; .. An LF before it means no close.":
 -- s, whose first byte stands at i, has its close at e
 pub record Closes (s : List ℕ) (i e : ℕ) : Type 0 where
   pub inside : List ℕ
   pub rest : List ℕ
-  pub whole : s ≡ inside ++ (125 ∷ rest)
+  pub whole : s ≡ inside ++ (closeBrace ∷ rest)
   pub place : e ≡ i + length inside
   pub covered : Covered inside
   pub flat : noLf inside ≡ true
@@ -88,7 +88,7 @@ pub record Closes (s : List ℕ) (i e : ℕ) : Type 0 where
 -- the last `}` of a list whose first byte stands at i, where `last` is that of the bytes before
 unfoldable pub lastFrom : List ℕ → ℕ → Place → Place
 lastFrom [] i last = last
-lastFrom (b ∷ s) i last = lastFrom s (suc i) (cond (eqb b 125) (At i) last)
+lastFrom (b ∷ s) i last = lastFrom s (suc i) (cond (eqb b closeBrace) (At i) last)
 
 unfoldable pub lastClose : List ℕ → Place
 lastClose s = lastFrom s 0 Nothing

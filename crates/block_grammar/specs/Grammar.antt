@@ -7,7 +7,7 @@ use Prim.Native.Nat.{ℕ, _+_}
 use lib.ListN.{length}
 use Rattle.base_lists.specs.Lists.{all, headed}
 use Rattle.base_bytes.specs.declared.Mode.{Mode}
-use Rattle.base_bytes.specs.Bytes.{isBlank, isQuote, isPlain}
+use Rattle.base_bytes.specs.Bytes.{isBlank, isQuote, isPlain, backslash, colon, dot, equals, hash}
 use Rattle.text_names.specs.Names.{isName, isKey, isBareName}
 use Rattle.text_names.specs.Grammar.{Language}
 
@@ -32,21 +32,21 @@ isValue v = headed isPlain isPlain v
 -- ".. or text in one kind of quote, where a backslash takes the next character with it."
 pub data Inside (q : ℕ) : List ℕ → Type 0 where
   end : Inside q []
-  byte : {b : ℕ} {s : List ℕ} → (b ≡ q → ⊥) → (b ≡ 92 → ⊥) → Inside q s → Inside q (b ∷ s)
-  pair : {b : ℕ} {s : List ℕ} → Inside q s → Inside q (92 ∷ (b ∷ s))
+  byte : {b : ℕ} {s : List ℕ} → (b ≡ q → ⊥) → (b ≡ backslash → ⊥) → Inside q s → Inside q (b ∷ s)
+  pair : {b : ℕ} {s : List ℕ} → Inside q s → Inside q (backslash ∷ (b ∷ s))
 
 -- "Tokens:"
-pub data Token : List ℕ → Item → Type 0 where
+pub data IsToken : List ℕ → Item → Type 0 where
   -- "`:`, then nothing or a tag."
-  colon : {t : List ℕ} → Language t → Token (58 ∷ t) (Item.tag t)
+  tag : {t : List ℕ} → Language t → IsToken (colon ∷ t) (Item.tag t)
   -- "`#` or `.` and a name"
-  hash : {n : List ℕ} → isName n ≡ true → Token (35 ∷ n) (Item.id n)
-  dot : {n : List ℕ} → isName n ≡ true → Token (46 ∷ n) (Item.class n)
+  id : {n : List ℕ} → isName n ≡ true → IsToken (hash ∷ n) (Item.id n)
+  class : {n : List ℕ} → isName n ≡ true → IsToken (dot ∷ n) (Item.class n)
   -- "key, `=`, value."
-  plain : {k v : List ℕ} → isKey k ≡ true → isValue v ≡ true → Token (k ++ (61 ∷ v)) (Item.plain k v)
-  quoted : {k : List ℕ} {q : ℕ} {v : List ℕ} → isKey k ≡ true → isQuote q ≡ true → Inside q v → Token (k ++ (61 ∷ (q ∷ (v ++ (q ∷ []))))) (Item.quoted k q v)
+  plain : {k v : List ℕ} → isKey k ≡ true → isValue v ≡ true → IsToken (k ++ (equals ∷ v)) (Item.plain k v)
+  quoted : {k : List ℕ} {q : ℕ} {v : List ℕ} → isKey k ≡ true → isQuote q ≡ true → Inside q v → IsToken (k ++ (equals ∷ (q ∷ (v ++ (q ∷ []))))) (Item.quoted k q v)
   -- "a bare name"
-  bare : {n : List ℕ} → isBareName n ≡ true → Token n (Item.bare n)
+  bare : {n : List ℕ} → isBareName n ≡ true → IsToken n (Item.bare n)
 
 -- "Blanks are spaces; in loose mode also CR and LF. A tab outside quotes is never allowed.": neither here nor in a name or a plain value.
 -- None or more blanks, and one or more.
@@ -58,8 +58,8 @@ pub record Gap (m : Mode) (s : List ℕ) : Type 0 where
 
 -- "one or more tokens parted by blanks", the first byte at `at`. So "After the closing quote comes a blank or the end."
 pub data Tokens (m : Mode) : ℕ → List ℕ → List Placed → Type 0 where
-  one : {at : ℕ} {t : List ℕ} {i : Item} → Token t i → Tokens m at t (record { at = at; item = i } ∷ [])
-  more : {at : ℕ} {t b s : List ℕ} {i : Item} {is : List Placed} → Token t i → Gap m b → Tokens m (at + length t + length b) s is → Tokens m at (t ++ (b ++ s)) (record { at = at; item = i } ∷ is)
+  one : {at : ℕ} {t : List ℕ} {i : Item} → IsToken t i → Tokens m at t (record { at = at; item = i } ∷ [])
+  more : {at : ℕ} {t b s : List ℕ} {i : Item} {is : List Placed} → IsToken t i → Gap m b → Tokens m (at + length t + length b) s is → Tokens m at (t ++ (b ++ s)) (record { at = at; item = i } ∷ is)
 
 -- "A payload is one or more tokens parted by blanks, which may stand at both ends." Its first byte stands at `at`.
 pub data Payload (m : Mode) : ℕ → List ℕ → List Placed → Type 0 where

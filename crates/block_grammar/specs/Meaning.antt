@@ -62,13 +62,13 @@ said (Item.bare n) = record { name = n; values = valuesOf n [] }
 -- ---- items and sets put together
 
 -- "The last id and the last value of a key win.": classes are joined, any other value is replaced
-abbrev pub over : Entry → List (List ℕ) → Entry
-over e vs = record { name = e .name; values = cond (isClass (e .name)) (e .values ++ vs) vs }
+abbrev pub withValues : Entry → List (List ℕ) → Entry
+withValues e vs = record { name = e .name; values = cond (isClass (e .name)) (e .values ++ vs) vs }
 
 -- "Slots: Id, Class and each key stand once, where first met."
 unfoldable pub put : List Entry → Entry → List Entry
 put [] new = new ∷ []
-put (e ∷ m) new = cond (same (e .name) (new .name)) (over e (new .values) ∷ m) (e ∷ put m new)
+put (e ∷ m) new = cond (same (e .name) (new .name)) (withValues e (new .values) ∷ m) (e ∷ put m new)
 
 -- "Merging: a later id wins, classes are joined, later key values win, new slots go behind."
 unfoldable pub puts : List Entry → List Entry → List Entry
@@ -101,13 +101,13 @@ distinct [] = true
 distinct (e ∷ m) = absent (e .name) m && distinct m
 
 -- ---- the pieces of a class value by places: the piece that was begun starts at `from`, the next byte stands at `at`
-pub record Range : Type 0 where
+pub record PieceAt : Type 0 where
   pub from : ℕ
   pub to : ℕ
 
-abbrev pub mark : ℕ → ℕ → List Range → List Range
+abbrev pub mark : ℕ → ℕ → List PieceAt → List PieceAt
 mark from at rs = cond (ltb from at) (record { from = from; to = at } ∷ rs) rs
 
-unfoldable pub rangesFrom : ℕ → ℕ → List ℕ → List Range
-rangesFrom from at [] = mark from at []
-rangesFrom from at (b ∷ s) = cond (isSpace b) (mark from at (rangesFrom (suc at) (suc at) s)) (rangesFrom from (suc at) s)
+unfoldable pub pieceRanges : ℕ → ℕ → List ℕ → List PieceAt
+pieceRanges from at [] = mark from at []
+pieceRanges from at (b ∷ s) = cond (isSpace b) (mark from at (pieceRanges (suc at) (suc at) s)) (pieceRanges from (suc at) s)

@@ -5,24 +5,24 @@ use Prim.Native.Nat.{ℕ, suc}
 use lib.Dec.{eqb, leb}
 use lib.ListN.{drop}
 use Rattle.base_lists.specs.Lists.{isIn}
-use Rattle.base_bytes.specs.Bytes.{isNameStart, isNamePart, isKeyStart}
+use Rattle.base_bytes.specs.Bytes.{isNameStart, isNamePart, isKeyStart, apostrophe, backslash, closeBrace, colon, cr, dot, equals, hash, lf, quote, space, tab}
 use Rattle.block_grammar.specs.declared.Walk.{Walk}
 
 -- between tokens: what is not ASCII, a close, an LF, a quote, a backslash and `:` are left to the full reader
 abbrev pub edge : ℕ → (Walk → Bool) → Bool
 edge c rest =
     cond (leb 128 c) false
-    (cond (isIn (125 ∷ 10 ∷ 34 ∷ 39 ∷ 92 ∷ 58 ∷ []) c) false
-    (cond (isIn (32 ∷ 9 ∷ 13 ∷ []) c) (rest Walk.Edge)
-    (cond (isIn (35 ∷ 46 ∷ []) c) (rest Walk.Sigil)
+    (cond (isIn (closeBrace ∷ lf ∷ quote ∷ apostrophe ∷ backslash ∷ colon ∷ []) c) false
+    (cond (isIn (space ∷ tab ∷ cr ∷ []) c) (rest Walk.Edge)
+    (cond (isIn (hash ∷ dot ∷ []) c) (rest Walk.Sigil)
     (cond (isKeyStart c) (rest Walk.Word) true))))
 
 abbrev pub quickStep : Walk → ℕ → (Walk → Bool) → Bool
 quickStep Walk.Edge c rest = edge c rest
 quickStep Walk.Sigil c rest = cond (isNameStart c) (rest Walk.Ident) true
 quickStep Walk.Ident c rest = cond (isNamePart c) (rest Walk.Ident) (edge c rest)
-quickStep Walk.Word c rest = cond (isNamePart c) (rest Walk.Word) (cond (eqb c 61) (rest Walk.Value) (edge c rest))
-quickStep Walk.Value c rest = isIn (125 ∷ 32 ∷ 9 ∷ 13 ∷ 10 ∷ []) c
+quickStep Walk.Word c rest = cond (isNamePart c) (rest Walk.Word) (cond (eqb c equals) (rest Walk.Value) (edge c rest))
+quickStep Walk.Value c rest = isIn (closeBrace ∷ space ∷ tab ∷ cr ∷ lf ∷ []) c
 
 unfoldable pub quickFrom : Walk → List ℕ → Bool
 quickFrom w [] = true

@@ -6,7 +6,7 @@ use lib.Dec.{eqb}
 use lib.ListN.{length, take, drop}
 use Rattle.base_lists.specs.Lists.{run}
 use Rattle.base_bytes.specs.declared.Mode.{Mode}
-use Rattle.base_bytes.specs.Bytes.{isBlank, isNamePart, isQuote, isPlain}
+use Rattle.base_bytes.specs.Bytes.{isBlank, isNamePart, isQuote, isPlain, backslash, colon, dot, equals, hash}
 use Rattle.text_names.specs.Names.{isName, isKey, isBareName}
 use Rattle.text_names.specs.Tags.{isLanguage}
 use Rattle.block_grammar.specs.Grammar.{Item, Placed, isValue}
@@ -51,7 +51,7 @@ shutStep false false isb rest = later (rest isb)
 
 unfoldable pub shutOf : ℕ → List ℕ → Bool → Shut
 shutOf q [] escaped = Shut.never
-shutOf q (b ∷ s) escaped = shutStep escaped (eqb b q) (eqb b 92) (λ e. shutOf q s e)
+shutOf q (b ∷ s) escaped = shutStep escaped (eqb b q) (eqb b backslash) (λ e. shutOf q s e)
 
 abbrev pub quotedToken : Mode → List ℕ → ℕ → List ℕ → Shut → First
 quotedToken m k q s Shut.never = First.none
@@ -68,7 +68,7 @@ valueToken m k (q ∷ s) = cond (isQuote q) (quotedToken m k q s (shutOf q s fal
 -- behind the longest run k of name bytes
 unfoldable pub afterName : Mode → List ℕ → List ℕ → First
 afterName m k [] = finish m (isBareName k) (Item.bare k) []
-afterName m k (b ∷ s) = cond (eqb b 61) (cond (isKey k) (valueToken m k s) First.none) (finish m (isBareName k) (Item.bare k) (b ∷ s))
+afterName m k (b ∷ s) = cond (eqb b equals) (cond (isKey k) (valueToken m k s) First.none) (finish m (isBareName k) (Item.bare k) (b ∷ s))
 
 abbrev pub nameToken : Mode → List ℕ → First
 nameToken m s = afterName m (take (run isNamePart s) s) (drop (run isNamePart s) s)
@@ -76,9 +76,9 @@ nameToken m s = afterName m (take (run isNamePart s) s) (drop (run isNamePart s)
 unfoldable pub tokenOf : Mode → List ℕ → First
 tokenOf m [] = First.none
 tokenOf m (b ∷ s) =
-    cond (eqb b 58) (wordToken m isLanguage (λ t. Item.tag t) s)
-    (cond (eqb b 35) (wordToken m isName (λ n. Item.id n) s)
-    (cond (eqb b 46) (wordToken m isName (λ n. Item.class n) s)
+    cond (eqb b colon) (wordToken m isLanguage (λ t. Item.tag t) s)
+    (cond (eqb b hash) (wordToken m isName (λ n. Item.id n) s)
+    (cond (eqb b dot) (wordToken m isName (λ n. Item.class n) s)
     (nameToken m (b ∷ s))))
 
 -- ---- the payload
@@ -89,11 +89,11 @@ pub data Reading : Type 0 where
 
 -- the text of an item
 unfoldable pub text : Item → List ℕ
-text (Item.tag t) = 58 ∷ t
-text (Item.id n) = 35 ∷ n
-text (Item.class n) = 46 ∷ n
-text (Item.plain k v) = k ++ (61 ∷ v)
-text (Item.quoted k q v) = k ++ (61 ∷ (q ∷ (v ++ (q ∷ []))))
+text (Item.tag t) = colon ∷ t
+text (Item.id n) = hash ∷ n
+text (Item.class n) = dot ∷ n
+text (Item.plain k v) = k ++ (equals ∷ v)
+text (Item.quoted k q v) = k ++ (equals ∷ (q ∷ (v ++ (q ∷ []))))
 text (Item.bare n) = n
 
 -- how many bytes of a token follow its first one

@@ -1,4 +1,4 @@
-// The payload grammar: definitions and theorems. Its code is the types that a search for the close and the quick test are made of.
+// The payload grammar: definitions and theorems, and as code only the types that scans and the quick test are made of.
 
 // The quote that the search stands in, by its byte.
 pub enum Quote {

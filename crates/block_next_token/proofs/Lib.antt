@@ -1,5 +1,4 @@
 -- The laws of block_next_token.
 pub mod Steps
-pub mod Tokens
 pub mod Counting
 pub mod Taken

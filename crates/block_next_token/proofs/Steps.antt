@@ -16,7 +16,7 @@ use Rattle.base_bytes.specs.declared.Mode.{Mode}
 use Rattle.base_bytes.specs.Bytes.{isBlank}
 use Rattle.block_grammar.specs.Grammar.{Placed}
 use Rattle.block_grammar.specs.Read.{First, Reading, text, tokenOf, also, readFrom}
-use Rattle.block_tokens.specs.Shown.{shown, behind}
+use Rattle.block_tokens.specs.Shown.{shown, tokenEnd}
 use Rattle.block_tokens.specs.declared.Token.{Token}
 use Rattle.block_tokens.specs.declared.Token.the-variants.{Bad}
 use Rattle.block_tokens.proofs.Token as Tk
@@ -45,7 +45,7 @@ module _ (m : Mode) (s : List ℕ) (at : ℕ) {a : ℕ} (is : a ≡ at + run (is
   unfolding stepAt
   ends h = rw (← is, le-leb (length s) a h)
 
-  pub goes : a < length s → {t : Token} {e : ℕ} → t ≡ shown a (tokenOf m (drop a s)) → e ≡ goneTo a (behind t) → record { ahead = Found t; at = e } ≡ stepAt m s at
+  pub goes : a < length s → {t : Token} {e : ℕ} → t ≡ shown a (tokenOf m (drop a s)) → e ≡ goneTo a (tokenEnd t) → record { ahead = Found t; at = e } ≡ stepAt m s at
   unfolding stepAt
   goes h p q = rw (← is, lt-leb (length s) a h, ← p, q)
 

@@ -42,7 +42,7 @@ use Rattle.base_loans.proofs.Calls.{answers}
 use Rattle.base_bytes.specs.declared.Mode.{Mode}
 use Rattle.base_bytes.proofs.Mode as Md
 use Rattle.base_bytes.proofs.Mode.Laws as Md′
-use Rattle.block_next_token.specs.Walk.{stepOf}
+use Rattle.block_next_token.specs.Walk.{walkerStep}
 use Rattle.block_next_token.specs.declared.Walker.{Walker}
 use Rattle.block_next_token.specs.declared.Step.{Step}
 use Rattle.block_next_token.proofs.Walker as T
@@ -117,16 +117,16 @@ module _ {M : Type 1} (𝓤 : URA M) (H : Heap 𝓤) (A : Atoms 𝓤) (W : Given
   Ensured r = ensured 𝓤 H A step.ended (step.clauses 𝓤 H A mem run) (α .lft, tt) (d .text, (d .at, (d .mode, tt))) tt r
 
   -- .. and of it the clause alone
-  pub said : (r : Step) → ent 𝓤 (Ensured r) (fact 𝓤 (r ≡ stepOf d))
-  said r = exE 𝓤 _ (λ ws. snd∗ 𝓤 (sem 𝓤 H A (lasts step.ended (α .lft, tt) (d .text, (d .at, (d .mode, tt))) ws)) (fact 𝓤 (r ≡ stepOf d)))
+  pub said : (r : Step) → ent 𝓤 (Ensured r) (fact 𝓤 (r ≡ walkerStep d))
+  said r = exE 𝓤 _ (λ ws. snd∗ 𝓤 (sem 𝓤 H A (lasts step.ended (α .lft, tt) (d .text, (d .at, (d .mode, tt))) ws)) (fact 𝓤 (r ≡ walkerStep d)))
 
 -- the call of `step_at`, as one step of a walk: of what the walker owns the callee has its part, and the step r is had
 module _ {M : Type 1} {𝓤 : URA M} {H : Heap 𝓤} {A : Atoms 𝓤} {K : Type 0} {W : Given 𝓤 H A} {Γ : List (Item 𝓤)} {E : Env 𝓤 H} {C : Calls 𝓤 H} {f : Name} {xs : List Operand} {Λ : Loops 𝓤 H} {p : Post 𝓤 H} {to-place : Place} {rest : Body} where
   pub steps : K → FmC 𝓤 H (W .laws) C → (mem : Memory → SProp 𝓤) (run : Routine → Fun 𝓤) → Triple 𝓤 (C f) (StepAt 𝓤 H A mem run) → (α : NamedLft) (q : Share) (d : Walker) → d .at < 2 ^ 64 → Is Md.the-row (d .mode) (modeVal (d .mode) ∷ [])
       → Opds K W (raw (StepAt 𝓤 H A mem run .pre (to 𝓤 H A W mem run α q d)) ∷ ‵ (Own α d) ∷ Γ) E xs (StepAt 𝓤 H A mem run .args (to 𝓤 H A W mem run α q d))
-      → ((u : Val) (r : Step) → r ≡ stepOf d → Is P.the-row r (u ∷ []) → Seq K W (‵ (P.the-row .own r (u ∷ [])) ∷ (‵ (flft (α .lft) q) ⊛ ‵ ftrue) ∷ ‵ (Own α d) ∷ Γ) (lands C Λ E to-place u rest p))
+      → ((u : Val) (r : Step) → r ≡ walkerStep d → Is P.the-row r (u ∷ []) → Seq K W (‵ (P.the-row .own r (u ∷ [])) ∷ (‵ (flft (α .lft) q) ⊛ ‵ ftrue) ∷ ‵ (Own α d) ∷ Γ) (lands C Λ E to-place u rest p))
       → Seq K W ((‵ (flft (α .lft) q) ⊛ ‵ ftrue) ∷ ‵ (Own α d) ∷ Γ) (runs C Λ E (seq (call f xs to-place) rest) p)
   steps k fm mem run known α q d fits is operands then =
       move k (1 ∷ []) $ use1 W (‵ (Passed α d) ⊛ ‵ (Own α d)) (apart 𝓤 H A W mem run α q d fits is) $ split k $ move k (2 ∷ 0 ∷ []) $ use2 W (raw (StepAt 𝓤 H A mem run .pre (to 𝓤 H A W mem run α q d))) (asked 𝓤 H A W mem run α q d) $
       calls-at k fm (StepAt 𝓤 H A mem run) known (to 𝓤 H A W mem run α q d) operands (λ u.
-      answers k tt P.the-row (‵ (flft (α .lft) q) ⊛ ‵ ftrue) (Ensured 𝓤 H A W mem run α q d) (λ r. r ≡ stepOf d) (said 𝓤 H A W mem run α q d) u (then u))
+      answers k tt P.the-row (‵ (flft (α .lft) q) ⊛ ‵ ftrue) (Ensured 𝓤 H A W mem run α q d) (λ r. r ≡ walkerStep d) (said 𝓤 H A W mem run α q d) u (then u))

@@ -13,7 +13,7 @@ use Rattle.block_grammar.specs.Grammar.{Placed}
 use Rattle.block_grammar.specs.Read.{Reading, tokenOf}
 use Rattle.block_grammar.specs.declared.Place.{Place}
 use Rattle.block_grammar.specs.declared.Place.the-variants.{Nothing, At}
-use Rattle.block_tokens.specs.Shown.{shownItem, shown, behind}
+use Rattle.block_tokens.specs.Shown.{shownItem, shown, tokenEnd}
 use Rattle.block_tokens.specs.declared.Token.{Token}
 use Rattle.block_tokens.specs.declared.Token.the-variants.{Bad}
 use Rattle.block_next_token.specs.declared.Ahead.{Ahead}
@@ -31,7 +31,7 @@ goneTo a Nothing = a
 goneTo a (At e) = e
 
 abbrev pub stepOver : ℕ → Token → Step
-stepOver a t = record { ahead = Found t; at = goneTo a (behind t) }
+stepOver a t = record { ahead = Found t; at = goneTo a (tokenEnd t) }
 
 -- a is behind the blanks: the end stands there, or a token
 abbrev pub stepFrom : Mode → List ℕ → ℕ → Step
@@ -49,16 +49,16 @@ setDown x at m = record { text = x; at = at; mode = m }
 abbrev pub atFront : RefT (List ℕ) → Mode → Walker
 atFront x m = setDown x 0 m
 
-abbrev pub stepOf : Walker → Step
-stepOf w = stepAt (w .mode) (now (w .text)) (w .at)
+abbrev pub walkerStep : Walker → Step
+walkerStep w = stepAt (w .mode) (now (w .text)) (w .at)
 
 -- what stands ahead of it
 abbrev pub aheadOf : Walker → Ahead
-aheadOf w = stepOf w .ahead
+aheadOf w = walkerStep w .ahead
 
 -- .. and it goes behind that
 abbrev pub gone : Walker → Walker
-gone w = record { text = w .text; at = stepOf w .at; mode = w .mode }
+gone w = record { text = w .text; at = walkerStep w .at; mode = w .mode }
 
 -- the tokens that a walker gives as it goes on, call by call, and whether it then stands at the text's end or before bytes that are no token
 pub data Gives : Walker → List Token → Bool → Type 0 where

@@ -1,8 +1,8 @@
-// A walker: a text, a place in it and which bytes part its tokens. It gives the text's tokens one after the other.
+// A walker, which holds a text, a place in it and a mode, and gives the text's tokens one after the other.
 ghost use mathlib.Core.Path.{_≡_};
 ghost use Rattle.block_grammar.specs.Read.{readFrom};
-ghost use Rattle.block_tokens.specs.Shown.{behind};
-ghost use Rattle.block_next_token.specs.Walk.{goneTo, stepAt, setDown, atFront, stepOf, aheadOf, gone, counted};
+ghost use Rattle.block_tokens.specs.Shown.{tokenEnd};
+ghost use Rattle.block_next_token.specs.Walk.{goneTo, stepAt, setDown, atFront, walkerStep, aheadOf, gone, counted};
 use base_bytes::Mode;
 use block_tokens::Token;
 
@@ -32,7 +32,7 @@ pub enum Count {
 
 // The place behind the token at a.
 fn place_behind(token: Token, a: usize) -> usize
-    ensures { λ r. ⌜ r ≡ goneTo a (behind token) ⌝ }
+    ensures { λ r. ⌜ r ≡ goneTo a (tokenEnd token) ⌝ }
 {
     match token {
         Token::Bad => a,
@@ -102,7 +102,7 @@ pub fn next<'s, 'a>(w: &'s mut Walker<'a>) -> Ahead
 
 // One step of a walker that is set down at a place.
 pub fn step_from(text: &[u8], at: usize, mode: Mode) -> Step
-    ensures { λ r. ⌜ r ≡ stepOf (setDown (text .entry) at mode) ⌝ }
+    ensures { λ r. ⌜ r ≡ walkerStep (setDown (text .entry) at mode) ⌝ }
 {
     let mut w = Walker { text, at, mode };
     let ahead = next(&mut w);

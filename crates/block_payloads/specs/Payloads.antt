@@ -6,6 +6,7 @@ use lib.Dec.{eqb}
 use Rattle.base_lists.specs.Lists.{begins, beginsPair}
 use Rattle.base_bytes.specs.declared.Mode.{Mode}
 use Rattle.base_bytes.specs.declared.Mode.the-variants.{Loose}
+use Rattle.base_bytes.specs.Bytes.{closeBrace, openBrace}
 use Rattle.text_checks.specs.Check.{isText}
 use Rattle.block_grammar.specs.Read.{readPayload}
 use Rattle.block_tokens.specs.Shown.{accepted}
@@ -18,7 +19,7 @@ isPayload m s = isText s && accepted (readPayload m 0 s)
 -- ---- a line's front
 
 abbrev pub beginsOpen : List ℕ → Bool
-beginsOpen s = begins s 123
+beginsOpen s = begins s openBrace
 
 -- a line's first byte that is no whitespace is `{`
 abbrev pub opens : List ℕ → Bool
@@ -29,13 +30,13 @@ opens l = beginsOpen (trimStart l)
 -- the last byte is `}`
 unfoldable pub endsInClose : List ℕ → Bool
 endsInClose [] = false
-endsInClose (b ∷ []) = eqb b 125
+endsInClose (b ∷ []) = eqb b closeBrace
 endsInClose (b ∷ c ∷ s) = endsInClose (c ∷ s)
 
 -- what stands behind the last `}{`, where `best` stands behind the last of those before; all of it where there is none
 unfoldable pub behindFrom : List ℕ → List ℕ → List ℕ
 behindFrom best [] = best
-behindFrom best (b ∷ s) = behindFrom (cond (beginsPair 125 123 (b ∷ s)) (tail s) best) s
+behindFrom best (b ∷ s) = behindFrom (cond (beginsPair closeBrace openBrace (b ∷ s)) (tail s) best) s
 
 unfoldable pub behindLast : List ℕ → List ℕ
 behindLast s = behindFrom s s

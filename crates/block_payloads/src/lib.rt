@@ -6,6 +6,7 @@ ghost use Prim.Native.Nat.{_+_, _≤_, _<_};
 ghost use lib.Dec.{eqb};
 ghost use lib.ListN.{length, getD, drop};
 ghost use Rattle.base_bytes.specs.declared.Mode.the-variants.{Strict, Loose};
+ghost use Rattle.base_bytes.specs.Bytes.{closeBrace, openBrace};
 ghost use Rattle.block_payloads.specs.Payloads.{isPayload, behindLast, continues, isContinuation};
 
 // Whether the bytes are a payload, in either mode.
@@ -35,7 +36,7 @@ pub fn is_valid_attr_payload(s: &[u8]) -> bool
 // Behind `}{` at i, or as before.
 fn behind(s: &[u8], i: usize, best: usize) -> usize
     requires { ⌜ i + 1 < length (now s) ⌝ }
-    ensures { λ r. ⌜ r ≡ cond (eqb (getD (now (s .entry)) i 0) 125 && eqb (getD (now (s .entry)) (i + 1) 0) 123) (i + 2) best ⌝ }
+    ensures { λ r. ⌜ r ≡ cond (eqb (getD (now (s .entry)) i 0) closeBrace && eqb (getD (now (s .entry)) (i + 1) 0) openBrace) (i + 2) best ⌝ }
 {
     if s[i] != b'}' {
         return best;

@@ -13,7 +13,7 @@ use Rattle.base_bytes.specs.Bytes.{isBlank}
 use Rattle.block_grammar.specs.Grammar.{Placed}
 use Rattle.block_grammar.specs.Read.{First, Reading, tokenOf, also, readFrom, oneOrMore, readPayload}
 use Rattle.block_grammar.specs.declared.Place.the-variants.{Nothing, At}
-use Rattle.block_tokens.specs.Shown.{shown, behind, accepted}
+use Rattle.block_tokens.specs.Shown.{shown, tokenEnd, accepted}
 use Rattle.block_tokens.proofs.Steps as steps
 
 -- whether the rest is accepted, where `some` says that a token was read
@@ -45,19 +45,19 @@ module _ {m : Mode} {s : List ℕ} {r : Bool} {i : ℕ} {some : Bool} (inv : Rea
   pub end : a ≡ length s → some ≡ r
   end h = rw (steps.at-end m s (inv .within) is h) at (inv .rest)
 
-  pub stop : (a ≡ length s → ⊥) → Nothing ≡ behind (shown a (tokenOf m (drop a s))) → false ≡ r
+  pub stop : (a ≡ length s → ⊥) → Nothing ≡ tokenEnd (shown a (tokenOf m (drop a s))) → false ≡ r
   unfolding shown
   stop n q = go (tokenOf m (drop a s)) refl q
     where
-      go : (x : First) → tokenOf m (drop a s) ≡ x → Nothing ≡ behind (shown a x) → false ≡ r
+      go : (x : First) → tokenOf m (drop a s) ≡ x → Nothing ≡ tokenEnd (shown a x) → false ≡ r
       go First.none p q = rw (steps.refused m s (inv .within) is (omega (arith, steps.between m s (inv .within) is)) (rw p)) at (inv .rest)
       go (First.token j) p q = contra true refl (cc (steps.item-behind a j))
 
-  pub go : {e : ℕ} → At e ≡ behind (shown a (tokenOf m (drop a s))) → Reads m s r e true × (i < e)
+  pub go : {e : ℕ} → At e ≡ tokenEnd (shown a (tokenOf m (drop a s))) → Reads m s r e true × (i < e)
   unfolding shown
   go {e} q = on (tokenOf m (drop a s)) refl q
     where
-      on : (x : First) → tokenOf m (drop a s) ≡ x → At e ≡ behind (shown a x) → Reads m s r e true × (i < e)
+      on : (x : First) → tokenOf m (drop a s) ≡ x → At e ≡ tokenEnd (shown a x) → Reads m s r e true × (i < e)
       on First.none p q = contra true refl (cc)
       on (First.token j) p q =
           let t = steps.token-stepped m s (inv .within) is p q in

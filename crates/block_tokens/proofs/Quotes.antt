@@ -15,7 +15,7 @@ use Rattle.base_lists.proofs.More.{contra}
 use Rattle.block_grammar.specs.Read.{Shut, later, shutStep, shutOf}
 use Rattle.block_grammar.specs.declared.Place.{Place}
 use Rattle.block_grammar.specs.declared.Place.the-variants.{Nothing, At}
-use Rattle.block_tokens.specs.Steps.{shutAt}
+use Rattle.block_tokens.specs.Inner.{shutAt}
 
 at-later : (k : ℕ) (c : Shut) → shutAt k (later c) ≡ shutAt (suc k) c
 at-later k Shut.never = refl

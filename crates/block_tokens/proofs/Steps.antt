@@ -21,7 +21,7 @@ use Rattle.block_grammar.proofs.Places.{part}
 use Rattle.block_grammar.proofs.Loop as loop
 use Rattle.block_tokens.specs.declared.Token.{Token}
 use Rattle.block_tokens.specs.declared.Token.the-variants.{Bad, Tag, Id, Class, Plain, Quoted, Bare}
-use Rattle.block_tokens.specs.Shown.{shownItem, shown, behind}
+use Rattle.block_tokens.specs.Shown.{shownItem, shown, tokenEnd}
 
 -- ---- the item of a token, by the bytes of its ranges
 abbrev pub itemOf : List ℕ → Token → First
@@ -52,7 +52,7 @@ item-spans a (Item.plain k v) = (refl, omega arith, omega arith)
 item-spans a (Item.quoted k q v) = (refl, omega arith, omega arith)
 item-spans a (Item.bare n) = (refl, omega arith)
 
-pub item-behind : (a : ℕ) (j : Item) → behind (shownItem a j) ≡ At (a + length (text j))
+pub item-behind : (a : ℕ) (j : Item) → tokenEnd (shownItem a j) ≡ At (a + length (text j))
 unfolding shownItem text
 item-behind a (Item.tag n) = ap (λ x. At x) (omega arith)
 item-behind a (Item.id n) = ap (λ x. At x) (omega arith)
@@ -127,7 +127,7 @@ pub record Stepped (m : Mode) (s : List ℕ) (i a : ℕ) (j : Item) (e : ℕ) : 
   pub next : readFrom m (drop i s) 0 i ≡ also (record { at = a; item = j }) (readFrom m (drop e s) 0 e)
   pub ahead : a < e
   pub within : e ≤ length s
-  pub token : rules.Token (text j) j
+  pub token : rules.IsToken (text j) j
 
 module _ (m : Mode) (s : List ℕ) {i a : ℕ} (fits : i ≤ length s) (is : a ≡ i + run (isBlank m) (drop i s)) where
   here : loop.Reads add Reading.refused given m s 0 (readFrom m (drop i s) 0 i) i []
@@ -142,7 +142,7 @@ module _ (m : Mode) (s : List ℕ) {i a : ℕ} (fits : i ≤ length s) (is : a �
   pub refused : a < length s → Bad ≡ shown a (tokenOf m (drop a s)) → readFrom m (drop i s) 0 i ≡ Reading.refused
   refused h e = sym (loop.none add Reading.refused given (loop.blanks add Reading.refused given here is) h (loop.solid add Reading.refused given here is h) (ranges m s a e))
 
-  pub token-stepped : {j : Item} {e : ℕ} → tokenOf m (drop a s) ≡ First.token j → At e ≡ behind (shownItem a j) → Stepped m s i a j e
+  pub token-stepped : {j : Item} {e : ℕ} → tokenOf m (drop a s) ≡ First.token j → At e ≡ tokenEnd (shownItem a j) → Stepped m s i a j e
   token-stepped {j} {e} x q =
       let w : a + length (text j) ≡ e = cc (item-behind a j) in
       let f = token-sound m (drop a s) j x in
@@ -156,10 +156,10 @@ module _ (m : Mode) (s : List ℕ) {i a : ℕ} (fits : i ≤ length s) (is : a �
         token = f .token;
       }
 
-  -- j and e are found from the token t, as `itemOf` and `behind` compute at it: `stepped m s fits is q refl refl`
-  pub stepped : {t : Token} {j : Item} {e : ℕ} → t ≡ shown a (tokenOf m (drop a s)) → itemOf s t ≡ First.token j → At e ≡ behind t → Stepped m s i a j e
+  -- j and e are found from the token t, as `itemOf` and `tokenEnd` compute at it: `stepped m s fits is q refl refl`
+  pub stepped : {t : Token} {j : Item} {e : ℕ} → t ≡ shown a (tokenOf m (drop a s)) → itemOf s t ≡ First.token j → At e ≡ tokenEnd t → Stepped m s i a j e
   unfolding shown
-  stepped q p b = let x = ranges m s a q ∙ p in token-stepped x (rw x at (b ∙ ap behind q))
+  stepped q p b = let x = ranges m s a q ∙ p in token-stepped x (rw x at (b ∙ ap tokenEnd q))
 
   -- the same for each kind of token
   pub tag-step : {f e : ℕ} → Tag f e ≡ shown a (tokenOf m (drop a s)) → Stepped m s i a (Item.tag (slice f e s)) e

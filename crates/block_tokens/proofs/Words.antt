@@ -10,8 +10,8 @@ use lib.Dec.{eqb, ltb, leb}
 use lib.ListN.{length, getD, take, drop, drop-of-length-le, length-drop, length-take}
 use lib.Seq.{drop-cons, drop-drop, length-take-le}
 use borrow.Author.Tests.{ne-eqb, lt-ltb, le-ltb, leb-true, leb-false}
-use Rattle.base_lists.specs.Lists.{all, headed, run, firstIs}
-use Rattle.base_lists.proofs.Scan.{run-le}
+use Rattle.base_lists.specs.Lists.{headed, run, firstIs}
+use Rattle.base_lists.proofs.Scan.{run-le, run-all}
 use Rattle.base_lists.proofs.More.{contra}
 use Rattle.base_bytes.specs.declared.Mode.{Mode}
 use Rattle.base_bytes.specs.Bytes.{isNamePart, isKeyStart, isQuote, isPlain}
@@ -23,7 +23,7 @@ use Rattle.block_grammar.specs.declared.Place.the-variants.{Nothing}
 use Rattle.block_tokens.specs.declared.Token.{Token}
 use Rattle.block_tokens.specs.declared.Token.the-variants.{Bad, Plain, Quoted}
 use Rattle.block_tokens.specs.Shown.{shownItem, shown}
-use Rattle.block_tokens.specs.Steps.{tagToken, idToken, classToken, quotedFrom, part, startsEq, shutAt}
+use Rattle.block_tokens.specs.Inner.{tagToken, idToken, classToken, quotedFrom, part, startsEq, shutAt}
 use Rattle.block_tokens.proofs.Quotes.{Closed}
 
 shown-finish : (i : ℕ) (m : Mode) (good : Bool) (it : Item) (rest : List ℕ) → shown i (finish m good it rest) ≡ cond (good && ends m rest) (shownItem i it) Bad
@@ -54,15 +54,6 @@ module _ (f : ℕ → Bool) (s : List ℕ) (i : ℕ) where
 
   pub first-some : i < length s → f (getD s i 0) ≡ firstIs f (drop i s)
   first-some h = rw (drop-cons s i 0 h)
-
-run-all : (f : ℕ → Bool) (s : List ℕ) → all f (take (run f s) s) ≡ true
-unfolding run all
-run-all f [] = refl
-run-all f (b ∷ s) = go (f b) refl (run-all f s)
-  where
-    go : (x : Bool) → f b ≡ x → all f (take (run f s) s) ≡ true → all f (take (cond x (suc (run f s)) 0) (b ∷ s)) ≡ true
-    go true p h = rw (p, h)
-    go false p h = refl
 
 run-headed : (f g : ℕ → Bool) → ((b : ℕ) → f b ≡ true → g b ≡ true) → (s : List ℕ) → firstIs f s ≡ headed f g (take (run g s) s)
 unfolding run headed

@@ -1,3 +1,3 @@
 -- A token by ranges.
 pub mod Shown
-pub mod Steps
+pub mod Inner

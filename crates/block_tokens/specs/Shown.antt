@@ -22,14 +22,14 @@ shown a First.none = Token.Bad
 shown a (First.token i) = shownItem a i
 
 -- the place behind a token
-abbrev pub behind : Token → Place
-behind Token.Bad = Nothing
-behind (Token.Tag f e) = At e
-behind (Token.Id f e) = At e
-behind (Token.Class f e) = At e
-behind (Token.Plain f k e) = At e
-behind (Token.Quoted f k e) = At e
-behind (Token.Bare f e) = At e
+abbrev pub tokenEnd : Token → Place
+tokenEnd Token.Bad = Nothing
+tokenEnd (Token.Tag f e) = At e
+tokenEnd (Token.Id f e) = At e
+tokenEnd (Token.Class f e) = At e
+tokenEnd (Token.Plain f k e) = At e
+tokenEnd (Token.Quoted f k e) = At e
+tokenEnd (Token.Bare f e) = At e
 
 -- whether there is a reading
 abbrev pub accepted : Reading → Bool

@@ -6,8 +6,8 @@ ghost use lib.ListN.{length, getD, drop};
 ghost use Rattle.base_lists.specs.Lists.{run, firstIs};
 ghost use Rattle.base_bytes.specs.Bytes.{isLetter, isNameStart, isNamePart, isKeyStart, isPlain, isBlank};
 ghost use Rattle.block_grammar.specs.Read.{ends, shutOf, nameToken, valueToken, tokenOf, readPayload};
-ghost use Rattle.block_tokens.specs.Shown.{accepted, shown, behind};
-ghost use Rattle.block_tokens.specs.Steps.{startsEq, tagToken, idToken, classToken, quotedFrom, part, shutAt};
+ghost use Rattle.block_tokens.specs.Shown.{accepted, shown, tokenEnd};
+ghost use Rattle.block_tokens.specs.Inner.{startsEq, tagToken, idToken, classToken, quotedFrom, part, shutAt};
 use base_bytes::Mode;
 use block_grammar::Place;
 
@@ -254,7 +254,7 @@ pub fn token_at(s: &[u8], i: usize, mode: Mode) -> Token
 
 // The place behind a token.
 fn behind_token(t: Token) -> Place
-    ensures { λ r. ⌜ r ≡ behind t ⌝ }
+    ensures { λ r. ⌜ r ≡ tokenEnd t ⌝ }
 {
     match t {
         Token::Bad => Place::Nothing,

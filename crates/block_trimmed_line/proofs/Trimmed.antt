@@ -8,9 +8,9 @@ use Prim.Native.Nat.{ℕ, suc, _+_, _-_, _<_, _≤_}
 use native.Mathlib.Nat.{add-zero}
 use native.Mathlib.Omega.{arith}
 use lib.Dec.{eqb, ltb}
-use lib.ListN.{length, getD, take, drop, length-drop, take-append-drop}
-use lib.Seq.{slice, length-slice, drop-drop, drop-append-le, take-append-le, drop-cons}
-use Rattle.base_lists.proofs.Parts.{slice-part, slice-add}
+use lib.ListN.{length, getD, take, drop, take-append-drop}
+use lib.Seq.{slice, length-slice, drop-cons}
+use Rattle.base_lists.proofs.Parts.{slice-part, slice-add, part-front, part-behind}
 use Rattle.base_lists.proofs.Scan.{both}
 use Rattle.base_lists.proofs.More.{contra}
 use Rattle.base_lists.specs.Lists.{isIn, run, all}
@@ -78,15 +78,6 @@ to-le : (t : List ℕ) (at : ℕ) → at < length t → lineFrom t at .to ≤ le
 to-le t at h = omega (arith, to-next t at, next-le t at h)
 
 -- ---- a part of a part
-
-part-front : (l r : List ℕ) (a k : ℕ) → a + k ≤ length l → slice a (a + k) (l ++ r) ≡ slice a (a + k) l
-part-front l r a k h =
-    rw (slice-add a k (l ++ r), slice-add a k l, drop-append-le a l r (omega arith)) (take-append-le k (drop a l) r (omega (arith, length-drop a l)))
-
-part-behind : (t : List ℕ) (at a k : ℕ) → slice (at + a) (at + (a + k)) t ≡ slice a (a + k) (drop at t)
-part-behind t at a k =
-    let z : at + (a + k) ≡ at + a + k = omega arith in
-    rw (z, slice-add (at + a) k t, slice-add a k (drop at t), drop-drop a at t)
 
 -- the range r of the line that begins at `at`, up to `to`
 inner : (t : List ℕ) (at to : ℕ) (r : Range) → at ≤ to → to ≤ length t → r .from ≤ r .to → r .to ≤ length (slice at to t)

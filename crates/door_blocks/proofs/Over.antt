@@ -13,17 +13,17 @@ use Rattle.base_refusals.specs.declared.Refusal.{Refusal}
 use Rattle.block_chain.specs.Chain.{blocksFrom, readBlocks, goodLine}
 use Rattle.base_lists.specs.Lists.{isSome}
 use Rattle.run_lines.specs.Runs.{Run, runAt}
-use Rattle.run_lines.specs.declared.Stop as stops
-use Rattle.run_lines.specs.declared.Stop.the-variants as stop
+use Rattle.base_refusals.specs.declared.Outcome as outcomes
+use Rattle.base_refusals.specs.declared.Outcome.the-variants as outcome
 use Rattle.block_trimmed_line.specs.Fronts.{frontOf, opensAt}
-use Rattle.read_blocks.specs.Blocks.{Found, nothing, closedRun, ended, runFound, found, wrapped, sized, joinHolds, blockOf}
+use Rattle.read_blocks.specs.Blocks.{Found, nothing, closedRun, endedRun, runFound, found, wrapped, sized, joinHolds, blockOf}
 use Rattle.text_line_start.specs.Starts.{startAt, onStart}
 use Rattle.read_blocks.specs.ByLine.{blockFound, wrappedFound}
 use Rattle.read_blocks.specs.declared.Block.{Block}
 use Rattle.text_line_start.specs.declared.Start as starts
 use Rattle.text_line_start.specs.declared.Start.the-variants as start
 use Rattle.door_shared.specs.Tells.{toldIn}
-use Rattle.door_blocks.specs.Blocks.{blockBy, blockSaid}
+use Rattle.door_blocks.specs.Blocks.{blockSaidBy, blockSaid}
 use Rattle.set_table.specs.Types.{textOver}
 
 -- ---- a run has joined bytes
@@ -42,9 +42,9 @@ unfolding goodLine readBlocks blocksFrom
 closed r [] e = Solid.none
 closed r (b ∷ s) e = by-test (goodLine (b ∷ s) 0 (length (b ∷ s))) (Solid.run (ap isSome e)) Solid.none
 
-ended-solid : (r : Run) (s : stops.Stop) → Solid (ended r s)
-ended-solid r stop.Closed = closed r (r .text) refl
-ended-solid r (stop.Refused q) = Solid.none
+ended-solid : (r : Run) (s : outcomes.Outcome) → Solid (endedRun r s)
+ended-solid r outcome.Passed = closed r (r .text) refl
+ended-solid r (outcome.Refused q) = Solid.none
 
 run-solid : (t : List ℕ) (at base cap : ℕ) → Solid (runFound t at base cap)
 unfolding runFound
@@ -81,14 +81,16 @@ unfolding textOver
 joined-over t [] j h = contra false h refl
 joined-over t (b ∷ s) j h = rw (eqb·suc-zero (length s)) (take-at (b ∷ s) (drop (length (b ∷ s)) j) (length (b ∷ s)) refl)
 
-over-found : (t : List ℕ) (at : ℕ) (f : Found) (j buf : List ℕ) → Solid f → blockBy (blockOf t at f) (textOver t (joinHolds j f) (blockOf t at f .joined)) buf ≡ blockSaid t at f buf
+over-found : (t : List ℕ) (at : ℕ) (f : Found) (j buf : List ℕ) → Solid f → blockSaidBy (blockOf t at f) (textOver t (joinHolds j f) (blockOf t at f .joined)) buf ≡ blockSaid t at f buf
 unfolding blockSaid blockOf joinHolds textOver
 over-found t at Found.line j buf h = refl
-over-found t at (Found.run r) j buf (Solid.run h) = ap (λ u. blockBy (blockOf t at (Found.run r)) u buf) (joined-over t (r .text) j h)
+over-found t at (Found.run r) j buf (Solid.run h) = ap (λ u. blockSaidBy (blockOf t at (Found.run r)) u buf) (joined-over t (r .text) j h)
 over-found t at (Found.none q x n) j buf h = refl
 
-pub block-says : (t j told : List ℕ) (at : ℕ) (f : Found) (buf : List ℕ) {b : Block} {i o v : List ℕ} {r : ℕ} → Solid f → b ≡ blockOf t at f → i ≡ joinHolds j f → r ≡ blockBy b (textOver t i (b .joined)) buf .number → o ≡ blockBy b (textOver t i (b .joined)) buf .out → v ≡ toldIn told (blockBy b (textOver t i (b .joined)) buf .told) → (r ≡ blockSaid t at f buf .number) × ((i ≡ joinHolds j f) × ((o ≡ blockSaid t at f buf .out) × (v ≡ toldIn told (blockSaid t at f buf .told))))
+pub block-says : (t j told : List ℕ) (at : ℕ) (f : Found) (buf : List ℕ) {b : Block} {i o v : List ℕ} {r : ℕ} → Solid f → b ≡ blockOf t at f → i ≡ joinHolds j f → r ≡ blockSaidBy b
+    (textOver t i (b .joined)) buf .number → o ≡ blockSaidBy b (textOver t i (b .joined)) buf .out → v ≡ toldIn told (blockSaidBy b (textOver t i (b .joined)) buf .told) →
+    (r ≡ blockSaid t at f buf .number) × ((i ≡ joinHolds j f) × ((o ≡ blockSaid t at f buf .out) × (v ≡ toldIn told (blockSaid t at f buf .told))))
 block-says t j told at f buf {b} {i} {o} {v} {r} h p q x y z = (x ∙ ap (λ s. s .number) e, (q, (y ∙ ap (λ s. s .out) e, z ∙ ap (λ s. toldIn told (s .told)) e)))
   where
-    e : blockBy b (textOver t i (b .joined)) buf ≡ blockSaid t at f buf
+    e : blockSaidBy b (textOver t i (b .joined)) buf ≡ blockSaid t at f buf
     e = rw (p, q) (over-found t at f j buf h)

@@ -1,4 +1,4 @@
-// What C and Rust call to read a block of one or more lines: the number of its refusal, 0 where nothing is refused; its set as canonical text in lent memory.
+// What C and Rust call to read a block of one or more lines: the number of its refusal or 0, and its set as canonical text.
 use read_blocks::Block;
 ghost use mathlib.Core.Path.{_≡_};
 ghost use lib.ListN.{length};
@@ -7,7 +7,7 @@ ghost use Rattle.read_blocks.specs.Blocks.{found, sized, joinHolds};
 ghost use Rattle.text_line_start.specs.Starts.{placeOf};
 ghost use Rattle.read_blocks.specs.ByLine.{blockFound, wrappedFound};
 ghost use Rattle.door_shared.specs.Tells.{toldIn};
-ghost use Rattle.door_blocks.specs.Blocks.{blockBy, blockSaid};
+ghost use Rattle.door_blocks.specs.Blocks.{blockSaidBy, blockSaid};
 
 // Writes and tells what a block reads.
 fn say_block<'a>(
@@ -17,13 +17,13 @@ fn say_block<'a>(
     out: &mut [u8],
     told: &mut [usize],
 ) -> u8
-    ensures { λ r. ⌜ r ≡ blockBy block (textOver (now (text .entry)) (now (join .entry)) (block .joined)) (now (out .entry)) .number ⌝ }
-    ensures { λ r. ⌜ now (out .exit) ≡ blockBy block (textOver (now (text .entry)) (now (join .entry)) (block .joined)) (now (out .entry)) .out ⌝ }
-    ensures { λ r. ⌜ now (told .exit) ≡ toldIn (now (told .entry)) (blockBy block (textOver (now (text .entry)) (now (join .entry)) (block .joined)) (now (out .entry)) .told) ⌝ }
+    ensures { λ r. ⌜ r ≡ blockSaidBy block (textOver (now (text .entry)) (now (join .entry)) (block .joined)) (now (out .entry)) .number ⌝ }
+    ensures { λ r. ⌜ now (out .exit) ≡ blockSaidBy block (textOver (now (text .entry)) (now (join .entry)) (block .joined)) (now (out .entry)) .out ⌝ }
+    ensures { λ r. ⌜ now (told .exit) ≡ toldIn (now (told .entry)) (blockSaidBy block (textOver (now (text .entry)) (now (join .entry)) (block .joined)) (now (out .entry)) .told) ⌝ }
 {
     let outcome = block.outcome;
     let over = set_table::text_over(text, join, block.joined);
-    let w = door_shared::write_out(door_shared::check_out(outcome), over, block.set, out);
+    let w = door_shared::write_out(outcome, over, block.set, out);
     door_shared::tell(told, 0, block.lines);
     door_shared::tell(told, 1, block.next);
     door_shared::tell(told, 2, block.lookahead);

@@ -6,8 +6,8 @@ use Rattle.read_lengths.specs.Lengths.{measured, linesIn}
 use Rattle.read_lengths.specs.declared.Measure.{Measure}
 
 -- what measuring told: its lines, the place behind them, the lookahead and the bytes joined
-abbrev pub toldBy : Measure → List ℕ
-toldBy m = linesIn (m .length) ∷ m .next ∷ m .lookahead ∷ m .joined ∷ []
+abbrev pub measureTold : Measure → List ℕ
+measureTold m = linesIn (m .length) ∷ m .next ∷ m .lookahead ∷ m .joined ∷ []
 
 unfoldable pub lengthTold : List ℕ → ℕ → Found → List ℕ
-lengthTold t at f = toldBy (measured t at f)
+lengthTold t at f = measureTold (measured t at f)

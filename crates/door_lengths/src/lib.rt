@@ -8,7 +8,7 @@ ghost use Rattle.read_lengths.specs.Lengths.{lengthNo, lengthOf, linesIn, stand
 ghost use Rattle.text_line_start.specs.Starts.{placeOf};
 ghost use Rattle.read_blocks.specs.ByLine.{blockFound};
 ghost use Rattle.door_shared.specs.Tells.{toldIn};
-ghost use Rattle.door_lengths.specs.Lengths.{toldBy, lengthTold};
+ghost use Rattle.door_lengths.specs.Lengths.{measureTold, lengthTold};
 
 // The number of a block's length.
 fn length_number(l: Length) -> u8
@@ -33,7 +33,7 @@ fn lines_in(l: Length) -> usize
 // Tells what measuring answers.
 fn say_length(m: Measure, told: &mut [usize]) -> u8
     ensures { λ r. ⌜ r ≡ lengthNo (m .length) ⌝ }
-    ensures { λ r. ⌜ now (told .exit) ≡ toldIn (now (told .entry)) (toldBy m) ⌝ }
+    ensures { λ r. ⌜ now (told .exit) ≡ toldIn (now (told .entry)) (measureTold m) ⌝ }
 {
     let length = m.length;
     door_shared::tell(told, 0, lines_in(length));

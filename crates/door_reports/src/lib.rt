@@ -5,7 +5,7 @@ ghost use mathlib.Core.Path.{_≡_};
 ghost use lib.ListN.{length};
 ghost use Rattle.base_lists.specs.Lists.{over};
 ghost use Rattle.sheet_blocks.specs.Sheets.{joinBehind};
-ghost use Rattle.sheet_report.specs.Parts.{toldNo, startOf, partOf, shown};
+ghost use Rattle.sheet_report.specs.Parts.{toldNo, startOf, partOf, shownPart};
 ghost use Rattle.door_shared.specs.Tells.{toldIn};
 ghost use Rattle.door_reports.specs.Reports.{partTold};
 
@@ -44,7 +44,7 @@ pub extern "C" fn bridlesnow_report_start(
     ensures { λ r. ⌜ r ≡ toldNo (startOf (now (text .entry)) (length (now (join .entry))) (length (now (out .entry))) .told) ⌝ }
     ensures { λ r. ⌜ now (join .exit) ≡ joinBehind (now (join .entry)) (startOf (now (text .entry)) (length (now (join .entry))) (length (now (out .entry))) .past) ⌝ }
     ensures { λ r. ⌜ now (out .exit) ≡ over (startOf (now (text .entry)) (length (now (join .entry))) (length (now (out .entry))) .text) (now (out .entry)) ⌝ }
-    ensures { λ r. ⌜ now (told .exit) ≡ toldIn (now (told .entry)) (partTold (shown (startOf (now (text .entry)) (length (now (join .entry))) (length (now (out .entry)))))) ⌝ }
+    ensures { λ r. ⌜ now (told .exit) ≡ toldIn (now (told .entry)) (partTold (shownPart (startOf (now (text .entry)) (length (now (join .entry))) (length (now (out .entry)))))) ⌝ }
 {
     say_part(sheet_report::report_start(text, join, out), told)
 }
@@ -62,7 +62,7 @@ pub extern "C" fn bridlesnow_report_part(
     ensures { λ r. ⌜ r ≡ toldNo (partOf (now (text .entry)) at line (length (now (join .entry))) (length (now (out .entry))) .told) ⌝ }
     ensures { λ r. ⌜ now (join .exit) ≡ joinBehind (now (join .entry)) (partOf (now (text .entry)) at line (length (now (join .entry))) (length (now (out .entry))) .past) ⌝ }
     ensures { λ r. ⌜ now (out .exit) ≡ over (partOf (now (text .entry)) at line (length (now (join .entry))) (length (now (out .entry))) .text) (now (out .entry)) ⌝ }
-    ensures { λ r. ⌜ now (told .exit) ≡ toldIn (now (told .entry)) (partTold (shown (partOf (now (text .entry)) at line (length (now (join .entry))) (length (now (out .entry)))))) ⌝ }
+    ensures { λ r. ⌜ now (told .exit) ≡ toldIn (now (told .entry)) (partTold (shownPart (partOf (now (text .entry)) at line (length (now (join .entry))) (length (now (out .entry)))))) ⌝ }
 {
     say_part(sheet_report::report_part(text, at, line, join, out), told)
 }

@@ -2,7 +2,7 @@
 use Prim.Native.Nat.{ℕ}
 use mathlib.Core.List.{List, [], _∷_}
 use lib.ListN.{length}
-use Rattle.run_refused.specs.Refused.{answerLines, Told}
+use Rattle.run_refused.specs.Refused.{answerLines, RunTold}
 use Rattle.run_refused.specs.declared.Answer as runs
 use Rattle.run_refused.specs.declared.Answer.the-variants as run
 use Rattle.run_endings.specs.Endings.{Ended}
@@ -10,14 +10,14 @@ use Rattle.run_endings.specs.declared.Ends as ends
 use Rattle.run_endings.specs.declared.Ends.the-variants as end
 
 -- "`refused_brace_run` answers Lines, No with a count, or No to the end": 1 for Lines, else 0
-abbrev pub kindOf : runs.Answer → ℕ
-kindOf (run.No n) = 0
-kindOf (run.Lines n) = 1
-kindOf run.NoEnd = 0
-kindOf (run.Refused r) = 0
+abbrev pub runKind : runs.Answer → ℕ
+runKind (run.No n) = 0
+runKind (run.Lines n) = 1
+runKind run.NoEnd = 0
+runKind (run.Refused r) = 0
 
-abbrev pub runTold : Told → List ℕ
-runTold r = kindOf (r .answer) ∷ answerLines (r .answer) ∷ r .lookahead ∷ length (r .text) ∷ []
+abbrev pub runTold : RunTold → List ℕ
+runTold r = runKind (r .answer) ∷ answerLines (r .answer) ∷ r .lookahead ∷ length (r .text) ∷ []
 
 -- "`ends_in_refused_brace_run` says yes or no": 1 and 0
 abbrev pub endsKind : ends.Ends → ℕ

@@ -1,16 +1,16 @@
-// What C and Rust call about brace runs that are refused only for a line too far left: the number of a refusal, 0 where nothing is refused.
+// What C and Rust call about runs that are refused only for a line too far left: the number of a refusal, 0 where there is none.
 use run_endings::Ends;
 ghost use mathlib.Core.Path.{_≡_};
 ghost use lib.ListN.{length};
 ghost use Rattle.base_lists.specs.Lists.{over};
-ghost use Rattle.run_refused.specs.Refused.{answerNo, answerLines, refusedRun};
+ghost use Rattle.run_refused.specs.Refused.{runAnswerNo, answerLines, refusedRun};
 ghost use Rattle.run_endings.specs.Endings.{endsNo, endsIn};
 ghost use Rattle.door_shared.specs.Tells.{toldIn};
-ghost use Rattle.door_runs.specs.Runs.{kindOf, endsKind, runTold, endsTold};
+ghost use Rattle.door_runs.specs.Runs.{runKind, endsKind, runTold, endsTold};
 
 // The number of what is said of a refused run.
 fn answer_number(a: run_refused::Answer) -> u8
-    ensures { λ r. ⌜ r ≡ answerNo a ⌝ }
+    ensures { λ r. ⌜ r ≡ runAnswerNo a ⌝ }
 {
     match a {
         run_refused::Answer::No(_) => 0,
@@ -22,7 +22,7 @@ fn answer_number(a: run_refused::Answer) -> u8
 
 // 1 where a run is refused.
 fn kind_of(a: run_refused::Answer) -> usize
-    ensures { λ r. ⌜ r ≡ kindOf a ⌝ }
+    ensures { λ r. ⌜ r ≡ runKind a ⌝ }
 {
     match a {
         run_refused::Answer::No(_) => 0,
@@ -53,7 +53,7 @@ pub extern "C" fn bridlesnow_refused_brace_run(
     join: &mut [u8],
     told: &mut [usize],
 ) -> u8
-    ensures { λ r. ⌜ r ≡ answerNo (refusedRun (length (now (join .entry))) (now (text .entry)) line .answer) ⌝ }
+    ensures { λ r. ⌜ r ≡ runAnswerNo (refusedRun (length (now (join .entry))) (now (text .entry)) line .answer) ⌝ }
     ensures { λ r. ⌜ now (join .exit) ≡ over (refusedRun (length (now (join .entry))) (now (text .entry)) line .text) (now (join .entry)) ⌝ }
     ensures { λ r. ⌜ now (told .exit) ≡ toldIn (now (told .entry)) (runTold (refusedRun (length (now (join .entry))) (now (text .entry)) line)) ⌝ }
 {

@@ -1,12 +1,12 @@
-// What C and Rust call to read or merge a set within a line: the number of its refusal, 0 where nothing is refused; the set as canonical text in lent memory.
+// What C and Rust call to read or merge a set within a line: the number of its refusal or 0, and the set as canonical text.
 use base_bytes::Mode;
+use base_refusals::Outcome;
 use read_brace::Answer;
-use text_checks::Check;
 ghost use mathlib.Core.Path.{_≡_};
 ghost use Rattle.text_checks.specs.Check.{checkOf};
-ghost use Rattle.set_writer.specs.Write.{orElse};
+ghost use Rattle.text_checks.specs.Outcomes.{orElse};
 ghost use Rattle.door_shared.specs.Tells.{toldIn};
-ghost use Rattle.door_sets.specs.Sets.{modeOf, checkBy, nextOf, stepOf, braceSaid, lineSaid, mergeSaid};
+ghost use Rattle.door_sets.specs.Sets.{modeOf, checkBy, placeBehind, refusedStep, braceSaid, lineSaid, mergeSaid};
 
 // 0 is strict, any other number loose.
 fn mode_of(loose: u8) -> Mode
@@ -19,18 +19,18 @@ fn mode_of(loose: u8) -> Mode
 }
 
 // Why nothing was read at a brace.
-fn check_by(a: Answer) -> Check
+fn check_by(a: Answer) -> Outcome
     ensures { λ r. ⌜ r ≡ checkBy a ⌝ }
 {
     match a {
-        Answer::Refused(r) => Check::Refused(r),
-        Answer::Next(_) => Check::Passed,
+        Answer::Refused(r) => Outcome::Refused(r),
+        Answer::Next(_) => Outcome::Passed,
     }
 }
 
 // The place behind what was read at a brace.
 fn next_of(a: Answer) -> usize
-    ensures { λ r. ⌜ r ≡ nextOf a ⌝ }
+    ensures { λ r. ⌜ r ≡ placeBehind a ⌝ }
 {
     match a {
         Answer::Refused(_) => 0,
@@ -39,12 +39,12 @@ fn next_of(a: Answer) -> usize
 }
 
 // A refusal, or else what the whole text gives.
-fn or_text(c: Check, text: &[u8]) -> Check
+fn or_text(c: Outcome, text: &[u8]) -> Outcome
     ensures { λ r. ⌜ r ≡ orElse c (checkOf (now (text .entry))) ⌝ }
 {
     match c {
-        Check::Refused(r) => Check::Refused(r),
-        Check::Passed => text_checks::check_text(text),
+        Outcome::Refused(r) => Outcome::Refused(r),
+        Outcome::Passed => text_checks::check_text(text),
     }
 }
 
@@ -84,32 +84,32 @@ pub extern "C" fn bridlesnow_parse_standalone_attrs(
 {
     let filled = read_by_line::parse_standalone_attrs(text, line);
     let outcome = filled.outcome;
-    let w = door_shared::write_out(door_shared::check_out(outcome), text, filled.set, out);
+    let w = door_shared::write_out(outcome, text, filled.set, out);
     door_shared::tell(told, 0, door_shared::wrote_len(w));
     door_shared::wrote_number(w)
 }
 
 // The first of two refusals.
-fn first_of(a: Check, b: Check) -> Check
+fn first_of(a: Outcome, b: Outcome) -> Outcome
     ensures { λ r. ⌜ r ≡ orElse a b ⌝ }
 {
     match a {
-        Check::Refused(r) => Check::Refused(r),
-        Check::Passed => b,
+        Outcome::Refused(r) => Outcome::Refused(r),
+        Outcome::Passed => b,
     }
 }
 
 // Which of three steps is the first that refuses, counted from 1.
-fn step_of(a: Check, b: Check, c: Check) -> usize
-    ensures { λ r. ⌜ r ≡ stepOf a b c ⌝ }
+fn step_of(a: Outcome, b: Outcome, c: Outcome) -> usize
+    ensures { λ r. ⌜ r ≡ refusedStep a b c ⌝ }
 {
     match a {
-        Check::Refused(_) => 1,
-        Check::Passed => match b {
-            Check::Refused(_) => 2,
-            Check::Passed => match c {
-                Check::Refused(_) => 3,
-                Check::Passed => 0,
+        Outcome::Refused(_) => 1,
+        Outcome::Passed => match b {
+            Outcome::Refused(_) => 2,
+            Outcome::Passed => match c {
+                Outcome::Refused(_) => 3,
+                Outcome::Passed => 0,
             },
         },
     }
@@ -132,12 +132,9 @@ pub extern "C" fn bridlesnow_merge_lines(
     let first = read_by_line::parse_standalone_attrs(text, common);
     let second = read_by_line::parse_standalone_attrs(text, variant);
     let merged = set_merge::merge_attrs(text, first.set, second.set);
-    let x = first.outcome;
-    let y = second.outcome;
-    let z = merged.outcome;
-    let a = door_shared::check_out(x);
-    let b = door_shared::check_out(y);
-    let c = door_shared::check_out(z);
+    let a = first.outcome;
+    let b = second.outcome;
+    let c = merged.outcome;
     let w = door_shared::write_out(first_of(a, first_of(b, c)), text, merged.set, out);
     door_shared::tell(told, 0, step_of(a, b, c));
     door_shared::tell(told, 1, door_shared::wrote_len(w));

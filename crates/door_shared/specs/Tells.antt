@@ -2,15 +2,16 @@
 use Prim.Native.Nat.{ℕ}
 use mathlib.Core.List.{List, [], _∷_}
 use lib.ListN.{length}
-use Rattle.text_checks.specs.declared.Check.{Check}
-use Rattle.text_checks.specs.declared.Check.the-variants.{Passed, Refused}
+use Rattle.base_refusals.specs.declared.Outcome.{Outcome}
+use Rattle.base_refusals.specs.declared.Outcome as outcomes
+use Rattle.base_refusals.specs.declared.Outcome.the-variants.{Passed, Refused}
+use Rattle.base_refusals.specs.declared.Outcome.the-variants as outcome
 use Rattle.set_canon.specs.Canon.{canon}
 use Rattle.set_table.specs.Types.{one}
 use Rattle.set_table.specs.Rows.{meaningOf}
 use Rattle.set_table.specs.declared.Attrs.{Attrs}
-use Rattle.set_fill.specs.declared.Outcome as outcomes
-use Rattle.set_fill.specs.declared.Outcome.the-variants as outcome
-use Rattle.set_writer.specs.Write.{wroteNo, wroteOf, contentAfter, orRefused, orLeft}
+use Rattle.set_writer.specs.Write.{wroteNo, wroteOf, contentAfter, orRefused}
+use Rattle.text_checks.specs.Outcomes.{orLeft}
 use Rattle.set_writer.specs.declared.Wrote as wrotes
 use Rattle.set_writer.specs.declared.Wrote.the-variants as wrote
 
@@ -19,11 +20,6 @@ unfoldable pub toldIn : List ℕ → List ℕ → List ℕ
 toldIn [] xs = []
 toldIn (b ∷ buf) [] = b ∷ buf
 toldIn (b ∷ buf) (x ∷ xs) = x ∷ toldIn buf xs
-
--- why no set is handed out
-abbrev pub checkOut : outcomes.Outcome → Check
-checkOut (outcome.Refused r) = Refused r
-checkOut outcome.Done = Passed
 
 -- how many bytes the canonical text has, 0 where none is written
 abbrev pub lenOf : wrotes.Wrote → ℕ
@@ -37,7 +33,7 @@ pub record Said : Type 0 where
   pub out : List ℕ
 
 -- a set over the text t, unless the check refuses it: its canonical text, where it has room in `buf`; its length, 0 where none is written, is the last number told
-abbrev pub setSaid : Check → List ℕ → Attrs → List ℕ → (ℕ → List ℕ) → Said
+abbrev pub setSaid : Outcome → List ℕ → Attrs → List ℕ → (ℕ → List ℕ) → Said
 setSaid c t a buf tell =
     record {
       number = wroteNo (orRefused c (wroteOf (canon (meaningOf (one t) a)) (length buf)));

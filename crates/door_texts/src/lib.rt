@@ -1,9 +1,9 @@
 // What C and Rust call with a text alone: yes or no, or the number of a refusal.
-use text_checks::Check;
 ghost use mathlib.Core.Path.{_≡_};
+ghost use Rattle.base_refusals.specs.Numbers.{outcomeNo};
 ghost use Rattle.base_bytes.specs.declared.Mode.the-variants.{Strict, Loose};
 ghost use Rattle.text_utf8.specs.Utf8.{isUtf8};
-ghost use Rattle.text_checks.specs.Check.{checkNo, checkOf};
+ghost use Rattle.text_checks.specs.Check.{checkOf};
 ghost use Rattle.block_payloads.specs.Payloads.{isPayload, isContinuation};
 
 // Whether the bytes are UTF-8.
@@ -14,22 +14,12 @@ pub extern "C" fn bridlesnow_is_utf8(text: &[u8]) -> bool
     text_utf8::is_utf8(text)
 }
 
-// The number of a check.
-fn check_number(c: Check) -> u8
-    ensures { λ r. ⌜ r ≡ checkNo c ⌝ }
-{
-    match c {
-        Check::Passed => 0,
-        Check::Refused(r) => base_refusals::number(r),
-    }
-}
-
 // 1 or 2 where the text is refused as a whole.
 #[no_mangle]
 pub extern "C" fn bridlesnow_check_text(text: &[u8]) -> u8
-    ensures { λ r. ⌜ r ≡ checkNo (checkOf (now (text .entry))) ⌝ }
+    ensures { λ r. ⌜ r ≡ outcomeNo (checkOf (now (text .entry))) ⌝ }
 {
-    check_number(text_checks::check_text(text))
+    base_refusals::outcome_number(text_checks::check_text(text))
 }
 
 // Whether the bytes are a payload of an inline block.

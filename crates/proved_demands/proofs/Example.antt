@@ -1,8 +1,7 @@
 -- The example of document 01's 'The sheet program', computed.
 -- Assumes nothing.
-use mathlib.Core.Path.{_≡_, refl}
-use mathlib.Core.List.{List, [], _∷_, flatMap}
-use Prim.Native.Nat.{ℕ}
+use mathlib.Core.Path.{refl}
+use mathlib.Core.List.{flatMap}
 use Rattle.base_lists.specs.Lists.{isIn, all, headed, run, same}
 use Rattle.base_bytes.specs.Bytes.{isBlank, isPlain, isQuote, within, isLetter, isDigit, isAlnum, isNamePart, isKeyStart, isNameStart, isSpace, isPunct, isTail, isIndent, isMarked}
 use Rattle.text_utf8.specs.Utf8.{leadOf, afterOf, octetsFrom, isUtf8}
@@ -16,7 +15,7 @@ use Rattle.text_lines.specs.Trim.{trimEnd, trimStart, trim, trimRange, isBlankL
 use Rattle.text_tabs.specs.Columns.{tabStop, columnAfter, indentFrom, capped}
 use Rattle.block_grammar.specs.Read.{ends, finish, shutOf, valueToken, afterName, tokenOf, text, readFrom, readPayload}
 use Rattle.block_grammar.specs.Grammar.{isValue}
-use Rattle.block_grammar.specs.Close.{turned, stepOf, closeFrom}
+use Rattle.block_grammar.specs.Close.{turned, scanStep, closeFrom}
 use Rattle.block_grammar.specs.Meaning as meaning
 use Rattle.set_canon.specs.Canon.{pairsOf, pairs, marked, escape, moreText, pairsText, canon}
 use Rattle.block_payloads.specs.Payloads.{endsInClose, behindFrom, behindLast, continues}
@@ -24,8 +23,9 @@ use Rattle.run_scanners.specs.Scanners.{passed, seekStep, seekFrom, lastOpenBra
 use Rattle.set_table.specs.Rows.{padded, tableOf, putRow, hasKey, withPut, withPuts, slotEntry, meant, rowsIn, meaningOf}
 use Rattle.set_table.specs.Puts.{byName, valued, putsOf, putsIn}
 use Rattle.set_table.specs.Types.{rangeBytes, nameBytes, valueBytes}
+use Rattle.set_table.specs.Filled.{limited}
 use Rattle.block_chain.specs.Chain.{blocksFrom, readBlocks, goodLine}
-use Rattle.set_fill.specs.Fill.{limited, chainAt}
+use Rattle.set_fill.specs.Fill.{chainAt}
 use Rattle.run_joins.specs.Joins.{passes}
 use Rattle.run_lines.specs.Runs.{runFrom, runAt}
 use Rattle.block_trimmed_line.specs.Fronts.{frontOf, opensAt}
@@ -34,31 +34,15 @@ use Rattle.read_lengths.specs.Lengths.{flushLeft}
 use Rattle.sheet_blocks.specs.Sheets.{triesFrom, onlyBlocks, blocksOf}
 use Rattle.sheet_report.specs.Decimal.{placesIn, places, decimal}
 use Rattle.sheet_report.specs.Report.{reportLine, refusedLine, canonLine, blockLine, reportOf, report}
+use Rattle.proved_demands.specs.Typed.{typed}
+use Rattle.proved_demands.specs.Cases.{ExampleReported}
 
--- the sheet
-abbrev sheet : List ℕ
-sheet =
-    -- {.wheel side=left}
-    123 ∷ 46 ∷ 119 ∷ 104 ∷ 101 ∷ 101 ∷ 108 ∷ 32 ∷ 115 ∷ 105 ∷ 100 ∷ 101 ∷ 61 ∷ 108 ∷ 101 ∷ 102 ∷ 116 ∷ 125 ∷ 10 ∷
-    -- text
-    116 ∷ 101 ∷ 120 ∷ 116 ∷ 10 ∷
-    -- {#v17
-    123 ∷ 35 ∷ 118 ∷ 49 ∷ 55 ∷ 10 ∷
-    --  side=right}
-    32 ∷ 115 ∷ 105 ∷ 100 ∷ 101 ∷ 61 ∷ 114 ∷ 105 ∷ 103 ∷ 104 ∷ 116 ∷ 125 ∷ 10 ∷
-    -- {.a}{.b side="x}y"}
-    123 ∷ 46 ∷ 97 ∷ 125 ∷ 123 ∷ 46 ∷ 98 ∷ 32 ∷ 115 ∷ 105 ∷ 100 ∷ 101 ∷ 61 ∷ 34 ∷ 120 ∷ 125 ∷ 121 ∷ 34 ∷ 125 ∷ 10 ∷ []
-
--- its report
-abbrev written : List ℕ
-written =
-    -- block→1→1→{class="wheel" side="left"}
-    98 ∷ 108 ∷ 111 ∷ 99 ∷ 107 ∷ 9 ∷ 49 ∷ 9 ∷ 49 ∷ 9 ∷ 123 ∷ 99 ∷ 108 ∷ 97 ∷ 115 ∷ 115 ∷ 61 ∷ 34 ∷ 119 ∷ 104 ∷ 101 ∷ 101 ∷ 108 ∷ 34 ∷ 32 ∷ 115 ∷ 105 ∷ 100 ∷ 101 ∷ 61 ∷ 34 ∷ 108 ∷ 101 ∷ 102 ∷ 116 ∷ 34 ∷ 125 ∷ 10 ∷
-    -- block→3→2→{id="v17" side="right"}
-    98 ∷ 108 ∷ 111 ∷ 99 ∷ 107 ∷ 9 ∷ 51 ∷ 9 ∷ 50 ∷ 9 ∷ 123 ∷ 105 ∷ 100 ∷ 61 ∷ 34 ∷ 118 ∷ 49 ∷ 55 ∷ 34 ∷ 32 ∷ 115 ∷ 105 ∷ 100 ∷ 101 ∷ 61 ∷ 34 ∷ 114 ∷ 105 ∷ 103 ∷ 104 ∷ 116 ∷ 34 ∷ 125 ∷ 10 ∷
-    -- block→5→1→{class="a" class="b" side="x}y"}
-    98 ∷ 108 ∷ 111 ∷ 99 ∷ 107 ∷ 9 ∷ 53 ∷ 9 ∷ 49 ∷ 9 ∷ 123 ∷ 99 ∷ 108 ∷ 97 ∷ 115 ∷ 115 ∷ 61 ∷ 34 ∷ 97 ∷ 34 ∷ 32 ∷ 99 ∷ 108 ∷ 97 ∷ 115 ∷ 115 ∷ 61 ∷ 34 ∷ 98 ∷ 34 ∷ 32 ∷ 115 ∷ 105 ∷ 100 ∷ 101 ∷ 61 ∷ 34 ∷ 120 ∷ 125 ∷ 121 ∷ 34 ∷ 125 ∷ 10 ∷ []
-
-pub example : report sheet ≡ written
-unfolding isIn all headed run same isBlank isPlain isQuote within isLetter isDigit isAlnum isNamePart isKeyStart isNameStart isSpace isPunct isTail isIndent leadOf afterOf octetsFrom isUtf8 numberOf checkOf isKey isBareName isName isSize tagFrom isTag isLanguage unescapeFrom unescape lines eol lineFrom rangesFrom ranges trimEnd trimStart trim trimRange isBlankLine tabStop columnAfter indentFrom capped ends finish shutOf valueToken afterName tokenOf text readFrom readPayload isValue stepOf closeFrom meaning.rangesFrom pairsOf pairs flatMap marked isMarked escape moreText pairsText canon endsInClose behindFrom behindLast continues turned passed seekStep seekFrom lastOpenBrace scanFrom openQuoteAtEnd heldStep holdFrom holdsOpen padded tableOf putRow hasKey withPut withPuts slotEntry meant rowsIn meaningOf byName valued putsOf putsIn rangeBytes nameBytes valueBytes blocksFrom readBlocks goodLine limited chainAt passes runFrom runAt frontOf opensAt runFound found flushLeft triesFrom onlyBlocks blocksOf placesIn places decimal reportLine refusedLine canonLine blockLine reportOf report
+pub example : ExampleReported
+unfolding typed isIn all headed run same isBlank isPlain isQuote within isLetter isDigit isAlnum isNamePart isKeyStart isNameStart isSpace isPunct isTail isIndent leadOf
+    afterOf octetsFrom isUtf8 numberOf checkOf isKey isBareName isName isSize tagFrom isTag isLanguage unescapeFrom unescape lines eol lineFrom rangesFrom ranges trimEnd
+    trimStart trim trimRange isBlankLine tabStop columnAfter indentFrom capped ends finish shutOf valueToken afterName tokenOf text readFrom readPayload isValue scanStep
+    closeFrom meaning.pieceRanges pairsOf pairs flatMap marked isMarked escape moreText pairsText canon endsInClose behindFrom behindLast continues turned passed seekStep
+    seekFrom lastOpenBrace scanFrom openQuoteAtEnd heldStep holdFrom holdsOpen padded tableOf putRow hasKey withPut withPuts slotEntry meant rowsIn meaningOf byName valued
+    putsOf putsIn rangeBytes nameBytes valueBytes blocksFrom readBlocks goodLine limited chainAt passes runFrom runAt frontOf opensAt runFound found flushLeft triesFrom
+    onlyBlocks blocksOf placesIn places decimal reportLine refusedLine canonLine blockLine reportOf report
 example = refl

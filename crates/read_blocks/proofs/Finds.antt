@@ -19,18 +19,19 @@ use Rattle.set_table.specs.Rows.{Rows, tableOf}
 use Rattle.block_grammar.specs.Read.{Reading}
 use Rattle.block_tokens.specs.Shown.{accepted}
 use Rattle.block_chain.specs.Chain.{readBlocks, goodLine}
-use Rattle.set_fill.specs.Fill.{refusing, limited, filledBy, chainAt}
-use Rattle.set_fill.specs.declared.Outcome.the-variants.{Done}
+use Rattle.set_fill.specs.Fill.{filledBy, chainAt}
+use Rattle.base_refusals.specs.declared.Outcome.the-variants.{Passed}
+use Rattle.base_refusals.specs.declared.Outcome.the-variants as outcome
 use Rattle.run_lines.specs.Runs.{Run, runAt, joinedOf, pastLines}
 use Rattle.run_lines.specs.declared.Joined.{Joined}
-use Rattle.set_fill.specs.declared.Filled.{Filled}
+use Rattle.set_table.specs.declared.Filled.{Filled}
+use Rattle.set_table.specs.Filled.{refusing, limited}
 use Rattle.block_trimmed_line.specs.declared.Front.{Front}
 use Rattle.read_blocks.specs.declared.Block.{Block}
 use Rattle.run_lines.proofs.Bounds.{text-short}
-use Rattle.run_lines.specs.declared.Stop.the-variants as stop
 use Rattle.block_trimmed_line.specs.Fronts.{frontOf, opensAt}
 use Rattle.read_blocks.specs.Blocks.{Found, nothing, closedRun, runFound, found, wrapped, joinHolds, blockBy, unread, blockOf, sized}
-use Rattle.read_blocks.specs.Steps.{isUnread}
+use Rattle.read_blocks.specs.Inner.{isUnread}
 
 -- ---- a good line is one that is read
 
@@ -39,7 +40,7 @@ limited-read : (s : Rows) → isUnread (limited s .outcome) ≡ false
 unfolding limited numberOf
 limited-read s = go (ltb maxClasses (length (s .classes))) (ltb maxKeys (length (s .keys))) (ltb maxSlots (length (s .order)))
   where
-    go : (a b c : Bool) → isUnread (cond a (refusing TooManyClasses) (cond b (refusing TooManyKeys) (cond c (refusing TooManySlots) (record { outcome = Done; set = tableOf s }))) .outcome) ≡ false
+    go : (a b c : Bool) → isUnread (cond a (refusing TooManyClasses) (cond b (refusing TooManyKeys) (cond c (refusing TooManySlots) (record { outcome = Passed; set = tableOf s }))) .outcome) ≡ false
     go true b c = refl
     go false true c = refl
     go false false true = refl
@@ -141,10 +142,10 @@ module _ (t : List ℕ) (at base : ℕ) (buf : List ℕ) {j : Joined} {b : List 
   pub joined-in : j .len ≤ length b
   joined-in = rw (e, o, length-append) (omega arith)
 
-  module _ {q : Refusal} (s : j .stop ≡ stop.Refused q) where
+  module _ {q : Refusal} (s : j .stop ≡ outcome.Refused q) where
     pub refused-is : f ≡ Found.none q (r .text) (r .lookahead)
     unfolding runFound
-    refused-is = let z : r .stop ≡ stop.Refused q = rw e at s in rw z
+    refused-is = let z : r .stop ≡ outcome.Refused q = rw e at s in rw z
 
     pub run-holds : b ≡ joinHolds buf f
     unfolding joinHolds
@@ -154,11 +155,11 @@ module _ (t : List ℕ) (at base : ℕ) (buf : List ℕ) {j : Joined} {b : List 
     unfolding blockOf pastLines
     run-unread p = rw (refused-is, p, e)
 
-  module _ (s : j .stop ≡ stop.Closed) where
+  module _ (s : j .stop ≡ outcome.Passed) where
     pub closed-is : (x : Bool) → goodLine (take (j .len) b) 0 (j .len) ≡ x → f ≡ closedRun r x
     unfolding runFound
     closed-is x g =
-        let z : r .stop ≡ stop.Closed = rw e at s in
+        let z : r .stop ≡ outcome.Passed = rw e at s in
         let n : j .len ≡ length (r .text) = rw e in
         let y : goodLine (r .text) 0 (length (r .text)) ≡ x = rw (joined-is, n) at g in
         rw (z, y)

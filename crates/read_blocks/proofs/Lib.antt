@@ -3,5 +3,3 @@ pub mod Finds
 pub mod ByLine
 pub mod Places
 pub mod Wraps
-pub mod SetsOk
-pub mod Numbers

@@ -13,24 +13,24 @@ use Rattle.base_lists.specs.Lists.{isIn}
 use Rattle.base_lists.proofs.More.{contra}
 use Rattle.base_bytes.specs.declared.Mode.{Mode}
 use Rattle.base_bytes.specs.declared.Mode.the-variants.{Loose}
-use Rattle.base_refusals.specs.declared.Refusal.the-variants.{NothingThere, NoReading, JoinFull}
+use Rattle.base_refusals.specs.declared.Refusal.the-variants.{NoReading, JoinFull}
 use Rattle.block_grammar.specs.Grammar.{Placed}
 use Rattle.block_grammar.specs.Read.{Reading}
 use Rattle.block_tokens.specs.Shown.{accepted}
 use Rattle.text_lines.specs.Lines.{lines, firstOf, lineAt}
 use Rattle.text_lines.specs.Trim.{trim}
 use Rattle.block_payloads.specs.Payloads.{endsInClose}
-use Rattle.block_chain.specs.Chain.{Block, Blocks, readBlocks, goodLine}
+use Rattle.block_chain.specs.Chain.{OneBlock, Blocks, readBlocks, goodLine}
 use Rattle.block_chain.proofs.Blocks.{sound}
 use Rattle.run_scanners.specs.Scanners.{holdsOpen}
 use Rattle.run_lines.specs.Runs as runs
-use Rattle.run_lines.specs.declared.Stop as stops
-use Rattle.run_lines.specs.declared.Stop.the-variants as stop
+use Rattle.base_refusals.specs.declared.Outcome as outcomes
+use Rattle.base_refusals.specs.declared.Outcome.the-variants as outcome
 use Rattle.run_lines.proofs.Bounds.{run-by}
 use Rattle.block_trimmed_line.specs.Fronts.{frontOf, opensAt}
 use Rattle.block_trimmed_line.specs.declared.Front.{Front}
 use Rattle.block_trimmed_line.proofs.Trimmed.{front-slice}
-use Rattle.read_blocks.specs.Blocks.{Found, nothing, closedRun, ended, runFound, found, linesOf}
+use Rattle.read_blocks.specs.Blocks.{closedRun, endedRun, runFound, found, linesOf}
 use Rattle.read_blocks.proofs.Finds.{found-run}
 
 -- ---- a good line ends in `}`
@@ -46,7 +46,7 @@ ends-close [] = refl
 ends-close (b ∷ y) = last-close b y
 
 blocks-end : {m : Mode} {at : ℕ} {s : List ℕ} {is : List Placed} → Blocks m at s is → (y : List ℕ) × (s ≡ y ++ (125 ∷ []))
-blocks-end (Blocks.one (Block.block {inside = a} c f p)) = (123 ∷ a, refl)
+blocks-end (Blocks.one (OneBlock.block {inside = a} c f p)) = (123 ∷ a, refl)
 blocks-end (Blocks.more {b = b} x r) = let z = blocks-end r in (b ++ z .0, ap (λ s. b ++ s) (z .1) ∙ sym (append-assoc b (z .0) (125 ∷ [])))
 
 good-ends : (t : List ℕ) (from to : ℕ) → goodLine t from to ≡ true → endsInClose (slice from to t) ≡ true
@@ -80,7 +80,7 @@ abbrev First : List runs.Lined → runs.Run → Type 0
 First [] R = ⊥
 First (l ∷ ls) R = (0 < R .lines) × (R .lines ≤ 1 → R .text ≡ trim (l .line))
 
-first-text : (cap base : ℕ) (ls : List runs.Lined) → runs.runOf cap base ls .stop ≡ stop.Closed → First ls (runs.runOf cap base ls)
+first-text : (cap base : ℕ) (ls : List runs.Lined) → runs.runOf cap base ls .stop ≡ outcome.Passed → First ls (runs.runOf cap base ls)
 unfolding runs.runFrom
 first-text cap base [] e = let z : _≡_ {A = ℕ} 0 1 = cc in absurd (omega arith)
 first-text cap base (l ∷ ls) e =
@@ -91,10 +91,10 @@ first-text cap base (l ∷ ls) e =
 
     R : Bool → Bool → Bool → runs.Run
     R x y z =
-        cond x (cond y (runs.ended (stop.Refused JoinFull) so) (cond z (runs.ended stop.Closed (runs.after so l)) (runs.runFrom cap (runs.after so l) ls)))
-        (runs.ended (stop.Refused NoReading) so)
+        cond x (cond y (runs.ended (outcome.Refused JoinFull) so) (cond z (runs.ended outcome.Passed (runs.after so l)) (runs.runFrom cap (runs.after so l) ls)))
+        (runs.ended (outcome.Refused NoReading) so)
 
-    go : (x y z : Bool) → Kept (runs.after so l) ls (runs.runFrom cap (runs.after so l) ls) → R x y z .stop ≡ stop.Closed → First (l ∷ ls) (R x y z)
+    go : (x y z : Bool) → Kept (runs.after so l) ls (runs.runFrom cap (runs.after so l) ls) → R x y z .stop ≡ outcome.Passed → First (l ∷ ls) (R x y z)
     go false y z k e = let z : _≡_ {A = ℕ} 0 1 = cc in absurd (omega arith)
     go true true z k e = let z : _≡_ {A = ℕ} 0 1 = cc in absurd (omega arith)
     go true false true k e = (omega arith, λ h. refl)
@@ -106,16 +106,16 @@ module _ (t : List ℕ) (at base cap : ℕ) where
   abbrev r : runs.Run
   r = runs.runAt cap base t at
 
-  run-first : r .stop ≡ stop.Closed → (0 < r .lines) × (r .lines ≤ 1 → r .text ≡ trim (lineAt t at))
+  run-first : r .stop ≡ outcome.Passed → (0 < r .lines) × (r .lines ≤ 1 → r .text ≡ trim (lineAt t at))
   unfolding runs.runAt
   run-first = go (lines (drop at t))
     where
-      go : (ls : List (List ℕ)) → runs.runOf cap base (map runs.asIs ls) .stop ≡ stop.Closed
+      go : (ls : List (List ℕ)) → runs.runOf cap base (map runs.asIs ls) .stop ≡ outcome.Passed
           → (0 < runs.runOf cap base (map runs.asIs ls) .lines) × (runs.runOf cap base (map runs.asIs ls) .lines ≤ 1 → runs.runOf cap base (map runs.asIs ls) .text ≡ trim (firstOf ls))
       go [] e = absurd (first-text cap base [] e)
       go (l ∷ ls) e = first-text cap base (runs.asIs l ∷ map runs.asIs ls) e
 
-  run-wraps : frontOf t at .closes ≡ false → r .stop ≡ stop.Closed → goodLine (r .text) 0 (length (r .text)) ≡ true → 1 < r .lines
+  run-wraps : frontOf t at .closes ≡ false → r .stop ≡ outcome.Passed → goodLine (r .text) 0 (length (r .text)) ≡ true → 1 < r .lines
   unfolding frontOf
   run-wraps c e g = go (ltb 1 (r .lines)) refl
     where
@@ -129,24 +129,10 @@ module _ (t : List ℕ) (at base cap : ℕ) where
   unfolding runFound
   run-more c = go (r .stop) refl
     where
-      closed : (b : Bool) → goodLine (r .text) 0 (length (r .text)) ≡ b → r .stop ≡ stop.Closed → eqb (linesOf (closedRun r b)) 1 ≡ false
+      closed : (b : Bool) → goodLine (r .text) 0 (length (r .text)) ≡ b → r .stop ≡ outcome.Passed → eqb (linesOf (closedRun r b)) 1 ≡ false
       closed true g e = ne-eqb (r .lines) 1 (λ q. omega (arith, q, run-wraps c e g))
       closed false g e = refl
 
-      go : (x : stops.Stop) → r .stop ≡ x → eqb (linesOf (ended r x)) 1 ≡ false
-      go stop.Closed e = closed (goodLine (r .text) 0 (length (r .text))) refl e
-      go (stop.Refused q) e = refl
-
-  -- the block of one line is the good line
-  pub one-line : eqb (linesOf (found t at base cap)) 1 ≡ true → found t at base cap ≡ Found.line
-  unfolding found
-  one-line = go (opensAt t at) (goodLine t (frontOf t at .from) (frontOf t at .to)) (frontOf t at .closes) refl
-    where
-      f : Bool → Bool → Bool → Found
-      f o g c = cond o (cond g Found.line (cond c (nothing NoReading) (runFound t at base cap))) (nothing NothingThere)
-
-      go : (o g c : Bool) → frontOf t at .closes ≡ c → eqb (linesOf (f o g c)) 1 ≡ true → f o g c ≡ Found.line
-      go true true c e n = refl
-      go true false true e n = contra false n refl
-      go true false false e n = contra (eqb (linesOf (runFound t at base cap)) 1) n (run-more e)
-      go false g c e n = contra false n refl
+      go : (x : outcomes.Outcome) → r .stop ≡ x → eqb (linesOf (endedRun r x)) 1 ≡ false
+      go outcome.Passed e = closed (goodLine (r .text) 0 (length (r .text))) refl e
+      go (outcome.Refused q) e = refl

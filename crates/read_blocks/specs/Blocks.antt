@@ -1,20 +1,23 @@
 -- Blocks at a place: which lines a block takes, and what it reads.
 use Prim.Native.Nat.{ℕ}
 use mathlib.Core.Bool.{Bool, cond}
-use mathlib.Core.List.{List, []}
-use lib.Dec.{ltb}
+use mathlib.Core.List.{List, [], _∷_, _++_}
 use lib.ListN.{length}
+use lib.Seq.{slice}
 use Rattle.base_lists.specs.Lists.{over}
 use Rattle.base_bytes.specs.declared.Mode.the-variants.{Loose}
-use Rattle.base_refusals.specs.Numbers.{maxText}
+use Rattle.base_refusals.specs.Numbers.{tooLong}
+use Rattle.base_refusals.specs.Orders.{Ground, met}
 use Rattle.base_refusals.specs.declared.Refusal.{Refusal}
 use Rattle.base_refusals.specs.declared.Refusal.the-variants.{TextTooLong, NothingThere, NoReading}
-use Rattle.block_chain.specs.Chain.{goodLine}
-use Rattle.set_fill.specs.Fill.{refusing, chainAt}
-use Rattle.set_fill.specs.declared.Filled.{Filled}
+use Rattle.block_chain.specs.Chain.{readBlocks, goodLine}
+use Rattle.set_fill.specs.Fill.{readingOrder, chainAt}
+use Rattle.set_table.specs.Types.{one}
+use Rattle.set_table.specs.declared.Filled.{Filled}
+use Rattle.set_table.specs.Filled.{refusing}
 use Rattle.run_lines.specs.Runs.{Run, runAt, pastLines}
-use Rattle.run_lines.specs.declared.Stop as stops
-use Rattle.run_lines.specs.declared.Stop.the-variants as stop
+use Rattle.base_refusals.specs.declared.Outcome as outcomes
+use Rattle.base_refusals.specs.declared.Outcome.the-variants as outcome
 use Rattle.block_trimmed_line.specs.Fronts.{frontOf, opensAt}
 use Rattle.read_blocks.specs.declared.Block.{Block}
 
@@ -33,13 +36,13 @@ nothing r = Found.none r [] 0
 abbrev pub closedRun : Run → Bool → Found
 closedRun r good = cond good (Found.run r) (Found.none NoReading (r .text) (r .lookahead))
 
-abbrev pub ended : Run → stops.Stop → Found
-ended r stop.Closed = closedRun r (goodLine (r .text) 0 (length (r .text)))
-ended r (stop.Refused q) = Found.none q (r .text) (r .lookahead)
+abbrev pub endedRun : Run → outcomes.Outcome → Found
+endedRun r outcome.Passed = closedRun r (goodLine (r .text) 0 (length (r .text)))
+endedRun r (outcome.Refused q) = Found.none q (r .text) (r .lookahead)
 
 -- the run from the line at `at` on, in a join buffer of `cap` bytes; the first line's brace column is `base` more
 unfoldable pub runFound : List ℕ → ℕ → ℕ → ℕ → Found
-runFound t at base cap = ended (runAt cap base t at) (runAt cap base t at .stop)
+runFound t at base cap = endedRun (runAt cap base t at) (runAt cap base t at .stop)
 
 -- "A block is one good line, else, if the first line's trimmed end isn't `}`, a wrapped run"
 unfoldable pub found : List ℕ → ℕ → ℕ → ℕ → Found
@@ -81,10 +84,10 @@ textIn t Found.line = t
 textIn t (Found.run r) = r .text
 textIn t (Found.none q x n) = t
 
-abbrev pub filledBy : List ℕ → ℕ → Found → Filled
-filledBy t at Found.line = chainAt Loose t (frontOf t at .from) (frontOf t at .to)
-filledBy t at (Found.run r) = chainAt Loose (r .text) 0 (length (r .text))
-filledBy t at (Found.none q x n) = refusing q
+abbrev pub filledFound : List ℕ → ℕ → Found → Filled
+filledFound t at Found.line = chainAt Loose t (frontOf t at .from) (frontOf t at .to)
+filledFound t at (Found.run r) = chainAt Loose (r .text) 0 (length (r .text))
+filledFound t at (Found.none q x n) = refusing q
 
 abbrev pub blockBy : Filled → ℕ → ℕ → ℕ → ℕ → Block
 blockBy f n look joined next = record { outcome = f .outcome; set = f .set; lines = n; lookahead = look; joined = joined; next = next }
@@ -94,8 +97,28 @@ abbrev pub unread : Refusal → ℕ → ℕ → ℕ → Block
 unread r look joined at = blockBy (refusing r) 0 look joined at
 
 unfoldable pub blockOf : List ℕ → ℕ → Found → Block
-blockOf t at f = blockBy (filledBy t at f) (linesOf f) (lookaheadOf f) (length (joinedIn f)) (pastLines (linesOf f) t at)
+blockOf t at f = blockBy (filledFound t at f) (linesOf f) (lookaheadOf f) (length (joinedIn f)) (pastLines (linesOf f) t at)
 
 -- a text above the size is refused before anything is read (by `read_at` and `wrapped_at`, since a set's places are 16-bit numbers)
 unfoldable pub sized : List ℕ → Found → Found
-sized t f = cond (ltb maxText (length t)) (nothing TextTooLong) f
+sized t f = cond (tooLong t) (nothing TextTooLong) f
+
+-- ---- the orders, where g is that of a good line from a place up to one of a text
+module _ (g : List ℕ → ℕ → ℕ → List Ground) where
+  -- "9 or 5 as the run meets them", then what the joined text gives
+  abbrev pub ranOrder : Run → List Ground
+  ranOrder r = met (r .stop) ++ (Ground.lacking NoReading (goodLine (r .text) 0 (length (r .text))) ∷ g (r .text) 0 (length (r .text)))
+
+  abbrev pub wrappedOrder : List ℕ → ℕ → ℕ → ℕ → List Ground
+  wrappedOrder t at base cap = Ground.lacking NothingThere (opensAt t at) ∷ ranOrder (runAt cap base t at)
+
+  abbrev pub foundOrder : List ℕ → ℕ → ℕ → ℕ → List Ground
+  foundOrder t at base cap =
+      Ground.lacking NothingThere (opensAt t at)
+      ∷ cond (goodLine t (frontOf t at .from) (frontOf t at .to))
+      (g t (frontOf t at .from) (frontOf t at .to))
+      (Ground.given NoReading (frontOf t at .closes) ∷ ranOrder (runAt cap base t at))
+
+-- ".., 6, 7, 8" where a good line is read
+abbrev pub readOrder : List ℕ → ℕ → ℕ → List Ground
+readOrder t from to = readingOrder (one t) (readBlocks Loose from (slice from to t))

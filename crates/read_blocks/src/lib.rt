@@ -1,16 +1,15 @@
 // Blocks at a place: a line of blocks, and a wrapped run.
+use base_refusals::Outcome;
 use base_refusals::Refusal;
-use run_lines::Stop;
-use set_fill::Filled;
-use set_fill::Outcome;
 use set_table::Attrs;
+use set_table::Filled;
 ghost use mathlib.Core.Path.{_≡_};
 ghost use Prim.Native.Nat.{_≤_};
 ghost use lib.ListN.{length};
 ghost use Rattle.base_refusals.specs.Numbers.{maxText};
-ghost use Rattle.set_fill.specs.Fill.{refusing};
 ghost use Rattle.read_blocks.specs.Blocks.{runFound, found, wrapped, joinHolds, blockBy, unread, blockOf, sized};
-ghost use Rattle.read_blocks.specs.Steps.{isUnread};
+ghost use Rattle.read_blocks.specs.Inner.{isUnread};
+ghost use Rattle.set_table.specs.Filled.{refusing};
 
 // What reading answers: a block that was joined has its set over the joined bytes, any other over the text.
 pub struct Block {
@@ -34,7 +33,7 @@ fn is_unread(outcome: Outcome) -> bool
     ensures { λ r. ⌜ r ≡ isUnread outcome ⌝ }
 {
     match outcome {
-        Outcome::Done => false,
+        Outcome::Passed => false,
         Outcome::Refused(r) => base_refusals::number(r)
             == base_refusals::number(Refusal::NoReading),
     }
@@ -65,8 +64,8 @@ fn read_run(text: &[u8], at: usize, base: usize, join: &mut [u8]) -> Block
     let j = run_lines::join_run(text, at, base, join);
     let stop = j.stop;
     match stop {
-        Stop::Refused(r) => no_block(r, j.lookahead, j.len, at),
-        Stop::Closed => {
+        Outcome::Refused(r) => no_block(r, j.lookahead, j.len, at),
+        Outcome::Passed => {
             let filled = set_fill::fill_chain(&join[..j.len], 0, j.len);
             let outcome = filled.outcome;
             if is_unread(outcome) {

@@ -14,20 +14,16 @@ use Rattle.base_lists.proofs.Parts.{slice-part}
 use Rattle.base_bytes.specs.declared.Mode.{Mode}
 use Rattle.text_utf8.specs.Utf8.{isUtf8}
 use Rattle.base_refusals.specs.Numbers.{maxText}
-use Rattle.base_refusals.specs.declared.Refusal.the-variants.{NotUtf8, NoReading}
-use Rattle.block_grammar.specs.Read.{Reading, readPayload}
+use Rattle.base_refusals.specs.declared.Refusal.the-variants.{NotUtf8}
 use Rattle.block_grammar.specs.Close.{findClose}
-use Rattle.block_grammar.specs.Quick.{quickRefuses}
 use Rattle.block_grammar.specs.declared.Place.{Place}
 use Rattle.block_grammar.specs.declared.Place.the-variants.{Nothing, At}
-use Rattle.block_grammar.proofs.Payload as payload
 use Rattle.block_grammar.proofs.Close.{found}
-use Rattle.block_grammar.proofs.Quick.{quick-passes}
 use Rattle.set_table.specs.Types.{one}
 use Rattle.set_fill.specs.Fill as fills
-use Rattle.set_fill.specs.declared.Filled.{Filled}
+use Rattle.set_table.specs.declared.Filled.{Filled}
 use Rattle.text_lines.specs.declared.Range.{Range}
-use Rattle.read_brace.specs.Brace.{refusing, braceAt, payloadOf, finished, readTo, atBrace, front, partTo, payloadAt}
+use Rattle.read_brace.specs.Brace.{refusingRead, braceAt, payloadOf, finished, readTo, atBrace, emptyFront, partTo, payloadAt}
 
 -- ---- 1, 3, and then the close: one law for whatever is answered
 module _ {A : Type 0} (long none : A) (to : Place → A) (t : List ℕ) (i : ℕ) where
@@ -55,33 +51,19 @@ close-in t i e f g =
     (omega (arith, z .from), (z .to, h))
 
 -- ---- the payload, as the code cuts it out
-part : (t : List ℕ) (i e : ℕ) → take (e - (i + 1)) (drop (i + 1) t) ≡ payloadOf t i e
+pub part : (t : List ℕ) (i e : ℕ) → take (e - (i + 1)) (drop (i + 1) t) ≡ payloadOf t i e
 part t i e = rw add-one (sym (slice-part (suc i) e t))
 
 module _ (t : List ℕ) (i e : ℕ) where
-  pub part-bad : isUtf8 (take (e - (i + 1)) (drop (i + 1) t)) ≡ false → front ≡ partTo t i (At e)
+  pub part-bad : isUtf8 (take (e - (i + 1)) (drop (i + 1) t)) ≡ false → emptyFront ≡ partTo t i (At e)
   part-bad u = rw (rw part at u)
 
   pub part-good : isUtf8 (take (e - (i + 1)) (drop (i + 1) t)) ≡ true → record { from = i + 1; to = e } ≡ partTo t i (At e)
   part-good u = rw (rw part at u, add-one i)
 
 module _ (m : Mode) (t : List ℕ) (i e : ℕ) where
-  pub not-utf8 : isUtf8 (take (e - (i + 1)) (drop (i + 1) t)) ≡ false → refusing NotUtf8 ≡ readTo m t i (At e)
+  pub not-utf8 : isUtf8 (take (e - (i + 1)) (drop (i + 1) t)) ≡ false → refusingRead NotUtf8 ≡ readTo m t i (At e)
   not-utf8 u = rw (rw part at u)
-
-  -- what the quick test refuses has no reading
-  unread : findClose t (suc i) ≡ At e → quickRefuses t i ≡ true → (r : Reading) → readPayload m (suc i) (payloadOf t i e) ≡ r → r ≡ Reading.refused
-  unread h q Reading.refused k = refl
-  unread h q (Reading.items is) k =
-      let z = found t (suc i) e h in
-      let w : drop (suc i) t ≡ payloadOf t i e ++ (125 ∷ z .closes .rest) = rw (slice-part (suc i) e t, z .payload) (z .closes .whole) in
-      let y : quickRefuses t i ≡ false = quick-passes (payload.sound m (suc i) (payloadOf t i e) is k) t (z .closes .rest) i w in
-      let n : _≡_ {A = ℕ} 0 1 = cc in
-      absurd (omega arith)
-
-  pub quick : isUtf8 (take (e - (i + 1)) (drop (i + 1) t)) ≡ true → findClose t (suc i) ≡ At e → quickRefuses t i ≡ true → refusing NoReading ≡ readTo m t i (At e)
-  unfolding finished fills.filledOf
-  quick u h q = rw (rw part at u, unread h q (readPayload m (suc i) (payloadOf t i e)) refl)
 
   pub filled : isUtf8 (take (e - (i + 1)) (drop (i + 1) t)) ≡ true → length t ≤ maxText → {f : Filled} → f ≡ fills.fillAt m t (i + 1) e → finished f (e + 1) ≡ readTo m t i (At e)
   unfolding fills.fillAt
@@ -98,10 +80,10 @@ pub range-in : (t : List ℕ) (i : ℕ) → Inside t (payloadAt t i)
 unfolding payloadAt atBrace
 range-in t i = go (ltb maxText (length t)) (braceAt t i) (findClose t (suc i)) refl
   where
-    at-front : Inside t front
+    at-front : Inside t emptyFront
     at-front = record { ordered = omega arith; within = omega arith }
 
-    cut : (b : Bool) (e : ℕ) → findClose t (suc i) ≡ At e → Inside t (cond b (record { from = suc i; to = e }) front)
+    cut : (b : Bool) (e : ℕ) → findClose t (suc i) ≡ At e → Inside t (cond b (record { from = suc i; to = e }) emptyFront)
     cut true e h = let z = found t (suc i) e h in record { ordered = z .from; within = omega (arith, z .to) }
     cut false e h = at-front
 
@@ -109,7 +91,7 @@ range-in t i = go (ltb maxText (length t)) (braceAt t i) (findClose t (suc i)) r
     closed Nothing h = at-front
     closed (At e) h = cut (isUtf8 (payloadOf t i e)) e h
 
-    go : (a b : Bool) (p : Place) → findClose t (suc i) ≡ p → Inside t (cond a front (cond b (partTo t i p) front))
+    go : (a b : Bool) (p : Place) → findClose t (suc i) ≡ p → Inside t (cond a emptyFront (cond b (partTo t i p) emptyFront))
     go true b p h = at-front
     go false true p h = closed p h
     go false false p h = at-front

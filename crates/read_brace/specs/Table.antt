@@ -6,6 +6,7 @@ use mathlib.Core.List.{List, [], _∷_}
 use Prim.Native.Nat.{ℕ, suc, _+_, _<_, _≤_}
 use lib.ListN.{length, getD, drop}
 use Rattle.base_bytes.specs.declared.Mode.{Mode}
+use Rattle.base_bytes.specs.Bytes.{openBrace}
 use Rattle.text_utf8.specs.Grammar.{WellFormed}
 use Rattle.base_refusals.specs.Numbers.{maxText}
 use Rattle.base_refusals.specs.declared.Refusal.the-variants.{TextTooLong, NotUtf8, NothingThere, NoClose, NoReading, TooManyClasses, TooManyKeys}
@@ -18,35 +19,35 @@ use Rattle.read_brace.specs.declared.Answer.{Answer}
 use Rattle.read_brace.specs.declared.Answer.the-variants.{Refused, Next}
 
 -- "32 classes": each counts, each time that it is said
-abbrev pub classesIn : Entry → ℕ
-classesIn e = cond (isClass (e .name)) (length (e .values)) 0
+abbrev pub entryClasses : Entry → ℕ
+entryClasses e = cond (isClass (e .name)) (length (e .values)) 0
 
 unfoldable pub classCount : List Entry → ℕ
 classCount [] = 0
-classCount (e ∷ es) = classesIn e + classCount es
+classCount (e ∷ es) = entryClasses e + classCount es
 
 -- "distinct keys": one counts once, where it is said last; "Keys `id` and `class` .. go to the id and the classes"
-abbrev pub keysIn : Entry → List Entry → ℕ
-keysIn e es = cond (isFree (e .name) && absent (e .name) es) 1 0
+abbrev pub entryKeys : Entry → List Entry → ℕ
+entryKeys e es = cond (isFree (e .name) && absent (e .name) es) 1 0
 
 unfoldable pub keyCount : List Entry → ℕ
 keyCount [] = 0
-keyCount (e ∷ es) = keysIn e es + keyCount es
+keyCount (e ∷ es) = entryKeys e es + keyCount es
 
 -- a `{` at the place
-pub record Opens (t : List ℕ) (i : ℕ) : Type 0 where
+pub record BraceAt (t : List ℕ) (i : ℕ) : Type 0 where
   pub there : i < length t
-  pub brace : getD t i 0 ≡ 123
+  pub brace : getD t i 0 ≡ openBrace
 
 -- a block at i with its close at e
-pub record Block (t : List ℕ) (i e : ℕ) : Type 0 where
+pub record BlockAt (t : List ℕ) (i e : ℕ) : Type 0 where
   pub short : length t ≤ maxText
-  pub opens : Opens t i
+  pub opens : BraceAt t i
   pub closes : Closes (drop (suc i) t) (suc i) e
 
 -- a block whose payload the grammar reads
 pub record Reads (m : Mode) (t : List ℕ) (i e : ℕ) (is : List Placed) : Type 0 where
-  pub block : Block t i e
+  pub block : BlockAt t i e
   pub utf8 : WellFormed (block .closes .inside)
   pub payload : Payload m (suc i) (block .closes .inside) is
 
@@ -55,13 +56,13 @@ pub data Given (m : Mode) (t : List ℕ) (i : ℕ) : Answer → List Entry → T
   -- 1: "text above 65,535 bytes"
   long : maxText < length t → Given m t i (Refused TextTooLong) []
   -- 3: "no `{` at the place"
-  none : length t ≤ maxText → (Opens t i → ⊥) → Given m t i (Refused NothingThere) []
+  none : length t ≤ maxText → (BraceAt t i → ⊥) → Given m t i (Refused NothingThere) []
   -- 4: "at a brace: no close"
-  unclosed : length t ≤ maxText → Opens t i → ((e : ℕ) → Closes (drop (suc i) t) (suc i) e → ⊥) → Given m t i (Refused NoClose) []
+  unclosed : length t ≤ maxText → BraceAt t i → ((e : ℕ) → Closes (drop (suc i) t) (suc i) e → ⊥) → Given m t i (Refused NoClose) []
   -- 2: "not UTF-8: the payload at a brace"
-  garbled : {e : ℕ} (b : Block t i e) → (WellFormed (b .closes .inside) → ⊥) → Given m t i (Refused NotUtf8) []
+  garbled : {e : ℕ} (b : BlockAt t i e) → (WellFormed (b .closes .inside) → ⊥) → Given m t i (Refused NotUtf8) []
   -- 5: "at a brace, no reading of the payload exists"
-  unread : {e : ℕ} (b : Block t i e) → WellFormed (b .closes .inside) → ((is : List Placed) → Payload m (suc i) (b .closes .inside) is → ⊥) → Given m t i (Refused NoReading) []
+  unread : {e : ℕ} (b : BlockAt t i e) → WellFormed (b .closes .inside) → ((is : List Placed) → Payload m (suc i) (b .closes .inside) is → ⊥) → Given m t i (Refused NoReading) []
   -- 6: "grammatical, more than 32 classes"
   classes : {e : ℕ} {is : List Placed} → Reads m t i e is → maxClasses < classCount (entriesOf is) → Given m t i (Refused TooManyClasses) []
   -- 7: "grammatical, more than 32 distinct keys"

@@ -1,10 +1,10 @@
 // Reading an attribute block at a brace.
 use base_bytes::Mode;
+use base_refusals::Outcome;
 use base_refusals::Refusal;
 use block_grammar::Place;
-use set_fill::Filled;
-use set_fill::Outcome;
 use set_table::Attrs;
+use set_table::Filled;
 use text_lines::Range;
 ghost use mathlib.Core.Path.{_≡_};
 ghost use Prim.Native.Nat.{suc, _+_, _≤_, _<_};
@@ -14,7 +14,7 @@ ghost use Rattle.base_bytes.specs.declared.Mode.the-variants.{Strict};
 ghost use Rattle.base_refusals.specs.Numbers.{maxText};
 ghost use Rattle.block_grammar.specs.Close.{findClose};
 ghost use Rattle.block_grammar.specs.declared.Place.the-variants.{At};
-ghost use Rattle.read_brace.specs.Brace.{refusing, braceAt, answerBy, finished, readTo, readAttrsAt, partTo, payloadAt};
+ghost use Rattle.read_brace.specs.Brace.{refusingRead, braceAt, answerAt, finished, readTo, readAttrsAt, partTo, payloadAt};
 
 // A refusal, or the place behind the block.
 pub enum Answer {
@@ -30,7 +30,7 @@ pub struct Read {
 
 // A refusal hands out no set.
 fn refused(r: Refusal) -> Read
-    ensures { λ f. ⌜ f ≡ refusing r ⌝ }
+    ensures { λ f. ⌜ f ≡ refusingRead r ⌝ }
 {
     let filled = set_fill::refusing(r);
     let set = filled.set;
@@ -52,11 +52,11 @@ fn opens_at(text: &[u8], place: usize) -> bool
 
 // What filling comes to, with the place behind the block.
 fn answer_of(outcome: Outcome, next: usize) -> Answer
-    ensures { λ r. ⌜ r ≡ answerBy outcome next ⌝ }
+    ensures { λ r. ⌜ r ≡ answerAt outcome next ⌝ }
 {
     match outcome {
         Outcome::Refused(r) => Answer::Refused(r),
-        Outcome::Done => Answer::Next(next),
+        Outcome::Passed => Answer::Next(next),
     }
 }
 

@@ -1,4 +1,2 @@
 -- The laws about the entries by line number that later crates cite.
 pub mod Starts
-pub mod SetsOk
-pub mod Numbers

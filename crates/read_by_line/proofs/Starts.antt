@@ -4,8 +4,8 @@ use mathlib.Core.Path.{_≡_, sym, _∙_}
 use mathlib.Core.List.{List}
 use Prim.Native.Nat.{ℕ}
 use Rattle.base_refusals.specs.declared.Refusal.{Refusal}
-use Rattle.set_fill.specs.Fill.{refusing}
-use Rattle.set_fill.specs.declared.Filled.{Filled}
+use Rattle.set_table.specs.declared.Filled.{Filled}
+use Rattle.set_table.specs.Filled.{refusing}
 use Rattle.text_line_start.specs.declared.Start.the-variants as start
 use Rattle.text_line_start.specs.Starts.{startAt, placeOf}
 use Rattle.text_line_start.proofs.Starts.{text-fits}

@@ -1,7 +1,7 @@
 // The entries by line number: a line of blocks, a block of one or more lines, and a run.
 use base_refusals::Refusal;
 use read_blocks::Block;
-use set_fill::Filled;
+use set_table::Filled;
 use text_line_start::Start;
 ghost use mathlib.Core.Path.{_≡_};
 ghost use lib.ListN.{length};

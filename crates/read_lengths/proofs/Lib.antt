@@ -1,5 +1,2 @@
 -- The laws about measuring that later crates cite.
 pub mod Measured
-pub mod Agree
-pub mod Fair
-pub mod Numbers

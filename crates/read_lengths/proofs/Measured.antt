@@ -12,7 +12,7 @@ use Rattle.base_refusals.specs.declared.Refusal.the-variants.{NothingThere, NoR
 use Rattle.block_chain.specs.Chain.{goodLine}
 use Rattle.run_lines.specs.Runs.{runAt, joinedOf, pastLines}
 use Rattle.run_lines.specs.declared.Joined.{Joined}
-use Rattle.run_lines.specs.declared.Stop.the-variants as stop
+use Rattle.base_refusals.specs.declared.Outcome.the-variants as outcome
 use Rattle.block_trimmed_line.specs.declared.Front.{Front}
 use Rattle.block_trimmed_line.specs.Fronts.{frontOf, beginsIndented}
 use Rattle.text_line_start.specs.declared.Start.the-variants as start
@@ -24,7 +24,7 @@ use Rattle.read_blocks.proofs.Wraps.{run-more}
 use Rattle.read_lengths.specs.declared.Length.the-variants as lengthIs
 use Rattle.read_lengths.specs.declared.Measure.{Measure}
 use Rattle.read_lengths.specs.Lengths.{measured, unlessLine, flushLeft, standaloneFound, indentedFound}
-use Rattle.read_lengths.specs.Steps.{unmeasured}
+use Rattle.read_lengths.specs.Inner.{unmeasured}
 
 -- ---- at a place
 
@@ -50,11 +50,11 @@ module _ (t : List ℕ) (at base : ℕ) (buf : List ℕ) {j : Joined} {b : List 
   abbrev f : Found
   f = runFound t at base (length buf)
 
-  pub run-measured : {q : Refusal} → j .stop ≡ stop.Refused q → record { length = lengthIs.Refused q; lookahead = j .lookahead; joined = j .len; next = at } ≡ measured t at f
+  pub run-measured : {q : Refusal} → j .stop ≡ outcome.Refused q → record { length = lengthIs.Refused q; lookahead = j .lookahead; joined = j .len; next = at } ≡ measured t at f
   unfolding measured pastLines
   run-measured s = rw (refused-is t at base buf e o s, e)
 
-  module _ (s : j .stop ≡ stop.Closed) where
+  module _ (s : j .stop ≡ outcome.Passed) where
     pub good-measured : goodLine (take (j .len) b) 0 (j .len) ≡ true
         → record { length = lengthIs.Lines (j .lines); lookahead = j .lookahead; joined = j .len; next = j .next } ≡ measured t at f
     unfolding measured

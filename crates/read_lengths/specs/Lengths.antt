@@ -1,16 +1,17 @@
 -- How many lines a block has: what measuring answers, and which block each entry measures.
 use Prim.Native.Nat.{ℕ}
 use mathlib.Core.Bool.{cond}
-use mathlib.Core.List.{List}
+use mathlib.Core.List.{List, [], _∷_}
 use lib.Dec.{eqb}
 use lib.ListN.{length}
 use Rattle.text_lines.specs.Lines.{lineAt}
 use Rattle.base_refusals.specs.Numbers.{numberOf}
+use Rattle.base_refusals.specs.Orders.{Ground}
 use Rattle.base_refusals.specs.declared.Refusal.the-variants.{NothingThere, NoReading}
 use Rattle.run_lines.specs.Runs.{pastLines}
 use Rattle.block_trimmed_line.specs.Fronts.{beginsIndented}
-use Rattle.text_line_start.specs.Starts.{startAt, onStart}
-use Rattle.read_blocks.specs.Blocks.{Found, nothing, found, joinedIn, lookaheadOf, linesOf}
+use Rattle.text_line_start.specs.Starts.{startAt, onStart, lineOrder}
+use Rattle.read_blocks.specs.Blocks.{Found, nothing, found, joinedIn, lookaheadOf, linesOf, foundOrder}
 use Rattle.read_blocks.specs.ByLine.{blockFound}
 use Rattle.read_lengths.specs.declared.Length as lengths
 use Rattle.read_lengths.specs.declared.Length.the-variants as lengthIs
@@ -51,3 +52,24 @@ unlessLine f = cond (eqb (linesOf f) 1) (nothing NoReading) f
 
 unfoldable pub indentedFound : List ℕ → ℕ → ℕ → Found
 indentedFound t n cap = unlessLine (blockFound t n 0 cap)
+
+-- ---- "elsewhere 1, 2, 3, 9 or 5 as the run meets them"; "Measuring never gives 6 to 8": of a good line nothing more is asked
+
+abbrev pub measureOrder : List ℕ → ℕ → ℕ → ℕ → List Ground
+measureOrder t at base cap = foundOrder (λ s from to. []) t at base cap
+
+-- a block of one line is 5
+abbrev pub moreOrder : List ℕ → ℕ → ℕ → ℕ → List Ground
+moreOrder t at base cap = Ground.given NoReading (eqb (linesOf (found t at base cap)) 1) ∷ measureOrder t at base cap
+
+-- `attrs_block_len_at`
+abbrev pub lengthOrder : List ℕ → ℕ → ℕ → ℕ → List Ground
+lengthOrder t n column cap = lineOrder t n (λ at. measureOrder t at column cap)
+
+-- `standalone_attrs_block_len`: an indented first line is 3
+abbrev pub flushOrder : List ℕ → ℕ → ℕ → List Ground
+flushOrder t n cap = lineOrder t n (λ at. Ground.given NothingThere (beginsIndented (lineAt t at)) ∷ measureOrder t at 0 cap)
+
+-- `indented_wrapped_attrs_block_len`
+abbrev pub indentedOrder : List ℕ → ℕ → ℕ → List Ground
+indentedOrder t n cap = lineOrder t n (λ at. moreOrder t at 0 cap)

@@ -1,3 +1,3 @@
 -- The definitions that the contracts of read_lengths cite.
 pub mod Lengths
-pub mod Steps
+pub mod Inner

@@ -1,6 +1,6 @@
 // How many lines a block has: the entries that measure, by line number.
+use base_refusals::Outcome;
 use base_refusals::Refusal;
-use run_lines::Stop;
 use text_line_start::Start;
 ghost use mathlib.Core.Path.{_≡_};
 ghost use lib.ListN.{length};
@@ -8,7 +8,7 @@ ghost use Rattle.text_line_start.specs.Starts.{placeOf};
 ghost use Rattle.read_blocks.specs.Blocks.{runFound, found, joinHolds};
 ghost use Rattle.read_blocks.specs.ByLine.{blockFound};
 ghost use Rattle.read_lengths.specs.Lengths.{measured, unlessLine, standaloneFound, indentedFound};
-ghost use Rattle.read_lengths.specs.Steps.{unmeasured};
+ghost use Rattle.read_lengths.specs.Inner.{unmeasured};
 
 // How many lines a block has, or why none is there.
 pub enum Length {
@@ -44,13 +44,13 @@ fn measure_run(text: &[u8], at: usize, base: usize, join: &mut [u8]) -> Measure
     let j = run_lines::join_run(text, at, base, join);
     let stop = j.stop;
     match stop {
-        Stop::Refused(r) => Measure {
+        Outcome::Refused(r) => Measure {
             length: Length::Refused(r),
             lookahead: j.lookahead,
             joined: j.len,
             next: at,
         },
-        Stop::Closed => {
+        Outcome::Passed => {
             if block_chain::good_line(&join[..j.len], 0, j.len) {
                 return Measure {
                     length: Length::Lines(j.lines),

@@ -17,25 +17,25 @@ pub(crate) struct Ask {
 
 // The numbers of the first word that needs the join buffer, that needs one for canonical text too, that needs only this, of the one that asks for
 // a sheet, and of the first leaf, the first that counts or takes a part, the two behind those, and the first that has two fields.
-pub(crate) const JOINS: usize = 4;
+pub(crate) const JOINS: usize = 5;
 
-pub(crate) const BLOCKS: usize = 9;
+pub(crate) const BLOCKS: usize = 10;
 
-pub(crate) const SETS: usize = 11;
+pub(crate) const SETS: usize = 12;
 
-pub(crate) const SHEET: usize = 15;
+pub(crate) const SHEET: usize = 17;
 
-pub(crate) const LEAF: usize = 16;
+pub(crate) const LEAF: usize = 18;
 
-pub(crate) const MEASURE: usize = 22;
+pub(crate) const MEASURE: usize = 24;
 
-pub(crate) const TITLE: usize = 29;
+pub(crate) const TITLE: usize = 31;
 
-pub(crate) const CLASS: usize = 30;
+pub(crate) const CLASS: usize = 32;
 
-pub(crate) const LEAF_AT: usize = 31;
+pub(crate) const LEAF_AT: usize = 33;
 // How many words there are, the number of a request that is none known.
-const UNKNOWN: usize = 36;
+const UNKNOWN: usize = 38;
 
 // How many fields a request has, and those that hold its numbers and its texts, 0 for none.
 struct Form {
@@ -58,7 +58,7 @@ pub(crate) fn read(line: &[u8], a: &mut [u8], b: &mut [u8]) -> Ask {
 // The number of a request's word, which is two fields where the first is `leaf`.
 fn word_of(line: &[u8]) -> usize {
     fields::index_of(
-        b"parse_attrs/is_valid_attr_payload/valid_wrapped_attr_continuation/payload_at/standalone_attrs_block_len/indented_wrapped_attrs_block_len/attrs_block_len_at/refused_brace_run/ends_in_refused_brace_run/parse_standalone_attrs_block/wrapped_attrs_run_at/parse_standalone_attrs/merge/merge_leading/read_attrs_at/sheet/leaf is_utf8/leaf is_identifier/leaf is_css_identifier/leaf is_boolean_attr_name/leaf is_language_tag/leaf is_blank_line/leaf check_text/leaf char_count/leaf indent_columns/leaf columns/leaf trim_ascii/leaf trim_ascii_start/leaf trim_ascii_end/leaf unescape_title/leaf is_class/leaf is_char_boundary/leaf line/leaf line_from/leaf piece_at/leaf same_unescaped",
+        b"parse_attrs/is_valid_attr_payload/valid_wrapped_attr_continuation/payload_at/attr_payload_provably_invalid/standalone_attrs_block_len/indented_wrapped_attrs_block_len/attrs_block_len_at/refused_brace_run/ends_in_refused_brace_run/parse_standalone_attrs_block/wrapped_attrs_run_at/parse_standalone_attrs/merge/merge_leading/read_attrs_at/rows/sheet/leaf is_utf8/leaf is_identifier/leaf is_css_identifier/leaf is_boolean_attr_name/leaf is_language_tag/leaf is_blank_line/leaf check_text/leaf char_count/leaf indent_columns/leaf columns/leaf trim_ascii/leaf trim_ascii_start/leaf trim_ascii_end/leaf unescape_title/leaf is_class/leaf is_char_boundary/leaf line/leaf line_from/leaf piece_at/leaf same_unescaped",
         fields::part(line, 0, word_end(line)),
     )
 }
@@ -79,7 +79,7 @@ fn places(count: usize, x: usize, y: usize, a: usize, b: usize) -> Form {
 // The form of a word by its letter below: a text; a number and a text; two numbers and a text; a number, a mode and a text; two texts; and of
 // a leaf a text, a number, a number and a text, two texts.
 fn form_of(word: usize) -> Form {
-    match fields::byte_at(b"tttnnnwntnwnmmrtTTTTTTTTTTTTTTCNNNNM", word) {
+    match fields::byte_at(b"tttnnnnwntnwnmmrrtTTTTTTTTTTTTTTCNNNNM", word) {
         b't' => places(2, 0, 0, 1, 0),
         b'n' => places(3, 1, 0, 2, 0),
         b'w' => places(4, 1, 2, 3, 0),

@@ -11,7 +11,8 @@ pub(crate) fn answer(word: usize, place: usize, text: &[u8]) -> Reply {
         0 => reply::said(block_payloads::parse_attrs(text)),
         1 => reply::said(block_payloads::is_valid_attr_payload(text)),
         2 => reply::said(block_payloads::valid_wrapped_attr_continuation(text)),
-        _ => payload(text, place),
+        3 => payload(text, place),
+        _ => reply::said(block_quick::attr_payload_provably_invalid(text, place)),
     }
 }
 

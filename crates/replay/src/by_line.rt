@@ -7,18 +7,18 @@ use crate::merging;
 use crate::refusing;
 use crate::reply;
 use crate::reply::Reply;
+use crate::rows;
+use base_refusals::Outcome;
 use read_blocks::Block;
 use read_lengths::Length;
 use read_lengths::Measure;
-use set_fill::Filled;
-use set_fill::Outcome;
 
 // What only measures, and refused runs, by the number of the word in the list of `ask`.
 pub(crate) fn answer(q: Ask, text: &[u8], join: &mut [u8]) -> Reply {
     let word = q.word;
     match word {
-        7 => refusing::run(text, q.x, join),
-        8 => refusing::ends(text, join),
+        8 => refusing::run(text, q.x, join),
+        9 => refusing::ends(text, join),
         _ => measured(measure(q, text, join), join),
     }
 }
@@ -27,8 +27,8 @@ pub(crate) fn answer(q: Ask, text: &[u8], join: &mut [u8]) -> Reply {
 fn measure(q: Ask, text: &[u8], join: &mut [u8]) -> Measure {
     let word = q.word;
     match word {
-        4 => read_lengths::standalone_attrs_block_len(text, q.x, join),
-        5 => read_lengths::indented_wrapped_attrs_block_len(text, q.x, join),
+        5 => read_lengths::standalone_attrs_block_len(text, q.x, join),
+        6 => read_lengths::indented_wrapped_attrs_block_len(text, q.x, join),
         _ => read_lengths::attrs_block_len_at(text, q.y, q.x, join),
     }
 }
@@ -41,7 +41,7 @@ pub(crate) fn answer_block(q: Ask, text: &[u8], join: &mut [u8], canon: &mut [u8
 
 // A line, or a column and a line.
 fn read(q: Ask, text: &[u8], join: &mut [u8]) -> Block {
-    if q.word == 9 {
+    if q.word == 10 {
         return read_by_line::parse_standalone_attrs_block(text, q.x, join);
     }
     read_by_line::wrapped_attrs_run_at(text, q.y, q.x, join)
@@ -51,19 +51,11 @@ fn read(q: Ask, text: &[u8], join: &mut [u8]) -> Block {
 pub(crate) fn answer_set(q: Ask, text: &[u8], canon: &mut [u8]) -> Reply {
     let word = q.word;
     match word {
-        11 => filled(text, read_by_line::parse_standalone_attrs(text, q.x), canon),
-        12 => merging::answer(text, false, canon),
-        13 => merging::answer(text, true, canon),
-        _ => brace::answer_read(text, q.x, q.mode, canon),
-    }
-}
-
-// What a line alone reads.
-pub(crate) fn filled(text: &[u8], filled: Filled, canon: &mut [u8]) -> Reply {
-    let outcome = filled.outcome;
-    match outcome {
-        Outcome::Refused(r) => reply::refused(reply::REFUSED, r),
-        Outcome::Done => reply::with_set(reply::alone(reply::OK), text, filled.set, canon),
+        12 => merging::filled(text, read_by_line::parse_standalone_attrs(text, q.x), canon),
+        13 => merging::answer(text, false, canon),
+        14 => merging::answer(text, true, canon),
+        15 => brace::answer_read(text, q.x, q.mode, canon),
+        _ => rows::answer(text, q.x, q.mode, canon),
     }
 }
 
@@ -74,7 +66,7 @@ fn read_block<'a>(text: &'a [u8], block: Block, join: &'a [u8], canon: &mut [u8]
         Outcome::Refused(r) => {
             reply::with_run(reply::refused(reply::REFUSED, r), block.lookahead, join)
         }
-        Outcome::Done => {
+        Outcome::Passed => {
             let head = reply::numbered(reply::OK_LINES, block.lines);
             let run = reply::with_run(head, block.lookahead, join);
             reply::with_set(run, over(text, join, block.joined), block.set, canon)

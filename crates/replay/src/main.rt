@@ -7,8 +7,10 @@ mod input;
 mod leaves;
 mod merging;
 mod out;
+mod past;
 mod refusing;
 mod reply;
+mod rows;
 mod sheets_at;
 
 use crate::ask::Ask;

@@ -1,13 +1,12 @@
-// Requests that merge the sets of two lines of one text.
-use crate::by_line;
+// Sets over the text itself: of a line, and of two lines of one text merged.
 use crate::fields;
 use crate::fields::Said;
 use crate::out;
 use crate::reply;
 use crate::reply::Reply;
-use set_fill::Filled;
-use set_fill::Outcome;
+use base_refusals::Outcome;
 use set_table::Attrs;
+use set_table::Filled;
 
 // 1 where a text has an LF, else 0.
 fn lf_in(s: &[u8]) -> u8 {
@@ -34,7 +33,7 @@ pub(crate) fn answer(text: &[u8], leading: bool, canon: &mut [u8]) -> Reply {
     let outcome = first.outcome;
     match outcome {
         Outcome::Refused(r) => reply::refused(reply::FIRST, r),
-        Outcome::Done => answer_second(text, first.set, leading, canon),
+        Outcome::Passed => answer_second(text, first.set, leading, canon),
     }
 }
 
@@ -44,7 +43,16 @@ fn answer_second(text: &[u8], first: Attrs, leading: bool, canon: &mut [u8]) -> 
     let outcome = second.outcome;
     match outcome {
         Outcome::Refused(r) => reply::refused(reply::SECOND, r),
-        Outcome::Done => by_line::filled(text, merged(text, first, second.set, leading), canon),
+        Outcome::Passed => filled(text, merged(text, first, second.set, leading), canon),
+    }
+}
+
+// What a line alone reads, or two lines merged.
+pub(crate) fn filled(text: &[u8], filled: Filled, canon: &mut [u8]) -> Reply {
+    let outcome = filled.outcome;
+    match outcome {
+        Outcome::Refused(r) => reply::refused(reply::REFUSED, r),
+        Outcome::Passed => reply::with_set(reply::alone(reply::OK), text, filled.set, canon),
     }
 }
 

@@ -3,42 +3,34 @@
 use mathlib.Core.Path.{_≡_, refl, ap}
 use mathlib.Core.Bool.{Bool, true, false, cond}
 use mathlib.Core.List.{List, [], _∷_, _++_, map}
-use Prim.Native.Nat.{ℕ, suc, _+_, _≤_, zero-le}
+use Prim.Native.Nat.{ℕ, suc, _+_, _≤_}
 use native.Mathlib.Omega.{arith}
-use lib.ListN.{length, take}
+use lib.ListN.{length}
 use Rattle.block_payloads.specs.Payloads.{opens}
-use Rattle.base_lists.specs.Lists.{isIn, over}
-use Rattle.text_checks.specs.Check.{checkOf}
-use Rattle.text_checks.specs.declared.Check as checks
-use Rattle.text_checks.specs.declared.Check.the-variants as check
+use Rattle.base_lists.specs.Lists.{over}
 use Rattle.text_lines.specs.Trim.{isBlankLine}
-use Rattle.text_lines.specs.Lines.{lines}
 use Rattle.run_lines.specs.Runs.{asIs, sizes}
-use Rattle.run_lines.proofs.Bounds.{sizes-lines}
-use Rattle.run_spots.specs.Spots.{closesComment}
 use Rattle.run_refused.specs.Refused.{refusedOf}
 use Rattle.run_refused.proofs.Bounds.{told-ahead, ahead-before}
 use Rattle.run_endings.specs.declared.Ends.the-variants as end
 use Rattle.run_endings.specs.declared.Verdict as verdicts
 use Rattle.run_endings.specs.declared.Verdict.the-variants as verdict
-use Rattle.run_endings.specs.Endings.{openings, lastOf, triedIn, endsOf, endsBy, endsIn}
-use Rattle.run_endings.specs.Steps.{Back, verdictOf, triedBy, tryLine, backOver, backFrom, endedBy}
-use Rattle.run_endings.proofs.Openings.{ended-same}
+use Rattle.run_endings.specs.Inner.{Back, verdictOf, triedBy, triedLine, backOver, backFrom}
 
 -- one line of ls was tried, with so much lookahead
-record Once (ls : List (List ℕ)) (look : ℕ) : Type 0 where
-  pre : List (List ℕ)
-  m : List ℕ
-  tail : List (List ℕ)
-  whole : ls ≡ pre ++ (m ∷ tail)
-  opens-m : opens m ≡ true
-  le : look ≤ sizes (map asIs (m ∷ tail))
+pub record Once (ls : List (List ℕ)) (look : ℕ) : Type 0 where
+  pub pre : List (List ℕ)
+  pub m : List ℕ
+  pub tail : List (List ℕ)
+  pub whole : ls ≡ pre ++ (m ∷ tail)
+  pub opens-m : opens m ≡ true
+  pub le : look ≤ sizes (map asIs (m ∷ tail))
 
-abbrev Spent : List (List ℕ) → Bool → ℕ → Type 0
+abbrev pub Spent : List (List ℕ) → Bool → ℕ → Type 0
 Spent ls false look = look ≡ 0
 Spent ls true look = Once ls look
 
-abbrev Fair : List (List ℕ) → Back → Type 0
+abbrev pub Fair : List (List ℕ) → Back → Type 0
 Fair ls (Back.looking tried look buf) = Spent ls tried look
 Fair ls (Back.told a look buf) = look ≤ sizes (map asIs ls)
 
@@ -51,7 +43,7 @@ sizes-cons : (l : List ℕ) (ls : List (List ℕ)) → sizes (map asIs (l ∷ ls
 unfolding sizes
 sizes-cons l ls = refl
 
-spent-le : (ls : List (List ℕ)) (tried : Bool) (look : ℕ) → Spent ls tried look → look ≤ sizes (map asIs ls)
+pub spent-le : (ls : List (List ℕ)) (tried : Bool) (look : ℕ) → Spent ls tried look → look ≤ sizes (map asIs ls)
 spent-le ls false look h = omega arith
 spent-le ls true look h = rw (h .whole) (omega (arith, h .le, sizes-parts (h .pre) (h .m ∷ h .tail)))
 
@@ -75,36 +67,17 @@ module _ (again : Bool) (l : List ℕ) (ls : List (List ℕ)) where
   fair-over (Back.told a look x) h = omega (arith, h, sizes-cons l ls)
   fair-over (Back.looking tried look x) h = go (isBlankLine l) (opens l) refl
     where
-      go : (y z : Bool) → opens l ≡ z → Fair (l ∷ ls) (cond y (Back.told end.No look x) (cond z (tryLine again tried (suc (length ls)) look x (refusedOf (length x) (l ∷ ls))) (Back.looking tried look x)))
+      go : (y z : Bool) → opens l ≡ z → Fair (l ∷ ls) (cond y (Back.told end.No look x) (cond z (triedLine again tried (suc (length ls)) look x (refusedOf (length x) (l ∷ ls))) (Back.looking tried look x)))
       go true z o = omega (arith, spent-le ls tried look h, sizes-cons l ls)
       go false true o =
           tried-fair (verdictOf (refusedOf (length x) (l ∷ ls) .answer) (suc (length ls)) again tried) (look + refusedOf (length x) (l ∷ ls) .lookahead) (over (refusedOf (length x) (l ∷ ls) .text) x) o
           (sum-le (length x) l ls tried look h)
       go false false o = spent-on tried look h
 
-fair : (again : Bool) (buf : List ℕ) (ls : List (List ℕ)) → Fair ls (backFrom again buf ls)
+pub fair : (again : Bool) (buf : List ℕ) (ls : List (List ℕ)) → Fair ls (backFrom again buf ls)
 unfolding backFrom
 fair again buf [] = refl
 fair again buf (l ∷ ls) = fair-over again l ls (backFrom again buf ls) (fair again buf ls)
 
 pub looking-le : (again : Bool) (buf : List ℕ) (ls : List (List ℕ)) {tried : Bool} {look : ℕ} {x : List ℕ} → backFrom again buf ls ≡ Back.looking tried look x → look ≤ sizes (map asIs ls)
 looking-le again buf ls {tried} {look} q = spent-le ls tried look (rw q at (fair again buf ls))
-
-ended-le : (ls : List (List ℕ)) (b : Back) → Fair ls b → endedBy b .lookahead ≤ sizes (map asIs ls)
-ended-le ls (Back.looking tried look x) h = spent-le ls tried look h
-ended-le ls (Back.told a look x) h = h
-
-pub sum-of-runs : (buf t : List ℕ) → endsIn buf t .lookahead ≤ length t
-unfolding endsIn endsOf triedIn
-sum-of-runs buf t = go (checkOf t)
-  where
-    c : Bool
-    c = closesComment (lastOf (lines t))
-
-    searched : (x : Bool) → triedIn buf (take (cond x (cond c 2 1) 0) (openings (lines t))) .lookahead ≤ length t
-    searched true = rw (← ended-same c buf (lines t)) (omega (arith, ended-le (lines t) (backFrom c buf (lines t)) (fair c buf (lines t)), sizes-lines t))
-    searched false = zero-le
-
-    go : (x : checks.Check) → endsBy buf t x .lookahead ≤ length t
-    go (check.Refused r) = zero-le
-    go check.Passed = searched (isIn (lastOf (lines t)) 125)

@@ -2,4 +2,3 @@
 pub mod Openings
 pub mod Bounds
 pub mod Upwards
-pub mod Numbers

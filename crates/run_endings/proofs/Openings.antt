@@ -11,14 +11,14 @@ use Rattle.block_payloads.specs.Payloads.{opens}
 use Rattle.base_lists.specs.Lists.{all, over}
 use Rattle.base_lists.proofs.More.{contra}
 use Rattle.text_lines.specs.Trim.{isBlankLine}
-use Rattle.run_refused.specs.Refused.{Told, refusedOf}
+use Rattle.run_refused.specs.Refused.{RunTold, refusedOf}
 use Rattle.run_refused.specs.declared.Answer.{Answer}
 use Rattle.run_refused.specs.declared.Answer.the-variants.{No, Lines, NoEnd, Refused}
 use Rattle.run_endings.specs.declared.Ends as ends
 use Rattle.run_endings.specs.declared.Ends.the-variants as end
 use Rattle.run_endings.specs.declared.Verdict.the-variants as verdict
 use Rattle.run_endings.specs.Endings.{Ended, settled, unbroken, openings, toldBy, ahead, triedIn}
-use Rattle.run_endings.specs.Steps.{Back, nextOr, verdictOf, triedBy, backOver, backFrom, endedBy}
+use Rattle.run_endings.specs.Inner.{Back, nextOr, verdictOf, triedBy, backOver, backFrom, endedBy}
 
 abbrev Runs : Type 0
 Runs = List (List (List ℕ))
@@ -129,7 +129,7 @@ module _ (buf : List ℕ) (l : List ℕ) (ls : List (List ℕ)) where
       openings-more w = openings-cons ∙ rw (o, b, w)
 
       module _ (x : List ℕ) where
-        abbrev R : Told
+        abbrev R : RunTold
         R = refusedOf (length x) (l ∷ ls)
 
         abbrev y : List ℕ

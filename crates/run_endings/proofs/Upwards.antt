@@ -31,7 +31,7 @@ use Rattle.run_endings.specs.declared.EndsRun.{EndsRun}
 use Rattle.run_endings.specs.declared.Verdict as verdicts
 use Rattle.run_endings.specs.declared.Verdict.the-variants as verdict
 use Rattle.run_endings.specs.Endings.{openings, lastOf, Ended, settled, triedIn, endsOf, endsShown}
-use Rattle.run_endings.specs.Steps.{Edge, Before, Back, verdictOf, triedBy, backOver, backFrom, endedBy}
+use Rattle.run_endings.specs.Inner.{Edge, Before, Back, verdictOf, triedBy, backOver, backFrom, endedBy}
 use Rattle.run_endings.proofs.Openings.{ended-same}
 use Rattle.run_endings.proofs.Bounds.{looking-le}
 

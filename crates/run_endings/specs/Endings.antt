@@ -8,18 +8,20 @@ use lib.ListN.{length, take}
 use Rattle.block_payloads.specs.Payloads.{opens}
 use Rattle.base_lists.specs.Lists.{all, isIn, over}
 use Rattle.base_refusals.specs.Numbers.{numberOf}
-use Rattle.text_checks.specs.Check.{checkOf}
-use Rattle.text_checks.specs.declared.Check as checks
-use Rattle.text_checks.specs.declared.Check.the-variants as check
+use Rattle.base_refusals.specs.Orders.{Ground}
+use Rattle.text_checks.specs.Check.{textOrder, checkOf}
+use Rattle.base_refusals.specs.declared.Outcome as outcomes
+use Rattle.base_refusals.specs.declared.Outcome.the-variants as outcome
 use Rattle.text_lines.specs.Trim.{isBlankLine}
 use Rattle.text_lines.specs.Lines.{lines}
 use Rattle.run_spots.specs.Spots.{closesComment}
-use Rattle.run_refused.specs.Refused.{Told, refusedOf}
+use Rattle.run_refused.specs.Refused.{RunTold, refusedOf, linesOrder}
 use Rattle.run_refused.specs.declared.Answer.{Answer}
 use Rattle.run_refused.specs.declared.Answer.the-variants.{No, Lines, NoEnd, Refused}
 use Rattle.run_endings.specs.declared.Ends as ends
 use Rattle.run_endings.specs.declared.Ends.the-variants as end
 use Rattle.run_endings.specs.declared.EndsRun.{EndsRun}
+use Rattle.base_bytes.specs.Bytes.{closeBrace}
 
 -- "says yes or no, or 1, 2, 9": the number of a refusal, 0 where the answer is yes or no
 abbrev pub endsNo : ends.Ends → ℕ
@@ -55,7 +57,7 @@ lastOf (l ∷ m ∷ ls) = lastOf (m ∷ ls)
 
 -- how many: none where the last line has no `}`, and a second one only where it has `%}`
 abbrev pub tries : List ℕ → ℕ
-tries l = cond (isIn l 125) (cond (closesComment l) 2 1) 0
+tries l = cond (isIn l closeBrace) (cond (closesComment l) 2 1) 0
 
 -- ---- what they say
 
@@ -71,7 +73,7 @@ abbrev pub ahead : ℕ → Ended → Ended
 ahead n e = record { answer = e .answer; lookahead = n + e .lookahead; join = e .join }
 
 -- "a second run in one call writes over the front of what the first left"
-abbrev pub tryRun : ℕ → List ℕ → Told → (List ℕ → Ended) → Ended
+abbrev pub tryRun : ℕ → List ℕ → RunTold → (List ℕ → Ended) → Ended
 tryRun count buf r next = ahead (r .lookahead) (toldBy (r .answer) count (over (r .text) buf) (next (over (r .text) buf)))
 
 unfoldable pub triedIn : List ℕ → List (List (List ℕ)) → Ended
@@ -83,12 +85,29 @@ endsOf buf ls = triedIn buf (take (tries (lastOf ls)) (openings ls))
 
 -- ---- the entry
 
-abbrev pub endsBy : List ℕ → List ℕ → checks.Check → Ended
-endsBy buf t (check.Refused r) = settled (end.Refused r) buf
-endsBy buf t check.Passed = endsOf buf (lines t)
+abbrev pub endsBy : List ℕ → List ℕ → outcomes.Outcome → Ended
+endsBy buf t (outcome.Refused r) = settled (end.Refused r) buf
+endsBy buf t outcome.Passed = endsOf buf (lines t)
 
 unfoldable pub endsIn : List ℕ → List ℕ → Ended
 endsIn buf t = endsBy buf t (checkOf t)
 
 abbrev pub endsShown : Ended → EndsRun
 endsShown e = record { answer = e .answer; lookahead = e .lookahead }
+
+-- ---- the order: "says yes or no, or 1, 2, 9"
+
+-- that of a run, or that of the next ones where it doesn't settle the answer
+abbrev pub orNext : Answer → ℕ → List Ground → List Ground → List Ground
+orNext (Refused r) count here next = here
+orNext (Lines n) count here next = cond (eqb n count) [] next
+orNext (No n) count here next = next
+orNext NoEnd count here next = next
+
+unfoldable pub triedOrder : List ℕ → List (List (List ℕ)) → List Ground
+triedOrder buf [] = []
+triedOrder buf (ls ∷ more) =
+    orNext (refusedOf (length buf) ls .answer) (length ls) (linesOrder (length buf) ls) (triedOrder (over (refusedOf (length buf) ls .text) buf) more)
+
+abbrev pub endsOrder : List ℕ → List ℕ → List Ground
+endsOrder buf t = textOrder t ++ triedOrder buf (take (tries (lastOf (lines t))) (openings (lines t)))

@@ -1,3 +1,3 @@
 -- The definitions that the contracts of run_endings cite.
 pub mod Endings
-pub mod Steps
+pub mod Inner

@@ -1,14 +1,14 @@
 // Whether a text ends in a run that is refused only for a line too far left.
+use base_refusals::Outcome;
 use base_refusals::Refusal;
 use run_refused::Answer;
-use text_checks::Check;
 ghost use mathlib.Core.Path.{_≡_};
 ghost use Prim.Native.Nat.{_<_, _≤_};
 ghost use lib.ListN.{length};
 ghost use Rattle.base_refusals.specs.Numbers.{maxText};
 ghost use Rattle.text_lines.specs.Lines.{lines};
 ghost use Rattle.run_endings.specs.Endings.{endsOf, endsIn, endsShown};
-ghost use Rattle.run_endings.specs.Steps.{Edge, Before, nextOr, verdictOf, backFrom, endedBy};
+ghost use Rattle.run_endings.specs.Inner.{Edge, Before, nextOr, verdictOf, backFrom, endedBy};
 
 pub enum Ends {
     No,
@@ -142,7 +142,7 @@ pub fn ends_in_refused_brace_run(text: &[u8], join: &mut [u8]) -> EndsRun
     ensures { λ r. ⌜ now (join .exit) ≡ endsIn (now (join .entry)) (now (text .entry)) .join ⌝ }
 {
     match text_checks::check_text(text) {
-        Check::Refused(r) => ended(Ends::Refused(r), 0),
-        Check::Passed => ends_in(text, join),
+        Outcome::Refused(r) => ended(Ends::Refused(r), 0),
+        Outcome::Passed => ends_in(text, join),
     }
 }

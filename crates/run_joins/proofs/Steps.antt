@@ -26,7 +26,7 @@ use Rattle.block_grammar.specs.declared.Place.the-variants.{Nothing, At}
 use Rattle.run_joins.specs.declared.State.{State}
 use Rattle.run_joins.specs.declared.Step.{Step}
 use Rattle.run_joins.specs.declared.Step.the-variants.{Broken, Full, Go, Closes}
-use Rattle.run_joins.specs.Joins.{goesOn, passes, spaced, added, braceAfter, nextState, isLast, closesOr, lengthAfter, stepOf, joinAfter}
+use Rattle.run_joins.specs.Joins.{goesOn, passes, spaced, added, braceAfter, nextState, isLast, closesOr, lengthAfter, joinStep, joinAfter}
 
 -- ---- a line's own tests
 
@@ -158,15 +158,15 @@ module _ (len : ℕ) (st : State) (pad : ℕ) (l : List ℕ) {core : List ℕ} (
 
 module _ (st : State) (pad : ℕ) (l buf : List ℕ) where
   abbrev Answers : Step → List ℕ → Type 0
-  Answers r b = (r ≡ stepOf (length buf) st pad l) × (b ≡ joinAfter st pad l buf)
+  Answers r b = (r ≡ joinStep (length buf) st pad l) × (b ≡ joinAfter st pad l buf)
 
   pub step-broken : Passes st pad l false → Answers Broken buf
-  unfolding stepOf joinAfter
+  unfolding joinStep joinAfter
   step-broken p = (rw (← p), rw (← p))
 
   module _ (p : Passes st pad l true) {core : List ℕ} (c : core ≡ trim l) where
     pub step-full : Lacks (length buf) (st .len) core true → Answers Full buf
-    unfolding stepOf joinAfter
+    unfolding joinStep joinAfter
     step-full q = (rw (← p, ← c, ← q), rw (← p, ← c, ← q))
 
     pub step-room : Lacks (length buf) (st .len) core false → st .len + length (spaced (eqb (st .len) 0) core) ≤ length buf
@@ -179,8 +179,8 @@ module _ (st : State) (pad : ℕ) (l buf : List ℕ) where
       room : ltb (length buf) (lengthAfter st l) ≡ false
       room = ap (λ s. ltb (length buf) (st .len + length (spaced (eqb (st .len) 0) s))) (sym c) ∙ sym q
 
-      joined : closesOr l next ≡ stepOf (length buf) st pad l
-      unfolding stepOf
+      joined : closesOr l next ≡ joinStep (length buf) st pad l
+      unfolding joinStep
       joined = rw (← p, room) (ap (closesOr l) (n ∙ ap (λ k. nextState k st pad l) long))
 
       written : b ≡ sets buf (st .len) (added (eqb (st .len) 0) l)

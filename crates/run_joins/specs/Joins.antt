@@ -9,7 +9,7 @@ use Rattle.base_lists.specs.Lists.{isIn}
 use Rattle.text_lines.specs.Trim.{trim, isBlankLine}
 use Rattle.text_tabs.specs.Columns.{indentFrom, capped}
 use Rattle.block_payloads.specs.Payloads.{continues}
-use Rattle.run_scanners.specs.Scanners.{isQuoted, openQuoteAtEnd, lastOpenBrace, holdFrom, isHeld}
+use Rattle.run_scanners.specs.Scanners.{inQuote, openQuoteAtEnd, lastOpenBrace, holdFrom, isHeld}
 use Rattle.run_scanners.specs.declared.Hold.{Hold}
 use Rattle.block_grammar.specs.declared.Quote.{Quote}
 use Rattle.block_grammar.specs.declared.Quote.the-variants.{Out}
@@ -20,13 +20,14 @@ use Rattle.base_refusals.specs.declared.Refusal.the-variants.{NoReading, JoinFu
 use Rattle.run_joins.specs.declared.State.{State}
 use Rattle.run_joins.specs.declared.Step.{Step}
 use Rattle.run_joins.specs.declared.Step.the-variants.{Broken, Full, Go, Closes}
+use Rattle.base_bytes.specs.Bytes.{closeBrace, space}
 
 -- ---- a line's own tests
 
 -- "Each later line must be indented beyond the last open brace's column, pass `valid_wrapped_attr_continuation`, and follow no open quote."
 -- (They compare as what a `usize` holds of them. Where that holds the pad and four columns for each byte, the true numbers compare so.)
 abbrev pub goesOn : ℕ → Quote → ℕ → List ℕ → Bool
-goesOn brace quote pad l = ltb (capped brace) (capped (indentFrom pad l)) && (not (isQuoted quote) && continues (trim l))
+goesOn brace quote pad l = ltb (capped brace) (capped (indentFrom pad l)) && (not (inQuote quote) && continues (trim l))
 
 -- 000: a blank line refuses the run; of the first line nothing else is asked
 unfoldable pub passes : Bool → ℕ → Quote → ℕ → List ℕ → Bool
@@ -36,7 +37,7 @@ passes first brace quote pad l = not (isBlankLine l) && (first || goesOn brace q
 
 -- "joined by one space", which the first line has not
 abbrev pub spaced : Bool → List ℕ → List ℕ
-spaced first s = cond first s (32 ∷ s)
+spaced first s = cond first s (space ∷ s)
 
 -- "trimmed lines"
 abbrev pub added : Bool → List ℕ → List ℕ
@@ -61,7 +62,7 @@ nextState len st pad l =
     }
 
 abbrev pub isLast : List ℕ → Hold → Bool
-isLast l hold = isIn l 125 && not (isHeld hold)
+isLast l hold = isIn l closeBrace && not (isHeld hold)
 
 abbrev pub closesOr : List ℕ → State → Step
 closesOr l st = cond (isLast l (st .hold)) (Closes st) (Go st)
@@ -69,8 +70,8 @@ closesOr l st = cond (isLast l (st .hold)) (Closes st) (Go st)
 abbrev pub lengthAfter : State → List ℕ → ℕ
 lengthAfter st l = st .len + length (added (eqb (st .len) 0) l)
 
-unfoldable pub stepOf : ℕ → State → ℕ → List ℕ → Step
-stepOf cap st pad l =
+unfoldable pub joinStep : ℕ → State → ℕ → List ℕ → Step
+joinStep cap st pad l =
     cond (passes (eqb (st .len) 0) (st .brace) (st .quote) pad l)
     (cond (ltb cap (lengthAfter st l)) Full (closesOr l (nextState (lengthAfter st l) st pad l)))
     Broken
@@ -84,7 +85,7 @@ laid (Closes st) buf written = written
 
 -- the join buffer after a line
 unfoldable pub joinAfter : State → ℕ → List ℕ → List ℕ → List ℕ
-joinAfter st pad l buf = laid (stepOf (length buf) st pad l) buf (sets buf (st .len) (added (eqb (st .len) 0) l))
+joinAfter st pad l buf = laid (joinStep (length buf) st pad l) buf (sets buf (st .len) (added (eqb (st .len) 0) l))
 
 -- the number of an answer: 5 where the line refuses the run, 9 where it has no room, else 0
 abbrev pub stepNo : Step → ℕ

@@ -11,7 +11,7 @@ ghost use Rattle.text_lines.specs.Trim.{trim};
 ghost use Rattle.text_tabs.specs.Columns.{indentFrom, capped};
 ghost use Rattle.run_scanners.specs.Scanners.{holdFrom, lastOpenBrace};
 ghost use Rattle.block_grammar.specs.declared.Quote.the-variants.{Out};
-ghost use Rattle.run_joins.specs.Joins.{goesOn, passes, spaced, braceAfter, isLast, nextState, stepOf, joinAfter};
+ghost use Rattle.run_joins.specs.Joins.{goesOn, passes, spaced, braceAfter, isLast, nextState, joinStep, joinAfter};
 
 // What a run has when the next line comes: the length of the joined text, the column of the last open brace, what is added to the
 // first line's brace column, the quote that is left open, and the scan of the joined text for an open block.
@@ -158,7 +158,7 @@ fn state_after(len: usize, st: State, pad: usize, line: &[u8], core: &[u8]) -> S
 
 // Joins one line, before whose bytes `pad` columns stand, behind what is joined already.
 pub fn join_line(line: &[u8], pad: usize, st: State, join: &mut [u8]) -> Step
-    ensures { λ r. ⌜ r ≡ stepOf (length (now (join .entry))) st pad (now (line .entry)) ⌝ }
+    ensures { λ r. ⌜ r ≡ joinStep (length (now (join .entry))) st pad (now (line .entry)) ⌝ }
     ensures { λ r. ⌜ now (join .exit) ≡ joinAfter st pad (now (line .entry)) (now (join .entry)) ⌝ }
 {
     let r = text_lines::trim_ascii(line);

@@ -20,13 +20,13 @@ use Rattle.text_lines.proofs.Trim.{trim-rest, trim-end-le}
 use Rattle.text_tabs.specs.Columns.{indentFrom, capped, most}
 use Rattle.text_tabs.proofs.Laws.{capped-id, capped-le, capped-top, indent-front, columns-le}
 use Rattle.block_payloads.specs.Payloads.{continues}
-use Rattle.run_scanners.specs.Scanners.{isQuoted, holdsOpen}
+use Rattle.run_scanners.specs.Scanners.{inQuote, holdsOpen}
 use Rattle.block_grammar.specs.declared.Quote.{Quote}
-use Rattle.base_refusals.specs.Numbers.{numberOf}
+use Rattle.base_refusals.specs.Numbers.{numberOf, outcomeNo}
 use Rattle.base_refusals.specs.declared.Refusal.the-variants.{NoReading, JoinFull}
-use Rattle.run_lines.specs.declared.Stop.{Stop}
-use Rattle.run_lines.specs.declared.Stop.the-variants.{Closed, Refused}
-use Rattle.run_lines.specs.Runs.{Lined, asIs, So, start, Run, ended, isFirst, mayJoin, after, runFrom, runOf, runAt, stopNo, sizes}
+use Rattle.base_refusals.specs.declared.Outcome.{Outcome}
+use Rattle.base_refusals.specs.declared.Outcome.the-variants.{Passed, Refused}
+use Rattle.run_lines.specs.Runs.{Lined, asIs, So, start, Run, ended, isFirst, mayJoin, after, runFrom, runOf, runAt, sizes}
 use Rattle.run_joins.specs.Joins.{goesOn, spaced}
 
 -- ---- induction along a run: it ends, or a line doesn't fit, or a line is joined and it goes on or ends behind that one
@@ -34,7 +34,7 @@ use Rattle.run_joins.specs.Joins.{goesOn, spaced}
 module _ (cap : ℕ) (P : So → List Lined → Run → Type 0)
     (stops : (so : So) (ls : List Lined) → P so ls (ended (Refused NoReading) so))
     (full : (so : So) (l : Lined) (ls : List Lined) → cap < length (after so l .text) → P so (l ∷ ls) (ended (Refused JoinFull) so))
-    (closes : (so : So) (ls : List Lined) → P so ls (ended Closed so))
+    (closes : (so : So) (ls : List Lined) → P so ls (ended Passed so))
     (joins : (so : So) (l : Lined) (ls : List Lined) (R : Run) → mayJoin so l ≡ true → length (after so l .text) ≤ cap → P (after so l) ls R → P so (l ∷ ls) R) where
   pub run-by : (so : So) (ls : List Lined) → P so ls (runFrom cap so ls)
   unfolding runFrom
@@ -42,7 +42,7 @@ module _ (cap : ℕ) (P : So → List Lined → Run → Type 0)
   run-by so (l ∷ ls) = go (mayJoin so l) (ltb cap (length (after so l .text))) (isIn (l .line) 125 && not (holdsOpen (after so l .text))) refl refl (run-by (after so l) ls)
     where
       go : (x y z : Bool) → mayJoin so l ≡ x → ltb cap (length (after so l .text)) ≡ y → P (after so l) ls (runFrom cap (after so l) ls)
-          → P so (l ∷ ls) (cond x (cond y (ended (Refused JoinFull) so) (cond z (ended Closed (after so l)) (runFrom cap (after so l) ls))) (ended (Refused NoReading) so))
+          → P so (l ∷ ls) (cond x (cond y (ended (Refused JoinFull) so) (cond z (ended Passed (after so l)) (runFrom cap (after so l) ls))) (ended (Refused NoReading) so))
       go false y z p q ih = stops so (l ∷ ls)
       go true true z p q ih = full so l ls (ltb-true cap _ q)
       go true false true p q ih = joins so l ls _ p (ltb-false cap _ q) (closes (after so l) ls)
@@ -57,14 +57,14 @@ pub record Took (so : So) (ls : List Lined) (R : Run) : Type 0 where
   pub counted : R .lines ≡ so .lines + n
   pub ahead : R .lookahead ≡ so .lookahead + sizes (take n ls)
 
-none : (x : Stop) (so : So) (ls : List Lined) → Took so ls (ended x so)
+none : (x : Outcome) (so : So) (ls : List Lined) → Took so ls (ended x so)
 unfolding sizes
 none x so ls = record { n = 0; within = omega arith; counted = sym (add-zero (so .lines)); ahead = sym (add-zero (so .lookahead)) }
 
 pub took : (cap : ℕ) (so : So) (ls : List Lined) → Took so ls (runFrom cap so ls)
 unfolding sizes
 took cap =
-    run-by cap Took (none (Refused NoReading)) (λ so l ls h. none (Refused JoinFull) so (l ∷ ls)) (none Closed)
+    run-by cap Took (none (Refused NoReading)) (λ so l ls h. none (Refused JoinFull) so (l ∷ ls)) (none Passed)
     (λ so l ls R p h w. record { n = suc (w .n); within = omega (arith, w .within); counted = omega (arith, w .counted); ahead = omega (arith, w .ahead) })
 
 module _ (cap base : ℕ) (ls : List Lined) where
@@ -97,15 +97,6 @@ sizes-lines (b ∷ s) = go (eqb b 10) (isDropped b s) (lines s) (sizes-lines s)
     go false true ls h = omega arith
     go false false [] h = omega arith
     go false false (l ∷ ls) h = omega arith
-
-pub lookahead-le : (cap base : ℕ) (t : List ℕ) (at : ℕ) → (runAt cap base t at .lookahead ≤ length t - at) × (runAt cap base t at .lookahead ≤ length t)
-unfolding runAt
-lookahead-le cap base t at = go (map asIs (lines (drop at t))) (sizes-lines (drop at t))
-  where
-    go : (ls : List Lined) → sizes ls ≤ length (drop at t) → (runOf cap base ls .lookahead ≤ length t - at) × (runOf cap base ls .lookahead ≤ length t)
-    go ls h =
-        let k = sizes-take (runOf cap base ls .lines) ls in
-        (omega (arith, lookahead-sum cap base ls, length-drop at t), omega (arith, lookahead-sum cap base ls, length-drop at t))
 
 -- ---- the joined text fits its buffer
 
@@ -180,7 +171,7 @@ text-short cap base t at = omega (arith, grows cap (start base) (map asIs (lines
 -- ---- a buffer of the text's length is never full: 9 can't arise
 
 abbrev Roomy : ℕ → So → List Lined → Run → Type 0
-Roomy cap so ls R = (isFirst so ≡ true → so .text ≡ []) → (spent so + costs ls) - 1 ≤ cap → eqb (stopNo (R .stop)) 9 ≡ false
+Roomy cap so ls R = (isFirst so ≡ true → so .text ≡ []) → (spent so + costs ls) - 1 ≤ cap → eqb (outcomeNo (R .stop)) 9 ≡ false
 
 roomy : (cap : ℕ) (so : So) (ls : List Lined) → Roomy cap so ls (runFrom cap so ls)
 unfolding costs numberOf
@@ -188,15 +179,15 @@ roomy cap =
     run-by cap (Roomy cap) (λ so ls e h. refl) (λ so l ls f e h. absurd (omega (arith, f, h, spends so l e))) (λ so ls e h. refl)
     (λ so l ls R p f ih e h. ih (not-first so l) (omega (arith, h, spends so l e, spent-later so l)))
 
-pub never-full : (cap base : ℕ) (t : List ℕ) (at : ℕ) → length t ≤ cap → eqb (stopNo (runAt cap base t at .stop)) 9 ≡ false
+pub never-full : (cap base : ℕ) (t : List ℕ) (at : ℕ) → length t ≤ cap → eqb (outcomeNo (runAt cap base t at .stop)) 9 ≡ false
 unfolding runAt
 never-full cap base t at h = roomy cap (start base) (map asIs (lines (drop at t))) (λ e. refl) (omega (arith, costs-lines (drop at t), length-drop at t))
 
 -- ---- columns are true numbers, where a number counts the line four times over, and a brace past all numbers is passed by no line
 
 pub goes-true : (brace : ℕ) (q : Quote) (pad : ℕ) (l : List ℕ) → pad + 4 * length l ≤ most
-    → goesOn brace q pad l ≡ (ltb brace (indentFrom pad l) && (not (isQuoted q) && continues (trim l)))
-goes-true brace q pad l h = rw (capped-id (indentFrom pad l) low) (ap (λ x. x && (not (isQuoted q) && continues (trim l))) (go (leb brace most) refl))
+    → goesOn brace q pad l ≡ (ltb brace (indentFrom pad l) && (not (inQuote q) && continues (trim l)))
+goes-true brace q pad l h = rw (capped-id (indentFrom pad l) low) (ap (λ x. x && (not (inQuote q) && continues (trim l))) (go (leb brace most) refl))
   where
     low : indentFrom pad l ≤ most
     low = rw (indent-front pad l) (omega (arith, columns-le pad (take (run isIndent l) l), length-take-le (run isIndent l) l (run-le isIndent l), run-le isIndent l))

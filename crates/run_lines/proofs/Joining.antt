@@ -8,11 +8,12 @@ use native.Mathlib.Numerals.{add-one}
 use native.Mathlib.Omega.{arith}
 use borrow.Author.Tests.{eqb-false, ne-eqb, ltb-false, not-true}
 use lib.Dec.{eqb, ltb}
-use lib.ListN.{length, take, drop, length-append, length-drop}
+use lib.ListN.{length, take, drop, length-append}
 use lib.Seq.{length-slice, take-at, drop-at, drop-drop, sets, sets-eq, length-sets}
 use Rattle.base_lists.specs.Lists.{isIn, over}
 use Rattle.base_lists.proofs.Scan.{both}
 use Rattle.base_lists.proofs.Parts.{slice-part}
+use Rattle.base_lists.proofs.Sets.{over-long}
 use Rattle.text_lines.specs.declared.LineEnd.{LineEnd}
 use Rattle.text_lines.specs.Trim.{trim, isBlankLine}
 use Rattle.text_lines.specs.Lines.{lines, lineFrom}
@@ -26,14 +27,14 @@ use Rattle.block_grammar.specs.declared.Quote.the-variants.{Out}
 use Rattle.block_grammar.specs.declared.Place.{Place}
 use Rattle.block_grammar.specs.declared.Place.the-variants.{Nothing, At}
 use Rattle.base_refusals.specs.declared.Refusal.the-variants.{NoReading, JoinFull}
-use Rattle.run_lines.specs.declared.Stop.{Stop}
-use Rattle.run_lines.specs.declared.Stop.the-variants.{Closed, Refused}
+use Rattle.base_refusals.specs.declared.Outcome.{Outcome}
+use Rattle.base_refusals.specs.declared.Outcome.the-variants.{Passed, Refused}
 use Rattle.run_joins.specs.declared.State.{State}
 use Rattle.run_joins.specs.declared.Step.{Step}
 use Rattle.run_joins.specs.declared.Step.the-variants.{Broken, Full, Go, Closes}
 use Rattle.run_lines.specs.declared.Joined.{Joined}
 use Rattle.run_lines.specs.Runs.{Lined, asIs, So, start, Run, ended, isFirst, mayJoin, after, runFrom, runAt, pastLines, joinedOf}
-use Rattle.run_joins.specs.Joins.{passes, spaced, added, braceAfter, nextState, isLast, lengthAfter, stepOf, laid, joinAfter}
+use Rattle.run_joins.specs.Joins.{passes, spaced, added, braceAfter, nextState, isLast, lengthAfter, joinStep, laid, joinAfter}
 
 -- ---- one line, by code and by definition
 
@@ -101,11 +102,11 @@ module _ (cap : ℕ) (so : So) (l : Lined) (ls : List Lined) where
   abbrev pub Meets : Step → Type 0
   Meets Broken = runFrom cap so (l ∷ ls) ≡ ended (Refused NoReading) so
   Meets Full = runFrom cap so (l ∷ ls) ≡ ended (Refused JoinFull) so
-  Meets (Closes v) = (runFrom cap so (l ∷ ls) ≡ ended Closed (after so l)) × Joined-by v
+  Meets (Closes v) = (runFrom cap so (l ∷ ls) ≡ ended Passed (after so l)) × Joined-by v
   Meets (Go v) = (runFrom cap so (l ∷ ls) ≡ runFrom cap (after so l) ls) × Joined-by v
 
-  pub meets : {st : State} → Shows so st → Meets (stepOf cap st (l .pad) (l .line))
-  unfolding stepOf runFrom
+  pub meets : {st : State} → Shows so st → Meets (joinStep cap st (l .pad) (l .line))
+  unfolding joinStep runFrom
   meets {st} s =
       rw (shows-tests s l, shows-last s l)
       (go (mayJoin so l) (ltb cap (lengthAfter st (l .line))) (isIn (l .line) 125 && not (holdsOpen (after so l .text))) refl (ap (ltb cap) (sym (shows-length s l))) refl)
@@ -118,10 +119,6 @@ module _ (cap : ℕ) (so : So) (l : Lined) (ls : List Lined) where
       go true false false p q r = (rw (p, q, r), (shows-after s l p, ltb-false cap _ q))
 
 -- ---- the lent memory
-
--- the joined text stands at its front, and the next line is written behind
-pub over-long : (xs buf : List ℕ) → length xs ≤ length buf → length (over xs buf) ≡ length buf
-over-long xs buf h = omega (arith, length-append xs (drop (length xs) buf), length-drop (length xs) buf)
 
 pub over-sets : (xs ys buf : List ℕ) → length xs + length ys ≤ length buf → sets (over xs buf) (length xs) ys ≡ over (xs ++ ys) buf
 over-sets xs ys buf h =
@@ -151,7 +148,7 @@ module _ {t : List ℕ} {at : ℕ} {buf₀ buf : List ℕ} {st : State} {count l
   has-long = rw (has .content) (over-long (so .text) buf₀ (has .room))
 
   -- the run ends here
-  pub has-ended : (R : Run) (x : Stop) {r : Joined} → ended x so ≡ R → r ≡ record { stop = x; len = st .len; lines = count; lookahead = lookahead; next = from }
+  pub has-ended : (R : Run) (x : Outcome) {r : Joined} → ended x so ≡ R → r ≡ record { stop = x; len = st .len; lines = count; lookahead = lookahead; next = from }
       → (r ≡ joinedOf t at R) × (buf ≡ over (R .text) buf₀)
   has-ended R x e q = rw (← e) (q ∙ rw (has .shows .len, has .past, has .counted, has .ahead), has .content)
 
@@ -203,7 +200,7 @@ joins-start t at base buf e =
     }
 
 module _ {t : List ℕ} {at : ℕ} {buf₀ : List ℕ} {R : Run} {buf : List ℕ} {st : State} {count lookahead from : ℕ} (inv : Joins t at buf₀ R buf st count lookahead from) where
-  abbrev Gives : Stop → State → ℕ → ℕ → ℕ → Joined → Type 0
+  abbrev Gives : Outcome → State → ℕ → ℕ → ℕ → Joined → Type 0
   Gives x v n a k r = r ≡ record { stop = x; len = v .len; lines = n; lookahead = a; next = k }
 
   abbrev Answers : Joined → List ℕ → Type 0
@@ -217,7 +214,7 @@ module _ {t : List ℕ} {at : ℕ} {buf₀ : List ℕ} {R : Run} {buf : List ℕ
     abbrev here : List ℕ
     here = line (inv .has) h e
 
-    module _ {step : Step} {buf′ : List ℕ} (w : (step ≡ stepOf (length buf) st 0 here) × (buf′ ≡ joinAfter st 0 here buf)) where
+    module _ {step : Step} {buf′ : List ℕ} (w : (step ≡ joinStep (length buf) st 0 here) × (buf′ ≡ joinAfter st 0 here buf)) where
       met : Meets (length buf₀) (inv .so) (asIs here) (map asIs (lines (drop (r .next) t))) step
       met = rw (w .0, has-long (inv .has)) (meets (length buf₀) (inv .so) (asIs here) (map asIs (lines (drop (r .next) t))) (inv .has .shows))
 
@@ -247,7 +244,7 @@ module _ {t : List ℕ} {at : ℕ} {buf₀ : List ℕ} {R : Run} {buf : List ℕ
           → Has t at buf₀ buf′ v (count + 1) (lookahead + (r .to - from)) (r .next) (after (inv .so) (asIs here))
       next = has-next (inv .has) h e
 
-      pub joins-closed : {v : State} → step ≡ Closes v → {g : Joined} → Gives Closed v (count + 1) (lookahead + (r .to - from)) (r .next) g → Answers g buf′
+      pub joins-closed : {v : State} → step ≡ Closes v → {g : Joined} → Gives Passed v (count + 1) (lookahead + (r .to - from)) (r .next) g → Answers g buf′
       joins-closed q g = has-ended (next ((rw q at met) .1) (rw q at laid-by)) R _ (sym ((rw q at met) .0) ∙ whole) g
 
       pub joins-go : {v : State} → step ≡ Go v → Joins t at buf₀ R buf′ v (count + 1) (lookahead + (r .to - from)) (r .next)

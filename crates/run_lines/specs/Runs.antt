@@ -13,9 +13,10 @@ use Rattle.block_grammar.specs.declared.Quote.the-variants.{Out}
 use Rattle.base_refusals.specs.Numbers.{numberOf}
 use Rattle.base_refusals.specs.declared.Refusal.the-variants.{NoReading, JoinFull}
 use Rattle.run_joins.specs.Joins.{passes, added, braceAfter}
-use Rattle.run_lines.specs.declared.Stop.{Stop}
-use Rattle.run_lines.specs.declared.Stop.the-variants.{Closed, Refused}
+use Rattle.base_refusals.specs.declared.Outcome.{Outcome}
+use Rattle.base_refusals.specs.declared.Outcome.the-variants.{Passed, Refused}
 use Rattle.run_lines.specs.declared.Joined.{Joined}
+use Rattle.base_bytes.specs.Bytes.{closeBrace}
 
 -- ---- a line and a run
 
@@ -43,17 +44,12 @@ abbrev pub start : ℕ → So
 start base = record { text = []; lines = 0; lookahead = 0; brace = 0; base = base; quote = Out }
 
 pub record Run : Type 0 where
-  pub stop : Stop
+  pub stop : Outcome
   pub text : List ℕ
   pub lines : ℕ
   pub lookahead : ℕ
 
--- the number of a run's refusal, 0 where it closed
-abbrev pub stopNo : Stop → ℕ
-stopNo Closed = 0
-stopNo (Refused r) = numberOf r
-
-abbrev pub ended : Stop → So → Run
+abbrev pub ended : Outcome → So → Run
 ended x so = record { stop = x; text = so .text; lines = so .lines; lookahead = so .lookahead }
 
 -- ---- a line that is joined
@@ -81,7 +77,7 @@ after so l =
 
 -- "The run ends at the first line with a `}` after which the joined text holds no open block"
 abbrev pub closing : Lined → So → (So → Run) → Run
-closing l so rest = cond (isIn (l .line) 125 && not (holdsOpen (so .text))) (ended Closed so) (rest so)
+closing l so rest = cond (isIn (l .line) closeBrace && not (holdsOpen (so .text))) (ended Passed so) (rest so)
 
 -- "the next line to join doesn't fit the join buffer": the line that doesn't fit is not joined, and not counted
 abbrev pub fitting : ℕ → So → Lined → (So → Run) → Run

@@ -1,4 +1,5 @@
 // The lines of a wrapped run, joined into lent memory.
+use base_refusals::Outcome;
 use base_refusals::Refusal;
 use block_grammar::Quote;
 use run_joins::State;
@@ -6,18 +7,12 @@ use run_joins::Step;
 ghost use mathlib.Core.Path.{_≡_};
 ghost use lib.ListN.{length};
 ghost use Rattle.base_lists.specs.Lists.{over};
-ghost use Rattle.run_lines.specs.declared.Stop.the-variants.{Closed, Refused};
+ghost use Rattle.base_refusals.specs.declared.Outcome.the-variants.{Passed, Refused};
 ghost use Rattle.run_lines.specs.Runs.{runAt, joinedOf};
-
-// How a run ends.
-pub enum Stop {
-    Closed,
-    Refused(Refusal),
-}
 
 // How many bytes and lines are joined, of how many untrimmed bytes, and where the line behind them begins.
 pub struct Joined {
-    pub stop: Stop,
+    pub stop: Outcome,
     pub len: usize,
     pub lines: usize,
     pub lookahead: usize,
@@ -25,10 +20,10 @@ pub struct Joined {
 }
 
 fn closed(len: usize, lines: usize, lookahead: usize, next: usize) -> Joined
-    ensures { λ r. ⌜ r ≡ record { stop = Closed; len = len; lines = lines; lookahead = lookahead; next = next } ⌝ }
+    ensures { λ r. ⌜ r ≡ record { stop = Passed; len = len; lines = lines; lookahead = lookahead; next = next } ⌝ }
 {
     Joined {
-        stop: Stop::Closed,
+        stop: Outcome::Passed,
         len,
         lines,
         lookahead,
@@ -40,7 +35,7 @@ fn refused(no: Refusal, len: usize, lines: usize, lookahead: usize, next: usize)
     ensures { λ r. ⌜ r ≡ record { stop = Refused no; len = len; lines = lines; lookahead = lookahead; next = next } ⌝ }
 {
     Joined {
-        stop: Stop::Refused(no),
+        stop: Outcome::Refused(no),
         len,
         lines,
         lookahead,

@@ -17,8 +17,8 @@ use Rattle.base_refusals.specs.Numbers.{maxText}
 use Rattle.base_refusals.specs.declared.Refusal.{Refusal}
 use Rattle.base_refusals.specs.declared.Refusal.the-variants.{TextTooLong, NotUtf8}
 use Rattle.text_checks.specs.Check.{checkOf}
-use Rattle.text_checks.specs.declared.Check as checks
-use Rattle.text_checks.specs.declared.Check.the-variants as check
+use Rattle.base_refusals.specs.declared.Outcome as outcomes
+use Rattle.base_refusals.specs.declared.Outcome.the-variants as outcome
 use Rattle.text_lines.specs.Trim.{trimStart}
 use Rattle.text_lines.specs.Lines.{lines, lineFrom, lineOf}
 use Rattle.text_lines.specs.declared.LineEnd.{LineEnd}
@@ -36,8 +36,8 @@ use Rattle.run_refused.specs.declared.RefusedRun.{RefusedRun}
 use Rattle.run_refused.specs.declared.Ran.{Ran}
 use Rattle.run_refused.specs.declared.Walk.{Walk}
 use Rattle.run_refused.specs.declared.Walk.the-variants as walks
-use Rattle.run_refused.specs.Refused.{Found, commentFrom, Told, unjoined, answerBy, judged, foundIn, refusedOf, refusedAt, refusedRun, handedOut}
-use Rattle.run_refused.specs.Shown.{walkAt, shownWalk, isBlock, linesIn, paddedRun, ranOf}
+use Rattle.run_refused.specs.Refused.{Stretch, commentFrom, RunTold, unjoined, runAnswer, judged, foundIn, refusedOf, refusedAt, refusedRun, handedOut}
+use Rattle.run_refused.specs.Inner.{walkAt, shownWalk, isStretch, linesTaken, paddedRun, ranOf, maxColumn}
 use Rattle.run_refused.proofs.Walking.{line, line-in, line-first, line-long}
 
 -- ---- a block
@@ -46,15 +46,15 @@ good-over : (xs buf : List ℕ) → goodLine (over xs buf) 0 (length xs) ≡ goo
 unfolding goodLine
 good-over xs buf = rw (take-at xs (drop (length xs) buf) (length xs) refl, take-length xs)
 
-abbrev pub Tells : Told → List ℕ → RefusedRun → List ℕ → Type 0
+abbrev pub Tells : RunTold → List ℕ → RefusedRun → List ℕ → Type 0
 Tells T buf g buf′ = (g ≡ handedOut T) × (buf′ ≡ over (T .text) buf)
 
 pub block-told : (P : Run) (count : ℕ) (buf : List ℕ) {r : Ran} {buf′ : List ℕ} {a : Answer} → (r ≡ ranOf P) × (buf′ ≡ over (P .text) buf)
-    → a ≡ answerBy (r .stop) (eqb (r .lines) count && goodLine buf′ 0 (r .len)) count
+    → a ≡ runAnswer (r .stop) (eqb (r .lines) count && goodLine buf′ 0 (r .len)) count
     → Tells (judged count P) buf (record { answer = a; lookahead = r .lookahead; joined = r .len }) buf′
 block-told P count buf w q = (rw (q, w .1, w .0, good-over (P .text) buf), w .1)
 
-pub unjoined-told : (T : Told) (buf : List ℕ) {a : Answer} {g : RefusedRun} → T ≡ unjoined a → g ≡ handedOut (unjoined a) → Tells T buf g buf
+pub unjoined-told : (T : RunTold) (buf : List ℕ) {a : Answer} {g : RefusedRun} → T ≡ unjoined a → g ≡ handedOut (unjoined a) → Tells T buf g buf
 unjoined-told T buf q e = rw q (e, refl)
 
 -- ---- what the first walk shows
@@ -72,20 +72,20 @@ shallowOf (walks.No n) = false
 shallowOf (walks.Block n s) = s
 
 module _ (cap : ℕ) where
-  shown-no : (f : Found) {n : ℕ} → walks.No n ≡ shownWalk f → foundIn cap f ≡ unjoined (No n)
+  shown-no : (f : Stretch) {n : ℕ} → walks.No n ≡ shownWalk f → foundIn cap f ≡ unjoined (No n)
   unfolding foundIn
-  shown-no Found.none e = ap (λ w. unjoined (No (countOf w))) (sym e)
-  shown-no (Found.block s ls) e = contra (isNo (shownWalk (Found.block s ls))) (sym (ap isNo e)) refl
+  shown-no Stretch.none e = ap (λ w. unjoined (No (countOf w))) (sym e)
+  shown-no (Stretch.block s ls) e = contra (isNo (shownWalk (Stretch.block s ls))) (sym (ap isNo e)) refl
 
-  shown-deep : (f : Found) {n : ℕ} → walks.Block n false ≡ shownWalk f → foundIn cap f ≡ unjoined (No 0)
+  shown-deep : (f : Stretch) {n : ℕ} → walks.Block n false ≡ shownWalk f → foundIn cap f ≡ unjoined (No 0)
   unfolding foundIn
-  shown-deep Found.none e = refl
-  shown-deep (Found.block s ls) e = rw (sym (ap shallowOf e))
+  shown-deep Stretch.none e = refl
+  shown-deep (Stretch.block s ls) e = rw (sym (ap shallowOf e))
 
-  shown-block : (f : Found) {n : ℕ} → walks.Block n true ≡ shownWalk f → (isBlock f ≡ true) × (foundIn cap f ≡ judged n (runOf cap 0 (linesIn f)))
+  shown-block : (f : Stretch) {n : ℕ} → walks.Block n true ≡ shownWalk f → (isStretch f ≡ true) × (foundIn cap f ≡ judged n (runOf cap 0 (linesTaken f)))
   unfolding foundIn
-  shown-block Found.none e = contra (isNo (walks.No 0)) refl (sym (ap isNo e))
-  shown-block (Found.block s ls) e = (refl, rw (sym (ap shallowOf e), ap countOf e))
+  shown-block Stretch.none e = contra (isNo (walks.No 0)) refl (sym (ap isNo e))
+  shown-block (Stretch.block s ls) e = (refl, rw (sym (ap shallowOf e), ap countOf e))
 
 -- ---- the run whose first line begins at `at`
 
@@ -93,7 +93,7 @@ module _ (cap : ℕ) (t : List ℕ) (at : ℕ) (h : at < length t) {l : LineEnd}
   abbrev here : List ℕ
   here = line t at h e
 
-  abbrev pub told-at : Told
+  abbrev pub told-at : RunTold
   told-at = refusedOf cap (lines (drop at t))
 
   pub told-none : false ≡ opens here → told-at ≡ unjoined (No 0)
@@ -104,7 +104,7 @@ module _ (cap : ℕ) (t : List ℕ) (at : ℕ) (h : at < length t) {l : LineEnd}
     column : c ≡ indentColumns here
     column = w ∙ indent-whole here (omega (arith, line-long t at h e, line-in t at h e))
 
-    pub opener-low : c ≤ 262140
+    pub opener-low : c ≤ maxColumn
     opener-low = omega (arith, column, indent-le here, line-long t at h e, line-in t at h e)
 
     pub told-comment : true ≡ beginsPair 123 37 (trimStart here) → {a : Answer} → a ≡ commentFrom c 0 false (lines (drop at t)) → told-at ≡ unjoined a
@@ -122,7 +122,7 @@ module _ (cap : ℕ) (t : List ℕ) (at : ℕ) (h : at < length t) {l : LineEnd}
       pub told-deep : {n : ℕ} {s : Bool} → s ≡ false → walks.Block n s ≡ shownWalk (walkAt c t at) → told-at ≡ unjoined (No 0)
       told-deep x z = told-walk ∙ shown-deep cap (walkAt c t at) (rw x at z)
 
-      pub told-block : {n : ℕ} {s : Bool} → s ≡ true → walks.Block n s ≡ shownWalk (walkAt c t at) → (isBlock (walkAt c t at) ≡ true) × (told-at ≡ judged n (paddedRun cap c t at))
+      pub told-block : {n : ℕ} {s : Bool} → s ≡ true → walks.Block n s ≡ shownWalk (walkAt c t at) → (isStretch (walkAt c t at) ≡ true) × (told-at ≡ judged n (paddedRun cap c t at))
       unfolding paddedRun
       told-block x z = let b = shown-block cap (walkAt c t at) (rw x at z) in (b .0, told-walk ∙ b .1)
 
@@ -143,20 +143,20 @@ module _ (cap : ℕ) (t : List ℕ) (at : ℕ) where
 
 -- ---- the entry by line number
 
-pub passes-short : (t : List ℕ) {c : checks.Check} → c ≡ checkOf t → c ≡ check.Passed → length t ≤ maxText
+pub passes-short : (t : List ℕ) {c : outcomes.Outcome} → c ≡ checkOf t → c ≡ outcome.Passed → length t ≤ maxText
 unfolding checkOf
 passes-short t e q = go (ltb maxText (length t)) refl (sym q ∙ e)
   where
-    go : (x : Bool) → ltb maxText (length t) ≡ x → check.Passed ≡ cond x (check.Refused TextTooLong) (cond (isUtf8 t) check.Passed (check.Refused NotUtf8)) → length t ≤ maxText
+    go : (x : Bool) → ltb maxText (length t) ≡ x → outcome.Passed ≡ cond x (outcome.Refused TextTooLong) (cond (isUtf8 t) outcome.Passed (outcome.Refused NotUtf8)) → length t ≤ maxText
     go true p z = let y : _≡_ {A = ℕ} 0 1 = cc in absurd (omega arith)
     go false p z = ltb-false maxText (length t) p
 
-module _ (cap : ℕ) (t : List ℕ) (n : ℕ) {c : checks.Check} (e : c ≡ checkOf t) where
-  pub run-refused : {r : Refusal} → c ≡ check.Refused r → refusedRun cap t n ≡ unjoined (Refused r)
+module _ (cap : ℕ) (t : List ℕ) (n : ℕ) {c : outcomes.Outcome} (e : c ≡ checkOf t) where
+  pub run-refused : {r : Refusal} → c ≡ outcome.Refused r → refusedRun cap t n ≡ unjoined (Refused r)
   unfolding refusedRun
   run-refused q = rw (sym e ∙ q)
 
-  module _ (q : c ≡ check.Passed) {p : places.Line} (w : p ≡ lineOf n t) where
+  module _ (q : c ≡ outcome.Passed) {p : places.Line} (w : p ≡ lineOf n t) where
     pub run-missing : p ≡ place.Missing → refusedRun cap t n ≡ unjoined (No 0)
     unfolding refusedRun
     run-missing z = rw (sym e ∙ q, sym w ∙ z)

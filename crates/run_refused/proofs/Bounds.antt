@@ -6,26 +6,20 @@ use mathlib.Core.List.{List, [], _∷_, _++_, map, append-nil}
 use Prim.Native.Nat.{ℕ, suc, _-_, _≤_, zero-le}
 use native.Mathlib.Omega.{arith}
 use lib.Dec.{ltb}
-use lib.ListN.{length, drop, length-drop}
+use lib.ListN.{length, length-drop}
 use Rattle.block_payloads.specs.Payloads.{opens}
-use Rattle.text_checks.specs.Check.{checkOf}
-use Rattle.text_checks.specs.declared.Check as checks
-use Rattle.text_checks.specs.declared.Check.the-variants as check
 use Rattle.text_lines.specs.Trim.{trimStart, isBlankLine}
-use Rattle.text_lines.specs.Lines.{lines, lineOf}
-use Rattle.text_lines.specs.declared.Line as places
-use Rattle.text_lines.specs.declared.Line.the-variants as place
 use Rattle.text_lines.proofs.Trim.{trim-start}
 use Rattle.base_lists.specs.Lists.{run, beginsPair}
 use Rattle.base_bytes.specs.Bytes.{isSpace}
 use Rattle.text_tabs.specs.Columns.{indentColumns}
 use Rattle.run_lines.specs.Runs.{Lined, asIs, runOf, sizes, start}
-use Rattle.run_lines.proofs.Bounds.{lookahead-sum, sizes-take, sizes-lines, costs, grows, costs-lines}
+use Rattle.run_lines.proofs.Bounds.{lookahead-sum, sizes-take, costs, grows}
 use Rattle.run_spots.specs.declared.Spot.{Spot}
 use Rattle.run_refused.specs.declared.Answer.the-variants.{No}
 use Rattle.run_spots.specs.Spots.{isStray, spotAfter}
-use Rattle.run_refused.specs.Refused.{Found, onto, walkLine, On, halts, padded, enteredAt, onAfter, behind, walkFrom, onFirst, Told, unjoined, foundIn, commentFrom, refusedOf, refusedBy, refusedRun}
-use Rattle.run_refused.specs.Shown.{linesIn}
+use Rattle.run_refused.specs.Refused.{Stretch, ontoStretch, walkLine, On, halts, paddedLine, enteredAt, onAfter, behindLine, walkFrom, onFirst, RunTold, unjoined, foundIn, commentFrom, refusedOf}
+use Rattle.run_refused.specs.Inner.{linesTaken}
 use Rattle.base_lists.proofs.More.{or-right}
 
 opens-halts : (m : List ℕ) (opener : ℕ) (v : On) → v .first ≡ false → opens m ≡ true → halts (v .first) (v .brace) opener m ≡ true
@@ -33,66 +27,66 @@ opens-halts m opener v e o = rw (e, o) (or-right (isBlankLine m) _ (or-right (lt
 
 -- ---- a measure of lines that padding doesn't raise: what is found is no more than what was walked
 
-module _ (M : List Lined → ℕ) (none : M [] ≡ 0) (more : (opener : ℕ) (w : On) (l : List ℕ) (ls : List Lined) (ms : List (List ℕ)) → M ls ≤ M (map asIs ms) → M (padded opener w l ∷ ls) ≤ M (map asIs (l ∷ ms))) where
+module _ (M : List Lined → ℕ) (none : M [] ≡ 0) (more : (opener : ℕ) (w : On) (l : List ℕ) (ls : List Lined) (ms : List (List ℕ)) → M ls ≤ M (map asIs ms) → M (paddedLine opener w l ∷ ls) ≤ M (map asIs (l ∷ ms))) where
   empty-le : (n : ℕ) → M [] ≤ n
   empty-le n = rw none zero-le
 
-  line-le : (p : Spot) (s : List ℕ) (K : Spot → Found) (n : ℕ) → ((v : Spot) → M (linesIn (K v)) ≤ n) → M (linesIn (walkLine p s K)) ≤ n
+  line-le : (p : Spot) (s : List ℕ) (K : Spot → Stretch) (n : ℕ) → ((v : Spot) → M (linesTaken (K v)) ≤ n) → M (linesTaken (walkLine p s K)) ≤ n
   unfolding walkLine
   line-le p [] K n h = h p
   line-le p (b ∷ s) K n h = go (isStray p b) (line-le (spotAfter p b) s K n h)
     where
-      go : (x : Bool) → M (linesIn (walkLine (spotAfter p b) s K)) ≤ n → M (linesIn (cond x Found.none (walkLine (spotAfter p b) s K))) ≤ n
+      go : (x : Bool) → M (linesTaken (walkLine (spotAfter p b) s K)) ≤ n → M (linesTaken (cond x Stretch.none (walkLine (spotAfter p b) s K))) ≤ n
       go true q = empty-le n
       go false q = q
 
   module _ (opener : ℕ) where
-    onto-le : (w : On) (l : List ℕ) (f : Found) (ms : List (List ℕ)) → M (linesIn f) ≤ M (map asIs ms) → M (linesIn (onto (padded opener w l) f)) ≤ M (map asIs (l ∷ ms))
-    onto-le w l Found.none ms h = empty-le _
-    onto-le w l (Found.block s ls) ms h = more opener w l ls ms h
+    onto-le : (w : On) (l : List ℕ) (f : Stretch) (ms : List (List ℕ)) → M (linesTaken f) ≤ M (map asIs ms) → M (linesTaken (ontoStretch (paddedLine opener w l) f)) ≤ M (map asIs (l ∷ ms))
+    onto-le w l Stretch.none ms h = empty-le _
+    onto-le w l (Stretch.block s ls) ms h = more opener w l ls ms h
 
-    walk-step : (w : On) (l : List ℕ) (ls ms : List (List ℕ)) → ((v : On) → v .first ≡ false → M (linesIn (walkFrom opener v ls)) ≤ M (map asIs ms)) → M (linesIn (walkFrom opener w (l ∷ ls))) ≤ M (map asIs (l ∷ ms))
+    walk-step : (w : On) (l : List ℕ) (ls ms : List (List ℕ)) → ((v : On) → v .first ≡ false → M (linesTaken (walkFrom opener v ls)) ≤ M (map asIs ms)) → M (linesTaken (walkFrom opener w (l ∷ ls))) ≤ M (map asIs (l ∷ ms))
     unfolding walkFrom
     walk-step w l ls ms h = go (halts (w .first) (w .brace) opener l)
       where
-        K : Spot → Found
-        K = behind (padded opener w l) (onAfter w l) (λ v. walkFrom opener v ls)
+        K : Spot → Stretch
+        K = behindLine (paddedLine opener w l) (onAfter w l) (λ v. walkFrom opener v ls)
 
-        next : (x : Bool) (v : On) → v .first ≡ false → M (linesIn (cond x (walkFrom opener v ls) (Found.block (v .shallow) []))) ≤ M (map asIs ms)
+        next : (x : Bool) (v : On) → v .first ≡ false → M (linesTaken (cond x (walkFrom opener v ls) (Stretch.block (v .shallow) []))) ≤ M (map asIs ms)
         next true v e = h v e
         next false v e = empty-le _
 
-        go : (x : Bool) → M (linesIn (cond x Found.none (walkLine (enteredAt (w .first) (w .brace) l) (trimStart l) K))) ≤ M (map asIs (l ∷ ms))
+        go : (x : Bool) → M (linesTaken (cond x Stretch.none (walkLine (enteredAt (w .first) (w .brace) l) (trimStart l) K))) ≤ M (map asIs (l ∷ ms))
         go true = empty-le _
-        go false = line-le (enteredAt (w .first) (w .brace) l) (trimStart l) K _ (λ v. onto-le w l (cond (v .inside) (walkFrom opener (onAfter w l (v .brace)) ls) (Found.block (onAfter w l (v .brace) .shallow) [])) ms (next (v .inside) (onAfter w l (v .brace)) refl))
+        go false = line-le (enteredAt (w .first) (w .brace) l) (trimStart l) K _ (λ v. onto-le w l (cond (v .inside) (walkFrom opener (onAfter w l (v .brace)) ls) (Stretch.block (onAfter w l (v .brace) .shallow) [])) ms (next (v .inside) (onAfter w l (v .brace)) refl))
 
     -- no walk goes beyond the lines `rest`, if none that comes to them enters them
-    pub walk-upto : (rest : List (List ℕ)) → ((v : On) → v .first ≡ false → M (linesIn (walkFrom opener v rest)) ≤ 0) → (pre : List (List ℕ)) (v : On) → v .first ≡ false → M (linesIn (walkFrom opener v (pre ++ rest))) ≤ M (map asIs pre)
+    pub walk-upto : (rest : List (List ℕ)) → ((v : On) → v .first ≡ false → M (linesTaken (walkFrom opener v rest)) ≤ 0) → (pre : List (List ℕ)) (v : On) → v .first ≡ false → M (linesTaken (walkFrom opener v (pre ++ rest))) ≤ M (map asIs pre)
     walk-upto rest h [] v e = rw none (h v e)
     walk-upto rest h (l ∷ pre) v e = walk-step v l (pre ++ rest) pre (walk-upto rest h pre)
 
-    pub walk-first : (rest : List (List ℕ)) → ((v : On) → v .first ≡ false → M (linesIn (walkFrom opener v rest)) ≤ 0) → (pre : List (List ℕ)) (l : List ℕ) (w : On) → M (linesIn (walkFrom opener w (l ∷ (pre ++ rest)))) ≤ M (map asIs (l ∷ pre))
+    pub walk-first : (rest : List (List ℕ)) → ((v : On) → v .first ≡ false → M (linesTaken (walkFrom opener v rest)) ≤ 0) → (pre : List (List ℕ)) (l : List ℕ) (w : On) → M (linesTaken (walkFrom opener w (l ∷ (pre ++ rest)))) ≤ M (map asIs (l ∷ pre))
     walk-first rest h pre l w = walk-step w l (pre ++ rest) pre (walk-upto rest h pre)
 
   -- at a line that opens with a brace a walk ends, and behind the last line
-  pub ends-at : (opener : ℕ) (m : List ℕ) (tail : List (List ℕ)) → opens m ≡ true → (v : On) → v .first ≡ false → M (linesIn (walkFrom opener v (m ∷ tail))) ≤ 0
+  pub ends-at : (opener : ℕ) (m : List ℕ) (tail : List (List ℕ)) → opens m ≡ true → (v : On) → v .first ≡ false → M (linesTaken (walkFrom opener v (m ∷ tail))) ≤ 0
   unfolding walkFrom
   ends-at opener m tail o v e = rw (opens-halts m opener v e o) (empty-le 0)
 
-  pub ends-last : (opener : ℕ) (v : On) → v .first ≡ false → M (linesIn (walkFrom opener v [])) ≤ 0
+  pub ends-last : (opener : ℕ) (v : On) → v .first ≡ false → M (linesTaken (walkFrom opener v [])) ≤ 0
   unfolding walkFrom
   ends-last opener v e = empty-le 0
 
 -- ---- sizes, and lines with their LF
 
-size-more : (opener : ℕ) (w : On) (l : List ℕ) (ls : List Lined) (ms : List (List ℕ)) → sizes ls ≤ sizes (map asIs ms) → sizes (padded opener w l ∷ ls) ≤ sizes (map asIs (l ∷ ms))
+size-more : (opener : ℕ) (w : On) (l : List ℕ) (ls : List Lined) (ms : List (List ℕ)) → sizes ls ≤ sizes (map asIs ms) → sizes (paddedLine opener w l ∷ ls) ≤ sizes (map asIs (l ∷ ms))
 unfolding sizes
 size-more opener w l ls ms h = omega arith
 
 trim-le : (l : List ℕ) → length (trimStart l) ≤ length l
 trim-le l = rw (trim-start l) (omega (arith, length-drop (run isSpace l) l))
 
-cost-more : (opener : ℕ) (w : On) (l : List ℕ) (ls : List Lined) (ms : List (List ℕ)) → costs ls ≤ costs (map asIs ms) → costs (padded opener w l ∷ ls) ≤ costs (map asIs (l ∷ ms))
+cost-more : (opener : ℕ) (w : On) (l : List ℕ) (ls : List Lined) (ms : List (List ℕ)) → costs ls ≤ costs (map asIs ms) → costs (paddedLine opener w l ∷ ls) ≤ costs (map asIs (l ∷ ms))
 unfolding costs
 cost-more opener w l ls ms h = omega (arith, trim-le l)
 
@@ -106,19 +100,19 @@ no-costs = refl
 
 -- ---- what is told
 
-found-ahead : (cap : ℕ) (f : Found) → foundIn cap f .lookahead ≤ sizes (linesIn f)
+found-ahead : (cap : ℕ) (f : Stretch) → foundIn cap f .lookahead ≤ sizes (linesTaken f)
 unfolding foundIn
-found-ahead cap Found.none = zero-le
-found-ahead cap (Found.block true ls) = omega (arith, lookahead-sum cap 0 ls, sizes-take (runOf cap 0 ls .lines) ls)
-found-ahead cap (Found.block false ls) = zero-le
+found-ahead cap Stretch.none = zero-le
+found-ahead cap (Stretch.block true ls) = omega (arith, lookahead-sum cap 0 ls, sizes-take (runOf cap 0 ls .lines) ls)
+found-ahead cap (Stretch.block false ls) = zero-le
 
-found-text : (cap : ℕ) (f : Found) → length (foundIn cap f .text) ≤ costs (linesIn f) - 1
+found-text : (cap : ℕ) (f : Stretch) → length (foundIn cap f .text) ≤ costs (linesTaken f) - 1
 unfolding foundIn
-found-text cap Found.none = zero-le
-found-text cap (Found.block true ls) = omega (arith, grows cap (start 0) ls (λ e. refl))
-found-text cap (Found.block false ls) = zero-le
+found-text cap Stretch.none = zero-le
+found-text cap (Stretch.block true ls) = omega (arith, grows cap (start 0) ls (λ e. refl))
+found-text cap (Stretch.block false ls) = zero-le
 
-module _ (cap : ℕ) (l : List ℕ) (ls : List (List ℕ)) (P : Told → Type 0) (none : (a : _) → P (unjoined a)) (found : P (foundIn cap (walkFrom (indentColumns l) (onFirst (indentColumns l)) (l ∷ ls)))) where
+module _ (cap : ℕ) (l : List ℕ) (ls : List (List ℕ)) (P : RunTold → Type 0) (none : (a : _) → P (unjoined a)) (found : P (foundIn cap (walkFrom (indentColumns l) (onFirst (indentColumns l)) (l ∷ ls)))) where
   told-by : P (refusedOf cap (l ∷ ls))
   unfolding refusedOf
   told-by = go (opens l) (beginsPair 123 37 (trimStart l))
@@ -131,7 +125,7 @@ module _ (cap : ℕ) (l : List ℕ) (ls : List (List ℕ)) (P : Told → Type 0)
 -- the run from l on, where the walk doesn't go beyond `pre`
 module _ (cap : ℕ) (l : List ℕ) (pre rest : List (List ℕ)) where
   abbrev Stops : (List Lined → ℕ) → Type 0
-  Stops M = (v : On) → v .first ≡ false → M (linesIn (walkFrom (indentColumns l) v rest)) ≤ 0
+  Stops M = (v : On) → v .first ≡ false → M (linesTaken (walkFrom (indentColumns l) v rest)) ≤ 0
 
   ahead-upto : Stops sizes → refusedOf cap (l ∷ (pre ++ rest)) .lookahead ≤ sizes (map asIs (l ∷ pre))
   ahead-upto h =
@@ -156,23 +150,3 @@ told-text cap (l ∷ ls) = rw (append-nil ls) at (text-upto cap l ls [] (ends-la
 -- a run looks no further than up to the next line that opens with a brace
 pub ahead-before : (cap : ℕ) (l : List ℕ) (pre : List (List ℕ)) (m : List ℕ) (tail : List (List ℕ)) → opens m ≡ true → refusedOf cap (l ∷ (pre ++ (m ∷ tail))) .lookahead ≤ sizes (map asIs (l ∷ pre))
 ahead-before cap l pre m tail o = ahead-upto cap l pre (m ∷ tail) (ends-at sizes no-sizes size-more (indentColumns l) m tail o)
-
--- "at most the text's length"
-pub lookahead-le : (cap : ℕ) (t : List ℕ) (n : ℕ) → refusedRun cap t n .lookahead ≤ length t
-unfolding refusedRun
-lookahead-le cap t n = go (checkOf t) (lineOf n t)
-  where
-    go : (c : checks.Check) (p : places.Line) → refusedBy cap t c p .lookahead ≤ length t
-    go (check.Refused r) p = zero-le
-    go check.Passed place.Missing = zero-le
-    go check.Passed (place.At r) = omega (arith, told-ahead cap (lines (drop (r .from) t)), sizes-lines (drop (r .from) t), length-drop (r .from) t)
-
--- the joined text is no longer than the text
-pub text-le : (cap : ℕ) (t : List ℕ) (n : ℕ) → length (refusedRun cap t n .text) ≤ length t
-unfolding refusedRun
-text-le cap t n = go (checkOf t) (lineOf n t)
-  where
-    go : (c : checks.Check) (p : places.Line) → length (refusedBy cap t c p .text) ≤ length t
-    go (check.Refused r) p = zero-le
-    go check.Passed place.Missing = zero-le
-    go check.Passed (place.At r) = omega (arith, told-text cap (lines (drop (r .from) t)), costs-lines (drop (r .from) t), length-drop (r .from) t)

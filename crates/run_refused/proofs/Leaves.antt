@@ -17,7 +17,7 @@ use Rattle.run_scanners.specs.Scanners.{columnBehind}
 use Rattle.run_spots.specs.declared.Spot.{Spot}
 use Rattle.run_spots.specs.Spots.{spotAfter}
 use Rattle.run_refused.specs.Refused.{halts}
-use Rattle.run_refused.specs.Shown.{spotsFrom}
+use Rattle.run_refused.specs.Inner.{spotsFrom, farColumn}
 
 -- ---- before a line
 
@@ -47,7 +47,7 @@ spot-column p b = behind-le (p .scan .escaped) (p .column) b
 
 -- the loop of `pass_over`
 pub record Passes (s : List ℕ) (r : Spot) (i : ℕ) (p : Spot) : Type 0 where
-  pub small : p .column + 4 * (length s - i) < 4294967296
+  pub small : p .column + 4 * (length s - i) < farColumn
   pub rest : spotsFrom p (drop i s) ≡ r
 
 module _ {s : List ℕ} {r : Spot} {i : ℕ} {p : Spot} (inv : Passes s r i p) where

@@ -5,5 +5,3 @@ pub mod Comments
 pub mod Padding
 pub mod Answers
 pub mod Bounds
-pub mod Copies
-pub mod Numbers

@@ -13,6 +13,7 @@ use lib.Seq.{sets, length-sets, length-slice}
 use Rattle.base_lists.specs.Lists.{run, over}
 use Rattle.base_lists.proofs.More.{contra}
 use Rattle.base_lists.proofs.Parts.{slice-part}
+use Rattle.base_lists.proofs.Sets.{over-long}
 use Rattle.base_bytes.specs.Bytes.{isSpace}
 use Rattle.base_refusals.specs.Numbers.{maxText}
 use Rattle.text_lines.specs.Trim.{trimStart}
@@ -23,64 +24,64 @@ use Rattle.text_tabs.proofs.Laws.{indent-le, capped-id}
 use Rattle.run_scanners.specs.Scanners.{holdFrom, holdStart}
 use Rattle.block_grammar.specs.declared.Quote.the-variants.{Out}
 use Rattle.base_refusals.specs.declared.Refusal.the-variants.{NoReading, JoinFull}
-use Rattle.run_lines.specs.declared.Stop.{Stop}
-use Rattle.run_lines.specs.declared.Stop.the-variants.{Closed, Refused}
+use Rattle.base_refusals.specs.declared.Outcome.{Outcome}
+use Rattle.base_refusals.specs.declared.Outcome.the-variants.{Passed, Refused}
 use Rattle.run_joins.specs.declared.State.{State}
 use Rattle.run_joins.specs.declared.Step.{Step}
 use Rattle.run_joins.specs.declared.Step.the-variants.{Broken, Full, Go, Closes}
 use Rattle.run_lines.specs.Runs.{Lined, So, start, Run, ended, isFirst, after, runFrom}
-use Rattle.run_joins.specs.Joins.{added, stepOf, laid, joinAfter}
-use Rattle.run_lines.proofs.Joining.{Shows, Meets, meets, over-long, over-sets}
+use Rattle.run_joins.specs.Joins.{added, joinStep, laid, joinAfter}
+use Rattle.run_lines.proofs.Joining.{Shows, Meets, meets, over-sets}
 use Rattle.run_spots.specs.declared.Spot.{Spot}
 use Rattle.run_refused.specs.declared.Ran.{Ran}
 use Rattle.run_spots.specs.Spots.{isStray, opensBy, spotAfter}
-use Rattle.run_refused.specs.Refused.{Found, onto, walkLine, On, halts, padOf, padded, enteredAt, onAfter, behind, walkFrom}
-use Rattle.run_refused.specs.Shown.{spotsFrom, walkAt, isBlock, linesIn, paddedRun, ranOf}
+use Rattle.run_refused.specs.Refused.{Stretch, ontoStretch, walkLine, On, halts, padOf, paddedLine, enteredAt, onAfter, behindLine, walkFrom}
+use Rattle.run_refused.specs.Inner.{spotsFrom, walkAt, isStretch, linesTaken, paddedRun, ranOf, maxColumn}
 use Rattle.run_refused.proofs.Leaves.{spot-column}
 use Rattle.run_refused.proofs.Walking.{line, line-in, line-first, line-long, line-rest, rest-in, later, on}
 
 -- ---- a block has no stray brace
 
-pub passes-line : (p : Spot) (s : List ℕ) (K : Spot → Found) → isBlock (walkLine p s K) ≡ true → walkLine p s K ≡ K (spotsFrom p s)
+pub passes-line : (p : Spot) (s : List ℕ) (K : Spot → Stretch) → isStretch (walkLine p s K) ≡ true → walkLine p s K ≡ K (spotsFrom p s)
 unfolding walkLine spotsFrom
 passes-line p [] K q = refl
 passes-line p (b ∷ s) K q = go (isStray p b) q (passes-line (spotAfter p b) s K)
   where
-    go : (x : Bool) → isBlock (cond x Found.none (walkLine (spotAfter p b) s K)) ≡ true → (isBlock (walkLine (spotAfter p b) s K) ≡ true → walkLine (spotAfter p b) s K ≡ K (spotsFrom (spotAfter p b) s))
-        → cond x Found.none (walkLine (spotAfter p b) s K) ≡ K (spotsFrom (spotAfter p b) s)
+    go : (x : Bool) → isStretch (cond x Stretch.none (walkLine (spotAfter p b) s K)) ≡ true → (isStretch (walkLine (spotAfter p b) s K) ≡ true → walkLine (spotAfter p b) s K ≡ K (spotsFrom (spotAfter p b) s))
+        → cond x Stretch.none (walkLine (spotAfter p b) s K) ≡ K (spotsFrom (spotAfter p b) s)
     go true z h = contra false z refl
     go false z h = h z
 
-onto-is : (l : Lined) (f : Found) → isBlock (onto l f) ≡ isBlock f
-onto-is l Found.none = refl
-onto-is l (Found.block s ls) = refl
+onto-is : (l : Lined) (f : Stretch) → isStretch (ontoStretch l f) ≡ isStretch f
+onto-is l Stretch.none = refl
+onto-is l (Stretch.block s ls) = refl
 
-onto-lines : (l : Lined) (f : Found) → isBlock f ≡ true → linesIn (onto l f) ≡ l ∷ linesIn f
-onto-lines l Found.none q = contra false q refl
-onto-lines l (Found.block s ls) q = refl
+onto-lines : (l : Lined) (f : Stretch) → isStretch f ≡ true → linesTaken (ontoStretch l f) ≡ l ∷ linesTaken f
+onto-lines l Stretch.none q = contra false q refl
+onto-lines l (Stretch.block s ls) q = refl
 
 module _ (opener : ℕ) (w : On) (l : List ℕ) (ls : List (List ℕ)) where
-  abbrev behindLine : Spot
-  behindLine = spotsFrom (enteredAt (w .first) (w .brace) l) (trimStart l)
+  abbrev spotBehind : Spot
+  spotBehind = spotsFrom (enteredAt (w .first) (w .brace) l) (trimStart l)
 
   -- what is found behind the line
-  abbrev pub found-next : Found
-  found-next = cond (behindLine .inside) (walkFrom opener (onAfter w l (behindLine .brace)) ls) (Found.block (onAfter w l (behindLine .brace) .shallow) [])
+  abbrev pub found-next : Stretch
+  found-next = cond (spotBehind .inside) (walkFrom opener (onAfter w l (spotBehind .brace)) ls) (Stretch.block (onAfter w l (spotBehind .brace) .shallow) [])
 
-  pub block-next : isBlock (walkFrom opener w (l ∷ ls)) ≡ true → (isBlock found-next ≡ true) × (linesIn (walkFrom opener w (l ∷ ls)) ≡ padded opener w l ∷ linesIn found-next)
+  pub block-next : isStretch (walkFrom opener w (l ∷ ls)) ≡ true → (isStretch found-next ≡ true) × (linesTaken (walkFrom opener w (l ∷ ls)) ≡ paddedLine opener w l ∷ linesTaken found-next)
   unfolding walkFrom
   block-next q = go (halts (w .first) (w .brace) opener l) q
     where
-      K : Spot → Found
-      K = behind (padded opener w l) (onAfter w l) (λ v. walkFrom opener v ls)
+      K : Spot → Stretch
+      K = behindLine (paddedLine opener w l) (onAfter w l) (λ v. walkFrom opener v ls)
 
-      go : (x : Bool) → isBlock (cond x Found.none (walkLine (enteredAt (w .first) (w .brace) l) (trimStart l) K)) ≡ true
-          → (isBlock found-next ≡ true) × (linesIn (cond x Found.none (walkLine (enteredAt (w .first) (w .brace) l) (trimStart l) K)) ≡ padded opener w l ∷ linesIn found-next)
+      go : (x : Bool) → isStretch (cond x Stretch.none (walkLine (enteredAt (w .first) (w .brace) l) (trimStart l) K)) ≡ true
+          → (isStretch found-next ≡ true) × (linesTaken (cond x Stretch.none (walkLine (enteredAt (w .first) (w .brace) l) (trimStart l) K)) ≡ paddedLine opener w l ∷ linesTaken found-next)
       go true z = contra false z refl
       go false z =
           let p = passes-line (enteredAt (w .first) (w .brace) l) (trimStart l) K z in
-          let b : isBlock found-next ≡ true = sym (onto-is (padded opener w l) found-next) ∙ sym (ap isBlock p) ∙ z in
-          (b, ap linesIn p ∙ onto-lines (padded opener w l) found-next b)
+          let b : isStretch found-next ≡ true = sym (onto-is (paddedLine opener w l) found-next) ∙ sym (ap isStretch p) ∙ z in
+          (b, ap linesTaken p ∙ onto-lines (paddedLine opener w l) found-next b)
 
 -- ---- columns stay small
 
@@ -107,10 +108,10 @@ pub record Pads (t : List ℕ) (opener : ℕ) (buf₀ : List ℕ) (R : Run) (buf
   pub few : n ≤ at
   pub short : lookahead ≤ at
   pub low : br ≤ 524280
-  pub block : isBlock (walkFrom opener (on n sh br) (lines (drop at t))) ≡ true
-  pub rest : runFrom (length buf₀) so (linesIn (walkFrom opener (on n sh br) (lines (drop at t)))) ≡ R
+  pub block : isStretch (walkFrom opener (on n sh br) (lines (drop at t))) ≡ true
+  pub rest : runFrom (length buf₀) so (linesTaken (walkFrom opener (on n sh br) (lines (drop at t)))) ≡ R
 
-pub pads-start : (t : List ℕ) (at opener : ℕ) (buf : List ℕ) {st : State} → st ≡ record { len = 0; brace = 0; base = 0; quote = Out; hold = holdStart } → opener ≤ 262140 → isBlock (walkAt opener t at) ≡ true
+pub pads-start : (t : List ℕ) (at opener : ℕ) (buf : List ℕ) {st : State} → st ≡ record { len = 0; brace = 0; base = 0; quote = Out; hold = holdStart } → opener ≤ maxColumn → isStretch (walkAt opener t at) ≡ true
     → Pads t opener buf (paddedRun (length buf) opener t at) buf st 0 0 at opener
 unfolding paddedRun walkAt holdFrom
 pads-start t at opener buf e k b =
@@ -160,28 +161,28 @@ module _ {t : List ℕ} {opener : ℕ} {buf₀ : List ℕ} {R : Run} {buf : List
       rest-long = rw (← slice-part i (l .to) t) (length-slice i (l .to) t (omega (arith, here-in)))
 
       module _ (few : length t ≤ maxText) {p : Spot} (s : p ≡ enteredAt (eqb n 0) br here) where
-        pub spot-small : p .column ≤ 262140
+        pub spot-small : p .column ≤ maxColumn
         spot-small = omega (arith, ap (λ z. z .column) s, indent-le here, here-in)
 
         abbrev lined : Lined
-        lined = padded opener (on n (inv .sh) br) here
+        lined = paddedLine opener (on n (inv .sh) br) here
 
-        abbrev next-found : Found
+        abbrev next-found : Stretch
         next-found = found-next opener (on n (inv .sh) br) here (lines (drop (l .next) t))
 
-        next-block : (isBlock next-found ≡ true) × (linesIn (walkFrom opener (on n (inv .sh) br) (lines (drop at t))) ≡ lined ∷ linesIn next-found)
+        next-block : (isStretch next-found ≡ true) × (linesTaken (walkFrom opener (on n (inv .sh) br) (lines (drop at t))) ≡ lined ∷ linesTaken next-found)
         next-block = rw (line-first t at pads-some e) (block-next opener (on n (inv .sh) br) here (lines (drop (l .next) t)) (rw (line-first t at pads-some e) at (inv .block)))
 
-        whole : runFrom (length buf₀) (inv .so) (lined ∷ linesIn next-found) ≡ R
+        whole : runFrom (length buf₀) (inv .so) (lined ∷ linesTaken next-found) ≡ R
         whole = rw (next-block .1) at (inv .rest)
 
         module _ {pad : ℕ} (d : pad ≡ padOf (eqb n 0) (p .column) br opener) {step : Step} {buf′ : List ℕ}
-            (w : (step ≡ stepOf (length buf) st pad (take (l .to - i) (drop i t))) × (buf′ ≡ joinAfter st pad (take (l .to - i) (drop i t)) buf)) where
+            (w : (step ≡ joinStep (length buf) st pad (take (l .to - i) (drop i t))) × (buf′ ≡ joinAfter st pad (take (l .to - i) (drop i t)) buf)) where
           pad-is : pad ≡ lined .pad
           pad-is = d ∙ rw s
 
-          met : Meets (length buf₀) (inv .so) lined (linesIn next-found) step
-          met = rw (w .0, pads-long, pad-is, rest-is) (meets (length buf₀) (inv .so) lined (linesIn next-found) (inv .shows))
+          met : Meets (length buf₀) (inv .so) lined (linesTaken next-found) step
+          met = rw (w .0, pads-long, pad-is, rest-is) (meets (length buf₀) (inv .so) lined (linesTaken next-found) (inv .shows))
 
           laid-by : buf′ ≡ laid step buf (sets buf (st .len) (added (eqb (st .len) 0) (trimStart here)))
           unfolding joinAfter
@@ -196,13 +197,13 @@ module _ {t : List ℕ} {opener : ℕ} {buf₀ : List ℕ} {R : Run} {buf : List
               go (Go v) = length-sets buf (st .len) (added (eqb (st .len) 0) (trimStart here)) ∙ pads-long
               go (Closes v) = length-sets buf (st .len) (added (eqb (st .len) 0) (trimStart here)) ∙ pads-long
 
-          abbrev Gives : Stop → State → ℕ → ℕ → Ran → Type 0
+          abbrev Gives : Outcome → State → ℕ → ℕ → Ran → Type 0
           Gives x v k a r = r ≡ record { stop = x; len = v .len; lines = k; lookahead = a }
 
           abbrev Answers : Ran → Type 0
           Answers r = (r ≡ ranOf R) × (buf′ ≡ over (R .text) buf₀)
 
-          stopped : (x : Stop) → runFrom (length buf₀) (inv .so) (lined ∷ linesIn next-found) ≡ ended x (inv .so) → buf′ ≡ buf → {g : Ran} → Gives x st n lookahead g → Answers g
+          stopped : (x : Outcome) → runFrom (length buf₀) (inv .so) (lined ∷ linesTaken next-found) ≡ ended x (inv .so) → buf′ ≡ buf → {g : Ran} → Gives x st n lookahead g → Answers g
           stopped x m q g = rw (sym whole ∙ m) (g ∙ rw (inv .shows .len, inv .counted, inv .ahead), q ∙ inv .content)
 
           pub pads-broken : step ≡ Broken → {g : Ran} → Gives (Refused NoReading) st n lookahead g → Answers g
@@ -222,17 +223,17 @@ module _ {t : List ℕ} {opener : ℕ} {buf₀ : List ℕ} {R : Run} {buf : List
             count-next : n + 1 ≡ after (inv .so) lined .lines
             count-next = rw (add-one n) (ap suc (inv .counted))
 
-            joined : (x : Stop) → runFrom (length buf₀) (inv .so) (lined ∷ linesIn next-found) ≡ ended x (after (inv .so) lined) → {g : Ran} → Gives x v (n + 1) (lookahead + (l .to - at)) g → Answers g
+            joined : (x : Outcome) → runFrom (length buf₀) (inv .so) (lined ∷ linesTaken next-found) ≡ ended x (after (inv .so) lined) → {g : Ran} → Gives x v (n + 1) (lookahead + (l .to - at)) g → Answers g
             joined x m g = rw (sym whole ∙ m) (g ∙ rw (j .0 .len, count-next, ahead-next), holds)
 
-          pub pads-closed : {v : State} → step ≡ Closes v → {g : Ran} → Gives Closed v (n + 1) (lookahead + (l .to - at)) g → Answers g
+          pub pads-closed : {v : State} → step ≡ Closes v → {g : Ran} → Gives Passed v (n + 1) (lookahead + (l .to - at)) g → Answers g
           pads-closed q = joined ((rw q at met) .1) (rw q at laid-by) _ ((rw q at met) .0)
 
           module _ {v : State} (q : step ≡ Go v) {z : Spot} (o : z ≡ spotsFrom p (take (l .to - i) (drop i t))) where
             spot-is : z ≡ spotsFrom (enteredAt (eqb n 0) br here) (trimStart here)
             spot-is = o ∙ rw (rest-is, s)
 
-            goes : runFrom (length buf₀) (after (inv .so) lined) (linesIn next-found) ≡ R
+            goes : runFrom (length buf₀) (after (inv .so) lined) (linesTaken next-found) ≡ R
             goes = sym ((rw q at met) .0) ∙ whole
 
             -- no line is left

@@ -25,8 +25,8 @@ use Rattle.run_spots.specs.declared.Spot.{Spot}
 use Rattle.run_refused.specs.declared.Walk.{Walk}
 use Rattle.run_refused.specs.declared.Walk.the-variants.{No, Block}
 use Rattle.run_spots.specs.Spots.{isStray, opensBy, spotAfter, shallowOr}
-use Rattle.run_refused.specs.Refused.{Found, onto, walkLine, On, halts, padded, enteredAt, onAfter, behind, walkFrom, onFirst}
-use Rattle.run_refused.specs.Shown.{walkAt, shownWalk}
+use Rattle.run_refused.specs.Refused.{Stretch, ontoStretch, walkLine, On, halts, paddedLine, enteredAt, onAfter, behindLine, walkFrom, onFirst}
+use Rattle.run_refused.specs.Inner.{walkAt, shownWalk, maxColumn}
 use Rattle.run_spots.proofs.Leaves.{front}
 use Rattle.run_refused.proofs.Leaves.{spot-column}
 
@@ -54,17 +54,17 @@ module _ (t : List ℕ) (at : ℕ) (h : at < length t) {r : LineEnd} (e : r ≡ 
 
 -- ---- what is shown of a walk behind n lines
 
-abbrev countFrom : ℕ → Found → Walk
-countFrom n Found.none = No 0
-countFrom n (Found.block s ls) = Block (n + length ls) s
+abbrev countFrom : ℕ → Stretch → Walk
+countFrom n Stretch.none = No 0
+countFrom n (Stretch.block s ls) = Block (n + length ls) s
 
-counts : (f : Found) → countFrom 0 f ≡ shownWalk f
-counts Found.none = refl
-counts (Found.block s ls) = ap (λ n. Block n s) (omega arith)
+counts : (f : Stretch) → countFrom 0 f ≡ shownWalk f
+counts Stretch.none = refl
+counts (Stretch.block s ls) = ap (λ n. Block n s) (omega arith)
 
-count-onto : (n : ℕ) (l : Lined) (f : Found) → countFrom n (onto l f) ≡ countFrom (suc n) f
-count-onto n l Found.none = refl
-count-onto n l (Found.block s ls) = ap (λ k. Block k s) (omega arith)
+count-onto : (n : ℕ) (l : Lined) (f : Stretch) → countFrom n (ontoStretch l f) ≡ countFrom (suc n) f
+count-onto n l Stretch.none = refl
+count-onto n l (Stretch.block s ls) = ap (λ k. Block k s) (omega arith)
 
 pub later : (n : ℕ) → eqb (suc n) 0 ≡ false
 later n = ne-eqb (suc n) 0 (λ z. absurd (omega arith))
@@ -84,11 +84,11 @@ pub record Inner (t : List ℕ) (r : Walk) (opener n e next : ℕ) (sh : Bool) (
   pub within : e ≤ length t
   pub column : p .column + 4 * (e - i) ≤ 524280
   pub low : p .brace ≤ 524280
-  pub K : Spot → Found
-  pub after : (v : Spot) → countFrom n (K v) ≡ countFrom (suc n) (cond (v .inside) (walkFrom opener (on (suc n) sh (v .brace)) (lines (drop next t))) (Found.block sh []))
+  pub K : Spot → Stretch
+  pub after : (v : Spot) → countFrom n (K v) ≡ countFrom (suc n) (cond (v .inside) (walkFrom opener (on (suc n) sh (v .brace)) (lines (drop next t))) (Stretch.block sh []))
   pub rest : countFrom n (walkLine p (slice i e t) K) ≡ r
 
-pub start : (t : List ℕ) (at opener : ℕ) → opener ≤ 262140 → Outer t (shownWalk (walkAt opener t at)) opener 0 at opener false
+pub start : (t : List ℕ) (at opener : ℕ) → opener ≤ maxColumn → Outer t (shownWalk (walkAt opener t at)) opener 0 at opener false
 unfolding walkAt
 start t at opener h = record { few = omega arith; low = omega arith; rest = counts (walkFrom opener (onFirst opener) (lines (drop at t))) }
 
@@ -112,8 +112,8 @@ module _ {t : List ℕ} {r : Walk} {opener n at br : ℕ} {sh : Bool} (inv : Out
             within = omega (arith, line-in t at h e);
             column = omega (arith, ap (λ z. z .column) s, indent-le (line t at h e), line-long t at h e, line-in t at h e, few);
             low = rw s (inv .low);
-            K = behind (padded opener (on n sh br) (line t at h e)) (onAfter (on n sh br) (line t at h e)) (λ v. walkFrom opener v (lines (drop (l .next) t)));
-            after = λ v. rw (x, s, later n) (count-onto n (padded opener (on n sh br) (line t at h e)) (cond (v .inside) (walkFrom opener (onAfter (on n sh br) (line t at h e) (v .brace)) (lines (drop (l .next) t))) (Found.block (onAfter (on n sh br) (line t at h e) (v .brace) .shallow) [])));
+            K = behindLine (paddedLine opener (on n sh br) (line t at h e)) (onAfter (on n sh br) (line t at h e)) (λ v. walkFrom opener v (lines (drop (l .next) t)));
+            after = λ v. rw (x, s, later n) (count-onto n (paddedLine opener (on n sh br) (line t at h e)) (cond (v .inside) (walkFrom opener (onAfter (on n sh br) (line t at h e) (v .brace)) (lines (drop (l .next) t))) (Stretch.block (onAfter (on n sh br) (line t at h e) (v .brace) .shallow) [])));
             rest = rw (line-rest t at h e f, s) (rw (line-first t at h e, ← q) at (inv .rest));
           }
 
@@ -141,7 +141,7 @@ module _ {t : List ℕ} {r : Walk} {opener n e next : ℕ} {sh : Bool} {p : Spot
         }
 
   module _ (h : e ≤ i) where
-    done : countFrom (suc n) (cond (p .inside) (walkFrom opener (on (suc n) sh (p .brace)) (lines (drop next t))) (Found.block sh [])) ≡ r
+    done : countFrom (suc n) (cond (p .inside) (walkFrom opener (on (suc n) sh (p .brace)) (lines (drop next t))) (Stretch.block sh [])) ≡ r
     unfolding walkLine
     done = let z : i ≡ e = omega (arith, inv .upto) in sym (inv .after p) ∙ (rw (z, slice-empty e t) at (inv .rest))
 

@@ -1,3 +1,3 @@
 -- The definitions that the contracts of run_refused cite.
 pub mod Refused
-pub mod Shown
+pub mod Inner

@@ -1,14 +1,15 @@
 -- "`refused_brace_run` answers Lines, No with a count, or No to the end": a run is refused if its only fault is a line too far left.
 use Prim.Native.Nat.{ℕ, suc, _-_, max}
 use mathlib.Core.Bool.{Bool, true, false, cond, _&&_, _||_, not}
-use mathlib.Core.List.{List, [], _∷_}
+use mathlib.Core.List.{List, [], _∷_, _++_}
 use lib.Dec.{eqb, ltb}
 use lib.ListN.{length, drop}
 use Rattle.block_payloads.specs.Payloads.{opens}
-use Rattle.text_checks.specs.Check.{checkOf}
-use Rattle.text_checks.specs.declared.Check as checks
-use Rattle.text_checks.specs.declared.Check.the-variants as check
-use Rattle.base_refusals.specs.Numbers.{maxText, numberOf}
+use Rattle.text_checks.specs.Check.{textOrder, checkOf}
+use Rattle.base_refusals.specs.declared.Outcome as outcomes
+use Rattle.base_refusals.specs.declared.Outcome.the-variants as outcome
+use Rattle.base_refusals.specs.Numbers.{tooLong, numberOf, outcomeNo}
+use Rattle.base_refusals.specs.Orders.{Ground}
 use Rattle.base_refusals.specs.declared.Refusal.the-variants.{TextTooLong, JoinFull}
 use Rattle.text_lines.specs.Trim.{trimStart, isBlankLine}
 use Rattle.text_lines.specs.Lines.{lines, lineOf}
@@ -18,8 +19,6 @@ use Rattle.text_tabs.specs.Columns.{indentColumns, most}
 use Rattle.block_grammar.specs.Close.{fresh}
 use Rattle.block_chain.specs.Chain.{goodLine}
 use Rattle.run_lines.specs.Runs.{Lined, Run, runOf}
-use Rattle.run_lines.specs.declared.Stop as stops
-use Rattle.run_lines.specs.declared.Stop.the-variants as stop
 use Rattle.run_spots.specs.declared.Spot.{Spot}
 use Rattle.run_spots.specs.Spots.{isStray, spotAfter, shallowOr, closesComment, opensComment}
 use Rattle.run_refused.specs.declared.Answer.{Answer}
@@ -29,11 +28,11 @@ use Rattle.run_refused.specs.declared.RefusedRun.{RefusedRun}
 -- ---- this paper's numbers and values
 
 -- "gives its own answers, or 1, 2, 9": the number of a refusal, 0 where the answer is its own
-abbrev pub answerNo : Answer → ℕ
-answerNo (No n) = 0
-answerNo (Lines n) = 0
-answerNo NoEnd = 0
-answerNo (Refused r) = numberOf r
+abbrev pub runAnswerNo : Answer → ℕ
+runAnswerNo (No n) = 0
+runAnswerNo (Lines n) = 0
+runAnswerNo NoEnd = 0
+runAnswerNo (Refused r) = numberOf r
 
 -- "Lines, No with a count, or No to the end (`usize::MAX` in 000)"
 abbrev pub answerLines : Answer → ℕ
@@ -45,18 +44,18 @@ answerLines (Refused r) = 0
 -- ---- the walk over lines
 
 -- no block that closes; or the lines up to the one that closes it, padded, and whether one of them stands too far left
-pub data Found : Type 0 where
-  none : Found
-  block : Bool → List Lined → Found
+pub data Stretch : Type 0 where
+  none : Stretch
+  block : Bool → List Lined → Stretch
 
-abbrev pub onto : Lined → Found → Found
-onto l Found.none = Found.none
-onto l (Found.block s ls) = Found.block s (l ∷ ls)
+abbrev pub ontoStretch : Lined → Stretch → Stretch
+ontoStretch l Stretch.none = Stretch.none
+ontoStretch l (Stretch.block s ls) = Stretch.block s (l ∷ ls)
 
 -- "a stray `}` leaves both at once with its answer": then what comes after the line isn't asked
-unfoldable pub walkLine : Spot → List ℕ → (Spot → Found) → Found
+unfoldable pub walkLine : Spot → List ℕ → (Spot → Stretch) → Stretch
 walkLine p [] rest = rest p
-walkLine p (b ∷ s) rest = cond (isStray p b) Found.none (walkLine (spotAfter p b) s rest)
+walkLine p (b ∷ s) rest = cond (isStray p b) Stretch.none (walkLine (spotAfter p b) s rest)
 
 -- before a line: whether it is the first, whether a line before it stands too far left, and the column of the last brace that opened a block
 pub record On : Type 0 where
@@ -74,8 +73,8 @@ halts first brace opener l = isBlankLine l || (not first && (ltb (suc brace) ope
 abbrev pub padOf : Bool → ℕ → ℕ → ℕ → ℕ
 padOf first column brace opener = cond first 0 (max (column - opener) (max (suc brace - opener) 1))
 
-abbrev pub padded : ℕ → On → List ℕ → Lined
-padded opener w l = record { pad = padOf (w .first) (indentColumns l) (w .brace) opener; line = trimStart l; size = length l }
+abbrev pub paddedLine : ℕ → On → List ℕ → Lined
+paddedLine opener w l = record { pad = padOf (w .first) (indentColumns l) (w .brace) opener; line = trimStart l; size = length l }
 
 -- in every later line a block is open at its start
 abbrev pub enteredAt : Bool → ℕ → List ℕ → Spot
@@ -85,14 +84,14 @@ abbrev pub onAfter : On → List ℕ → ℕ → On
 onAfter w l brace = record { first = false; shallow = shallowOr (w .shallow) (w .first) (indentColumns l) (w .brace); brace = brace }
 
 -- where no block is open behind the line, the run is at its end
-abbrev pub behind : Lined → (ℕ → On) → (On → Found) → Spot → Found
-behind l w rest p = onto l (cond (p .inside) (rest (w (p .brace))) (Found.block (w (p .brace) .shallow) []))
+abbrev pub behindLine : Lined → (ℕ → On) → (On → Stretch) → Spot → Stretch
+behindLine l w rest p = ontoStretch l (cond (p .inside) (rest (w (p .brace))) (Stretch.block (w (p .brace) .shallow) []))
 
-unfoldable pub walkFrom : ℕ → On → List (List ℕ) → Found
-walkFrom opener w [] = Found.none
+unfoldable pub walkFrom : ℕ → On → List (List ℕ) → Stretch
+walkFrom opener w [] = Stretch.none
 walkFrom opener w (l ∷ ls) =
-    cond (halts (w .first) (w .brace) opener l) Found.none
-    (walkLine (enteredAt (w .first) (w .brace) l) (trimStart l) (behind (padded opener w l) (onAfter w l) (λ v. walkFrom opener v ls)))
+    cond (halts (w .first) (w .brace) opener l) Stretch.none
+    (walkLine (enteredAt (w .first) (w .brace) l) (trimStart l) (behindLine (paddedLine opener w l) (onAfter w l) (λ v. walkFrom opener v ls)))
 
 abbrev pub onFirst : ℕ → On
 onFirst opener = record { first = true; shallow = false; brace = opener }
@@ -100,31 +99,31 @@ onFirst opener = record { first = true; shallow = false; brace = opener }
 -- ---- what is answered
 
 -- with the lookahead and the joined text
-pub record Told : Type 0 where
+pub record RunTold : Type 0 where
   pub answer : Answer
   pub lookahead : ℕ
   pub text : List ℕ
 
-abbrev pub unjoined : Answer → Told
+abbrev pub unjoined : Answer → RunTold
 unjoined a = record { answer = a; lookahead = 0; text = [] }
 
 -- the padded lines, so many, must be a good run that takes them all; of "1, 2, 9" only 9 can arise here, where a line doesn't fit the join buffer
-abbrev pub answerBy : stops.Stop → Bool → ℕ → Answer
-answerBy stop.Closed good count = cond good (Lines count) (No 0)
-answerBy (stop.Refused r) good count = cond (eqb (numberOf r) (numberOf JoinFull)) (Refused r) (No 0)
+abbrev pub runAnswer : outcomes.Outcome → Bool → ℕ → Answer
+runAnswer outcome.Passed good count = cond good (Lines count) (No 0)
+runAnswer (outcome.Refused r) good count = cond (eqb (numberOf r) (numberOf JoinFull)) (Refused r) (No 0)
 
-abbrev pub judged : ℕ → Run → Told
+abbrev pub judged : ℕ → Run → RunTold
 judged count r =
     record {
-      answer = answerBy (r .stop) (eqb (r .lines) count && goodLine (r .text) 0 (length (r .text))) count;
+      answer = runAnswer (r .stop) (eqb (r .lines) count && goodLine (r .text) 0 (length (r .text))) count;
       lookahead = r .lookahead;
       text = r .text;
     }
 
 -- a run with no line too far left isn't refused, and nothing of it is joined
-unfoldable pub foundIn : ℕ → Found → Told
-foundIn cap Found.none = unjoined (No 0)
-foundIn cap (Found.block shallow ls) = cond shallow (judged (length ls) (runOf cap 0 ls)) (unjoined (No 0))
+unfoldable pub foundIn : ℕ → Stretch → RunTold
+foundIn cap Stretch.none = unjoined (No 0)
+foundIn cap (Stretch.block shallow ls) = cond shallow (judged (length ls) (runOf cap 0 ls)) (unjoined (No 0))
 
 -- ---- comments (000): `{%` up to the first line with `%}`, or to a blank line or the text's end, which both answer No to the end
 
@@ -141,7 +140,7 @@ commentFrom opener n shallow (l ∷ ls) =
 
 -- ---- the run from the first of lines on
 
-unfoldable pub refusedOf : ℕ → List (List ℕ) → Told
+unfoldable pub refusedOf : ℕ → List (List ℕ) → RunTold
 refusedOf cap [] = unjoined (No 0)
 refusedOf cap (l ∷ ls) =
     cond (opens l)
@@ -150,18 +149,41 @@ refusedOf cap (l ∷ ls) =
     (unjoined (No 0))
 
 -- by the place at which the first line begins; "text above 65,535 bytes" is refused, and where the text ends no line begins
-unfoldable pub refusedAt : ℕ → List ℕ → ℕ → Told
-refusedAt cap t at = cond (ltb maxText (length t)) (unjoined (Refused TextTooLong)) (refusedOf cap (lines (drop at t)))
+unfoldable pub refusedAt : ℕ → List ℕ → ℕ → RunTold
+refusedAt cap t at = cond (tooLong t) (unjoined (Refused TextTooLong)) (refusedOf cap (lines (drop at t)))
 
 -- ---- the entry by line number: "a missing line is No(0)"
 
-abbrev pub refusedBy : ℕ → List ℕ → checks.Check → places.Line → Told
-refusedBy cap t (check.Refused r) l = unjoined (Refused r)
-refusedBy cap t check.Passed place.Missing = unjoined (No 0)
-refusedBy cap t check.Passed (place.At r) = refusedOf cap (lines (drop (r .from) t))
+abbrev pub refusedBy : ℕ → List ℕ → outcomes.Outcome → places.Line → RunTold
+refusedBy cap t (outcome.Refused r) l = unjoined (Refused r)
+refusedBy cap t outcome.Passed place.Missing = unjoined (No 0)
+refusedBy cap t outcome.Passed (place.At r) = refusedOf cap (lines (drop (r .from) t))
 
-unfoldable pub refusedRun : ℕ → List ℕ → ℕ → Told
+unfoldable pub refusedRun : ℕ → List ℕ → ℕ → RunTold
 refusedRun cap t n = refusedBy cap t (checkOf t) (lineOf n t)
 
-abbrev pub handedOut : Told → RefusedRun
+abbrev pub handedOut : RunTold → RefusedRun
 handedOut r = record { answer = r .answer; lookahead = r .lookahead; joined = length (r .text) }
+
+-- ---- the order: "gives its own answers, or 1, 2, 9"
+
+-- 9 where a line doesn't fit the join buffer
+abbrev pub fullOrder : Run → List Ground
+fullOrder r = Ground.given JoinFull (eqb (outcomeNo (r .stop)) (numberOf JoinFull)) ∷ []
+
+abbrev pub stretchOrder : ℕ → Stretch → List Ground
+stretchOrder cap Stretch.none = []
+stretchOrder cap (Stretch.block shallow ls) = cond shallow (fullOrder (runOf cap 0 ls)) []
+
+-- a comment joins nothing
+abbrev pub linesOrder : ℕ → List (List ℕ) → List Ground
+linesOrder cap [] = []
+linesOrder cap (l ∷ ls) =
+    cond (opens l) (cond (opensComment l) [] (stretchOrder cap (walkFrom (indentColumns l) (onFirst (indentColumns l)) (l ∷ ls)))) []
+
+abbrev pub fromLine : ℕ → List ℕ → places.Line → List Ground
+fromLine cap t place.Missing = []
+fromLine cap t (place.At r) = linesOrder cap (lines (drop (r .from) t))
+
+abbrev pub refusedOrder : ℕ → List ℕ → ℕ → List Ground
+refusedOrder cap t n = textOrder t ++ fromLine cap t (lineOf n t)

@@ -1,12 +1,11 @@
 // Brace runs and comment runs that are refused only for a line too far left.
+use base_refusals::Outcome;
 use base_refusals::Refusal;
 use block_grammar::Quote;
 use block_grammar::Scan;
 use run_joins::State;
 use run_joins::Step;
-use run_lines::Stop;
 use run_spots::Spot;
-use text_checks::Check;
 use text_lines::Line;
 ghost use mathlib.Core.Path.{_≡_};
 ghost use mathlib.Core.Bool.{true, false, _&&_};
@@ -17,13 +16,13 @@ ghost use Rattle.base_lists.specs.Lists.{over};
 ghost use Rattle.base_refusals.specs.Numbers.{maxText};
 ghost use Rattle.text_lines.specs.Lines.{lines};
 ghost use Rattle.block_chain.specs.Chain.{goodLine};
-ghost use Rattle.run_lines.specs.declared.Stop.the-variants.{Closed, Refused};
+ghost use Rattle.base_refusals.specs.declared.Outcome.the-variants.{Passed, Refused};
 ghost use Rattle.run_scanners.specs.Scanners.{holdStart};
 ghost use Rattle.block_grammar.specs.declared.Quote.the-variants.{Out};
 ghost use Rattle.run_spots.specs.Spots.{spotAfter};
-ghost use Rattle.run_refused.specs.Refused.{halts, padOf, enteredAt, commentBy, commentFrom, answerBy, unjoined, judged, refusedOf, refusedAt, refusedRun, handedOut};
+ghost use Rattle.run_refused.specs.Refused.{halts, padOf, enteredAt, commentBy, commentFrom, runAnswer, unjoined, judged, refusedOf, refusedAt, refusedRun, handedOut};
 ghost use Rattle.run_refused.specs.declared.Walk.the-variants.{No};
-ghost use Rattle.run_refused.specs.Shown.{spotsFrom, walkAt, shownWalk, isBlock, paddedRun, ranOf};
+ghost use Rattle.run_refused.specs.Inner.{spotsFrom, walkAt, shownWalk, isStretch, paddedRun, ranOf, farColumn, maxColumn};
 
 // What is said of a run: it is refused and takes so many lines; it isn't, and a comment run was looked at over so many lines, or to the
 // end; or a refusal.
@@ -49,7 +48,7 @@ enum Walk {
 
 // How the run over padded lines ends, and what it joined.
 struct Ran {
-    stop: Stop,
+    stop: Outcome,
     len: usize,
     lines: usize,
     lookahead: usize,
@@ -57,7 +56,7 @@ struct Ran {
 
 // The walk passes a byte.
 fn spot_after(p: Spot, b: u8) -> Spot
-    requires { ⌜ p .column < 4294967296 ⌝ }
+    requires { ⌜ p .column < farColumn ⌝ }
     ensures { λ r. ⌜ r ≡ spotAfter p b ⌝ }
 {
     let st = p.scan;
@@ -71,7 +70,7 @@ fn spot_after(p: Spot, b: u8) -> Spot
 
 // The walk passes a line without a stray close.
 fn pass_over(s: &[u8], p: Spot) -> Spot
-    requires { ⌜ p .column + 4 * length (now s) < 4294967296 ⌝ }
+    requires { ⌜ p .column + 4 * length (now s) < farColumn ⌝ }
     ensures { λ r. ⌜ r ≡ spotsFrom p (now (s .entry)) ⌝ }
 {
     let mut spot = p;
@@ -85,7 +84,7 @@ fn pass_over(s: &[u8], p: Spot) -> Spot
 
 // Whether the run is at its end before the line.
 fn halts_at(n: usize, brace: usize, opener: usize, line: &[u8]) -> bool
-    requires { ⌜ brace < 4294967296 ⌝ }
+    requires { ⌜ brace < farColumn ⌝ }
     ensures { λ r. ⌜ r ≡ halts (eqb n 0) brace opener (now (line .entry)) ⌝ }
 {
     if text_lines::is_blank_line(line) {
@@ -119,7 +118,7 @@ fn beyond(a: usize, b: usize) -> usize
 
 // How many columns are put before the line.
 fn pad_of(n: usize, column: usize, brace: usize, opener: usize) -> usize
-    requires { ⌜ brace < 4294967296 ⌝ }
+    requires { ⌜ brace < farColumn ⌝ }
     ensures { λ r. ⌜ r ≡ padOf (eqb n 0) column brace opener ⌝ }
 {
     if n == 0 {
@@ -154,7 +153,7 @@ fn no_block() -> Walk
 
 // The first walk: up to the line behind which no block is open. A stray close leaves both loops at once.
 fn walk_run(text: &[u8], start: usize, opener: usize) -> Walk
-    requires { ⌜ (length (now text) ≤ maxText) × (opener ≤ 262140) ⌝ }
+    requires { ⌜ (length (now text) ≤ maxText) × (opener ≤ maxColumn) ⌝ }
     ensures { λ r. ⌜ r ≡ shownWalk (walkAt opener (now (text .entry)) start) ⌝ }
 {
     let mut n = 0;
@@ -228,10 +227,10 @@ fn comment_run(text: &[u8], start: usize, opener: usize) -> Answer
 
 // The run is closed.
 fn closed_run(len: usize, lines: usize, lookahead: usize) -> Ran
-    ensures { λ r. ⌜ r ≡ record { stop = Closed; len = len; lines = lines; lookahead = lookahead } ⌝ }
+    ensures { λ r. ⌜ r ≡ record { stop = Passed; len = len; lines = lines; lookahead = lookahead } ⌝ }
 {
     Ran {
-        stop: Stop::Closed,
+        stop: Outcome::Passed,
         len,
         lines,
         lookahead,
@@ -243,7 +242,7 @@ fn stopped(no: Refusal, len: usize, lines: usize, lookahead: usize) -> Ran
     ensures { λ r. ⌜ r ≡ record { stop = Refused no; len = len; lines = lines; lookahead = lookahead } ⌝ }
 {
     Ran {
-        stop: Stop::Refused(no),
+        stop: Outcome::Refused(no),
         len,
         lines,
         lookahead,
@@ -265,7 +264,7 @@ fn run_start() -> State
 
 // The run over the lines of a block, with its pads: the walk is made again, and nothing of the first is kept.
 fn join_padded(text: &[u8], start: usize, opener: usize, join: &mut [u8]) -> Ran
-    requires { ⌜ (length (now text) ≤ maxText) × ((opener ≤ 262140) × (isBlock (walkAt opener (now text) start) ≡ true)) ⌝ }
+    requires { ⌜ (length (now text) ≤ maxText) × ((opener ≤ maxColumn) × (isStretch (walkAt opener (now text) start) ≡ true)) ⌝ }
     ensures { λ r. ⌜ r ≡ ranOf (paddedRun (length (now (join .entry))) opener (now (text .entry)) start) ⌝ }
     ensures { λ r. ⌜ now (join .exit) ≡ over (paddedRun (length (now (join .entry))) opener (now (text .entry)) start .text) (now (join .entry)) ⌝ }
 {
@@ -302,11 +301,11 @@ fn join_padded(text: &[u8], start: usize, opener: usize, join: &mut [u8]) -> Ran
 
 // What the run over the padded lines, so many, says of it.
 fn answer_of(r: Ran, count: usize, join: &[u8]) -> Answer
-    ensures { λ a. ⌜ a ≡ answerBy (r .stop) (eqb (r .lines) count && goodLine (now (join .entry)) 0 (r .len)) count ⌝ }
+    ensures { λ a. ⌜ a ≡ runAnswer (r .stop) (eqb (r .lines) count && goodLine (now (join .entry)) 0 (r .len)) count ⌝ }
 {
     let stop = r.stop;
     match stop {
-        Stop::Closed => {
+        Outcome::Passed => {
             if r.lines != count {
                 return Answer::No(0);
             }
@@ -315,7 +314,7 @@ fn answer_of(r: Ran, count: usize, join: &[u8]) -> Answer
             }
             Answer::No(0)
         }
-        Stop::Refused(x) => {
+        Outcome::Refused(x) => {
             if base_refusals::number(x) == base_refusals::number(Refusal::JoinFull) {
                 return Answer::Refused(x);
             }
@@ -337,7 +336,7 @@ fn unjoined_run(answer: Answer) -> RefusedRun
 
 // The block of so many lines, one of which stands too far left.
 fn refused_block(text: &[u8], at: usize, opener: usize, count: usize, join: &mut [u8]) -> RefusedRun
-    requires { ⌜ (length (now text) ≤ maxText) × ((opener ≤ 262140) × (isBlock (walkAt opener (now text) at) ≡ true)) ⌝ }
+    requires { ⌜ (length (now text) ≤ maxText) × ((opener ≤ maxColumn) × (isStretch (walkAt opener (now text) at) ≡ true)) ⌝ }
     ensures { λ r. ⌜ r ≡ handedOut (judged count (paddedRun (length (now (join .entry))) opener (now (text .entry)) at)) ⌝ }
     ensures { λ r. ⌜ now (join .exit) ≡ over (paddedRun (length (now (join .entry))) opener (now (text .entry)) at .text) (now (join .entry)) ⌝ }
 {
@@ -395,8 +394,8 @@ pub fn refused_brace_run(text: &[u8], line: usize, join: &mut [u8]) -> RefusedRu
     ensures { λ r. ⌜ now (join .exit) ≡ over (refusedRun (length (now (join .entry))) (now (text .entry)) line .text) (now (join .entry)) ⌝ }
 {
     match text_checks::check_text(text) {
-        Check::Refused(r) => unjoined_run(Answer::Refused(r)),
-        Check::Passed => match text_lines::line_of(text, line) {
+        Outcome::Refused(r) => unjoined_run(Answer::Refused(r)),
+        Outcome::Passed => match text_lines::line_of(text, line) {
             Line::Missing => unjoined_run(Answer::No(0)),
             Line::At(r) => refused_at(text, r.from, join),
         },

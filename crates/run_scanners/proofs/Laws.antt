@@ -21,13 +21,9 @@ use Rattle.run_scanners.specs.declared.Held.{Held}
 use Rattle.run_scanners.specs.declared.Hold.{Hold}
 use Rattle.run_scanners.specs.declared.Hold.the-variants.{Dead, Live}
 use Rattle.run_scanners.specs.Scanners.{honoured, passed, scanFrom, isBare, seekStep, seekFrom, cappedAt, heldStep, holdStep, holdFrom, holdStart, isHeld, holdsOpen}
-use Rattle.run_scanners.specs.Steps.{cappedSeek}
+use Rattle.run_scanners.specs.Inner.{cappedSeek}
 
 -- ---- joined texts: a scanner goes on from where the part before left it
-
-pub scan-append : (o : Bool) (st : Scan) (a b : List ℕ) → scanFrom o st (a ++ b) ≡ scanFrom o (scanFrom o st a) b
-unfolding scanFrom
-scan-append o = foldl-append (passed o)
 
 pub seek-append : (k : Seek) (a b : List ℕ) → seekFrom k (a ++ b) ≡ seekFrom (seekFrom k a) b
 unfolding seekFrom

@@ -4,7 +4,7 @@ use mathlib.Core.Bool.{Bool, true, cond, not, _&&_}
 use mathlib.Core.List.{List, [], _∷_, _++_}
 use Prim.Native.Nat.{ℕ}
 use lib.Dec.{eqb}
-use Rattle.base_bytes.specs.Bytes.{isTail}
+use Rattle.base_bytes.specs.Bytes.{isTail, openBrace, space, tab}
 use Rattle.text_tabs.specs.Columns.{columnsFrom}
 use Rattle.block_grammar.specs.declared.Quote.{Quote}
 use Rattle.block_grammar.specs.declared.Quote.the-variants.{Out, In}
@@ -18,19 +18,19 @@ noneBare c st [] = true
 noneBare c st (b ∷ s) = not (isBare st b c) && noneBare c (passed ignored st b) s
 
 -- the text with a space for each tab that a backslash covers
-unfoldable pub spaced : Scan → List ℕ → List ℕ
-spaced st [] = []
-spaced st (b ∷ s) = cond (st .escaped && eqb b 9) 32 b ∷ spaced (passed ignored st b) s
+unfoldable pub tabsSpaced : Scan → List ℕ → List ℕ
+tabsSpaced st [] = []
+tabsSpaced st (b ∷ s) = cond (st .escaped && eqb b tab) space b ∷ tabsSpaced (passed ignored st b) s
 
 -- "the last open brace's column": in s, where the scan begins in the state st and in column `start`, a `{` stands outside quotes in column n,
 -- and none behind it
 pub record LastBrace (st : Scan) (start : ℕ) (s : List ℕ) (n : ℕ) : Type 0 where
   pub before : List ℕ
   pub behind : List ℕ
-  pub whole : s ≡ before ++ (123 ∷ behind)
-  pub outside : isBare (scanFrom ignored st before) 123 123 ≡ true
-  pub last : noneBare 123 fresh behind ≡ true
-  pub column : n ≡ columnsFrom start (spaced st before)
+  pub whole : s ≡ before ++ (openBrace ∷ behind)
+  pub outside : isBare (scanFrom ignored st before) openBrace openBrace ≡ true
+  pub last : noneBare openBrace fresh behind ≡ true
+  pub column : n ≡ columnsFrom start (tabsSpaced st before)
 
 -- the first byte of each character of a text
 unfoldable pub leads : List (List ℕ) → List ℕ

@@ -15,16 +15,17 @@ use Rattle.run_scanners.specs.declared.Seek.{Seek}
 use Rattle.run_scanners.specs.declared.Held.{Held}
 use Rattle.run_scanners.specs.declared.Hold.{Hold}
 use Rattle.run_scanners.specs.declared.Hold.the-variants.{Dead, Live}
+use Rattle.base_bytes.specs.Bytes.{backslash, closeBrace, openBrace, space, tab}
 
 -- ---- quotes
 
-abbrev pub isQuoted : Quote → Bool
-isQuoted Out = false
-isQuoted (In k) = true
+abbrev pub inQuote : Quote → Bool
+inQuote Out = false
+inQuote (In k) = true
 
 -- ".. where a backslash takes the next character with it": b is a backslash, in quotes or, if `outside` says so, anywhere
 abbrev pub takes : Bool → Quote → ℕ → Bool
-takes outside q b = (isQuoted q || outside) && eqb b 92
+takes outside q b = (inQuote q || outside) && eqb b backslash
 
 unfoldable pub passed : Bool → Scan → ℕ → Scan
 passed outside st b =
@@ -45,7 +46,7 @@ ignored = false
 
 -- b is the byte c, and no quote and no backslash covers it
 abbrev pub isBare : Scan → ℕ → ℕ → Bool
-isBare st b c = cond (st .escaped) false (not (isQuoted (st .quote)) && eqb b c)
+isBare st b c = cond (st .escaped) false (not (inQuote (st .quote)) && eqb b c)
 
 -- ---- "and follow no open quote": the quote that is left open at the end
 
@@ -56,14 +57,14 @@ openQuoteAtEnd s = scanFrom honoured fresh s .quote
 
 -- 000: in quotes a backslash and the character behind it are two columns, a tab too; so a tab that a backslash covers takes one column, as a space does
 abbrev pub columnBehind : Bool → ℕ → ℕ → ℕ
-columnBehind escaped c b = columnAfter c (cond (escaped && eqb b 9) 32 b)
+columnBehind escaped c b = columnAfter c (cond (escaped && eqb b tab) space b)
 
 unfoldable pub seekStep : Seek → ℕ → Seek
 seekStep k b =
     record {
       scan = passed ignored (k .scan) b;
       column = columnBehind (k .scan .escaped) (k .column) b;
-      found = cond (isBare (k .scan) b 123) (At (k .column)) (k .found);
+      found = cond (isBare (k .scan) b openBrace) (At (k .column)) (k .found);
     }
 
 unfoldable pub seekFrom : Seek → List ℕ → Seek
@@ -89,8 +90,8 @@ live st i = Live (record { scan = st; inside = i })
 -- a `{` in an open block and a `}` outside one end it for good: such text is no run of blocks
 unfoldable pub heldStep : Held → ℕ → Hold
 heldStep h b =
-    cond (isBare (h .scan) b 123) (cond (h .inside) Dead (live (h .scan) true))
-    (cond (isBare (h .scan) b 125) (cond (h .inside) (live (h .scan) false) Dead)
+    cond (isBare (h .scan) b openBrace) (cond (h .inside) Dead (live (h .scan) true))
+    (cond (isBare (h .scan) b closeBrace) (cond (h .inside) (live (h .scan) false) Dead)
     (live (passed ignored (h .scan) b) (h .inside)))
 
 abbrev pub holdStep : Hold → ℕ → Hold

@@ -4,16 +4,17 @@ ghost use Rattle.base_lists.specs.Lists.{isIn};
 ghost use Rattle.text_tabs.specs.Columns.{capped};
 ghost use Rattle.block_grammar.specs.Close.{turned};
 ghost use Rattle.run_scanners.specs.Scanners.{takes, passed, isBare, openQuoteAtEnd, columnBehind, seekStep, lastOpenBrace, cappedAt, heldStep, holdFrom, holdStart, isHeld, holdsOpen};
-ghost use Rattle.run_scanners.specs.Steps.{cappedSeek};
+ghost use Rattle.run_scanners.specs.Inner.{cappedSeek};
 use block_grammar::Place;
 use block_grammar::Quote;
 use block_grammar::Scan;
+ghost use Rattle.base_bytes.specs.Bytes.{closeBrace};
 
 // Where the search for the last open brace stands: the column of the next byte, and the brace found so far.
-struct Seek {
-    scan: Scan,
-    column: usize,
-    found: Place,
+pub struct Seek {
+    pub scan: Scan,
+    pub column: usize,
+    pub found: Place,
 }
 
 // Whether a block is open, and where its scanner stands.
@@ -253,7 +254,7 @@ pub fn holds_open_attr_block(run: &[u8]) -> bool
 
 // Whether a `}` stands anywhere in s.
 pub fn contains_close(s: &[u8]) -> bool
-    ensures { λ r. ⌜ r ≡ isIn (now (s .entry)) 125 ⌝ }
+    ensures { λ r. ⌜ r ≡ isIn (now (s .entry)) closeBrace ⌝ }
 {
     let mut i = 0;
     while i < s.len() {

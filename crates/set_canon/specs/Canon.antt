@@ -3,7 +3,7 @@ use mathlib.Core.Bool.{Bool, false, cond, not, _&&_, _||_}
 use mathlib.Core.List.{List, [], _∷_, _++_, map, flatMap}
 use Prim.Native.Nat.{ℕ}
 use Rattle.base_lists.specs.Lists.{all, isSome}
-use Rattle.base_bytes.specs.Bytes.{isSpace, isMarked}
+use Rattle.base_bytes.specs.Bytes.{isSpace, isMarked, backslash, closeBrace, equals, openBrace, quote, space}
 use Rattle.text_names.specs.Names.{isKey}
 use Rattle.block_grammar.specs.Meaning.{Entry, isClass, distinct}
 use Rattle.block_grammar.specs.Close.{noLf}
@@ -12,7 +12,7 @@ use Rattle.block_grammar.specs.Close.{noLf}
 
 -- "with a backslash before `"` and `\` only"
 unfoldable pub marked : ℕ → List ℕ
-marked b = cond (isMarked b) (92 ∷ (b ∷ [])) (b ∷ [])
+marked b = cond (isMarked b) (backslash ∷ (b ∷ [])) (b ∷ [])
 
 unfoldable pub escape : List ℕ → List ℕ
 escape s = flatMap marked s
@@ -23,11 +23,11 @@ pub record Pair : Type 0 where
 
 -- "Each item is name, `=`, value in double quotes"
 abbrev pub pairText : Pair → List ℕ
-pairText p = p .name ++ (61 ∷ (34 ∷ (escape (p .value) ++ (34 ∷ []))))
+pairText p = p .name ++ (equals ∷ (quote ∷ (escape (p .value) ++ (quote ∷ []))))
 
 -- "items .. parted by one space"
 unfoldable pub moreText : List Pair → List ℕ
-moreText ps = flatMap (λ p. 32 ∷ pairText p) ps
+moreText ps = flatMap (λ p. space ∷ pairText p) ps
 
 unfoldable pub pairsText : List Pair → List ℕ
 pairsText [] = []
@@ -43,7 +43,7 @@ pairs m = flatMap (λ e. pairsOf (e .name) (e .values)) m
 
 -- "Canonical text: `{`, items in slot order parted by one space, `}`."
 unfoldable pub canon : List Entry → List ℕ
-canon m = 123 ∷ (pairsText (pairs m) ++ (125 ∷ []))
+canon m = openBrace ∷ (pairsText (pairs m) ++ (closeBrace ∷ []))
 
 -- ---- well-formed
 

@@ -1,1 +1,1 @@
-// Canonical text and well-formed meanings: definitions and theorems. Code that promises them stands above.
+// Canonical text and well-formed meanings: definitions and theorems, no code.

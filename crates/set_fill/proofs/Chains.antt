@@ -29,7 +29,7 @@ use Rattle.set_fill.specs.declared.Next as nexts
 use Rattle.set_fill.specs.declared.Next.the-variants.{Last, Unread, Closing}
 use Rattle.set_fill.specs.declared.Push as pushes
 use Rattle.set_fill.specs.declared.Push.the-variants.{End, Bad}
-use Rattle.set_fill.specs.Walk.{Rest, ofReading, before, tokensFrom, restOf, thenRest, blocksRest, chainRest, tokensAt, InText, Opened, Gives, Yields}
+use Rattle.set_fill.specs.Inner.{Rest, ofReading, before, tokensFrom, restOf, thenRest, blocksRest, chainRest, tokensAt, InText, Opened, PutsNext, Yields}
 use Rattle.set_fill.proofs.Walk.{before-none, tokens-first}
 
 -- ---- a payload's tokens: one or more
@@ -119,7 +119,7 @@ module _ {w : List ℕ} {e : ℕ} {c : Cursor} (s : Stands w e c) where
   front = length-take-le e w (s .fits)
 
   -- something is put: the walk goes on, and further
-  module _ {m : Mode} {p : Put} {d : Cursor} (g : Gives m (take e w) (c .at) (restOf m (take e w) c) p d) where
+  module _ {m : Mode} {p : Put} {d : Cursor} (g : PutsNext m (take e w) (c .at) (restOf m (take e w) c) p d) where
     pub on : Stands w e d
     on = record { inside = g .inside; fits = s .fits }
 
@@ -167,9 +167,6 @@ module _ {w : List ℕ} {e : ℕ} {c : Cursor} (s : Stands w e c) where
 
 -- ---- the block at i
 module _ (m : Mode) (w : List ℕ) (i : ℕ) where
-  pub at-end : length w ≤ i → Opened m w i Last
-  at-end h = record { told = h }
-
   module _ (h : i < length w) where
     pub no-brace : (getD w i 0 ≡ 123 → ⊥) → Opened m w i Unread
     no-brace n = record { told = rw (blocks.no-brace m w i h n) }

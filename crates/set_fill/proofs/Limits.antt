@@ -13,16 +13,16 @@ use Rattle.base_bytes.specs.declared.Mode.{Mode}
 use Rattle.base_refusals.specs.declared.Refusal.{Refusal}
 use Rattle.base_refusals.specs.declared.Refusal.the-variants.{NoReading, TooManyClasses, TooManyKeys}
 use Rattle.set_table.specs.Types.{Texts, maxClasses, maxKeys}
-use Rattle.set_table.specs.Rows.{Rows, Put, hasKey, withPut, withPuts}
+use Rattle.set_table.specs.Rows.{Rows, Put, withPut, withPuts}
+use Rattle.set_table.specs.Filled.{refusing, limited}
+use Rattle.set_table.proofs.Puts.{put-grows}
 use Rattle.set_fill.specs.declared.Cursor.{Cursor}
 use Rattle.set_fill.specs.declared.Next as nexts
 use Rattle.set_fill.specs.declared.Next.the-variants.{Last, Unread, Closing}
 use Rattle.set_fill.specs.declared.Push as pushes
 use Rattle.set_fill.specs.declared.Push.the-variants.{End, Bad}
-use Rattle.set_fill.specs.Fill.{refusing, limited}
-use Rattle.set_fill.specs.Walk.{Rest, before, restOf, chainRest, tokensAt, InText, Opened, Gives, Yields, filledFrom, overBy, counted, countFrom, overOf}
+use Rattle.set_fill.specs.Inner.{Rest, before, restOf, chainRest, tokensAt, InText, Opened, PutsNext, Yields, filledFrom, overBy, countedPut, countFrom, overOf}
 use Rattle.set_fill.proofs.Chains as chains
-use Rattle.set_fill.proofs.Slots.{key-count, one-le}
 
 -- ---- the loop that goes on for the refusal's number
 pub record Counts (m : Mode) (w : List ℕ) (n : ℕ) (r : Refusal) (count e : ℕ) (c : Cursor) : Type 0 where
@@ -33,18 +33,18 @@ pub record Counts (m : Mode) (w : List ℕ) (n : ℕ) (r : Refusal) (count e : �
 pub start : (m : Mode) (w : List ℕ) (n : ℕ) {e : ℕ} {c : Cursor} → InText (take e w) c → e ≤ length w → Counts m w n (overOf n (chainRest m w e c)) n e c
 start m w n i l = record { stands = record { inside = i; fits = l }; bound = omega arith; rest = refl }
 
-counted-le : (p : Put) (n : ℕ) → counted p n ≤ n + 1
+counted-le : (p : Put) (n : ℕ) → countedPut p n ≤ n + 1
 counted-le (Put.ident v) n = omega arith
 counted-le (Put.class v) n = omega arith
 counted-le (Put.key k v) n = omega arith
 
-over-before : (n : ℕ) (p : Put) (r : Rest) → overOf n (before (p ∷ []) r) ≡ overOf (counted p n) r
+over-before : (n : ℕ) (p : Put) (r : Rest) → overOf n (before (p ∷ []) r) ≡ overOf (countedPut p n) r
 unfolding overOf countFrom
 over-before n p Rest.refused = refl
 over-before n p (Rest.puts ps) = refl
 
 module _ {m : Mode} {w : List ℕ} {n : ℕ} {r : Refusal} {count e : ℕ} {c : Cursor} (inv : Counts m w n r count e c) where
-  pub next : {p : Put} {d : Cursor} → Gives m (take e w) (c .at) (restOf m (take e w) c) p d → Counts m w n r (counted p count) e d
+  pub next : {p : Put} {d : Cursor} → PutsNext m (take e w) (c .at) (restOf m (take e w) c) p d → Counts m w n r (countedPut p count) e d
   next {p} {d} g =
       record {
         stands = chains.on (inv .stands) g;
@@ -75,15 +75,12 @@ module _ {m : Mode} {w : List ℕ} {n : ℕ} {r : Refusal} {count e : ℕ} {c : 
           }
 
 -- ---- the rows of a passed limit
-passed-put : (t : Texts) (s : Rows) (p : Put) → (maxClasses < length (s .classes)) ⊎ (maxKeys < length (s .keys)) → (maxClasses < length (withPut t s p .classes)) ⊎ (maxKeys < length (withPut t s p .keys))
-unfolding withPut
-passed-put t s (Put.ident v) h = h
-passed-put t s (Put.class v) (inl h) = inl (omega (arith, length-append (s .classes) (v ∷ [])))
-passed-put t s (Put.class v) (inr h) = inr h
-passed-put t s (Put.key n v) (inl h) = inl h
-passed-put t s (Put.key n v) (inr h) = inr (omega (arith, key-count t n v (s .keys), one-le (hasKey t n (s .keys))))
+passed-put : (t : Texts) (s : Rows) (p : Put) → (maxClasses < length (s .classes)) ⊎ (maxKeys < length (s .keys))
+    → (maxClasses < length (withPut t s p .classes)) ⊎ (maxKeys < length (withPut t s p .keys))
+passed-put t s p (inl h) = inl (omega (arith, put-grows t s p))
+passed-put t s p (inr h) = inr (omega (arith, put-grows t s p))
 
-count-put : (t : Texts) (s : Rows) (p : Put) → length (withPut t s p .classes) ≡ counted p (length (s .classes))
+count-put : (t : Texts) (s : Rows) (p : Put) → length (withPut t s p .classes) ≡ countedPut p (length (s .classes))
 unfolding withPut
 count-put t s (Put.ident v) = refl
 count-put t s (Put.class v) = omega (arith, length-append (s .classes) (v ∷ []))

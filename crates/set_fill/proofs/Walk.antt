@@ -6,10 +6,10 @@ use mathlib.Core.List.{List, [], _∷_, flatMap}
 use Prim.Native.Nat.{ℕ, _+_, _-_, _<_, _≤_}
 use native.Mathlib.Omega.{arith}
 use lib.ListN.{length, take, drop, length-take, length-drop}
-use lib.Seq.{slice, slice-empty, length-slice, length-take-le}
+use lib.Seq.{slice, slice-empty, length-take-le}
 use Rattle.base_lists.specs.Lists.{run, same}
 use Rattle.base_lists.proofs.Scan.{run-le}
-use Rattle.base_lists.proofs.Parts.{slice-part}
+use Rattle.base_lists.proofs.Parts.{slice-part, part-end}
 use Rattle.base_bytes.specs.declared.Mode.{Mode}
 use Rattle.base_bytes.specs.Bytes.{isBlank, isSpace}
 use Rattle.block_grammar.specs.Grammar.{Item, Placed}
@@ -25,10 +25,11 @@ use Rattle.set_table.specs.declared.Name.the-variants as names
 use Rattle.set_table.specs.declared.Text.the-variants as text
 use Rattle.set_table.specs.Rows.{Put}
 use Rattle.set_table.specs.Puts.{valueOf, byName, valued, putsOf, putsIn}
+use Rattle.set_fill.specs.declared.Kind.the-variants.{Plain, Quoted, Empty}
 use Rattle.set_fill.specs.declared.Cursor.{Cursor}
 use Rattle.set_fill.specs.declared.Push as pushes
 use Rattle.set_fill.specs.declared.Push.the-variants.{End, Bad, Id, Class, Key}
-use Rattle.set_fill.specs.Walk.{Rest, ofReading, before, tokensFrom, kindOf, piecesOf, restOf, tokensAt, plainAt, quotedAt, bareAt, InText, Gives, Told, Yields, pieceFrom, classRest, namedRest}
+use Rattle.set_fill.specs.Inner.{Rest, ofReading, before, tokensFrom, kindOf, piecesOf, restOf, cursorOf, tokensAt, InText, PutsNext, PushTells, Yields, pieceFrom, classRest, namedRest}
 use Rattle.set_fill.proofs.Pieces as pieces
 
 pub before-none : (r : Rest) → before [] r ≡ r
@@ -45,13 +46,13 @@ unfolding restOf
 tokens-first m s i = rw (slice-empty i s, pieces.none i) (before-none (tokensFrom m s i))
 
 -- what is ahead of j is ahead of a place before it
-gives-later : {m : Mode} {s : List ℕ} {j : ℕ} {r : Rest} {p : Put} {c : Cursor} (i : ℕ) → i ≤ j → Gives m s j r p c → Gives m s i r p c
+gives-later : {m : Mode} {s : List ℕ} {j : ℕ} {r : Rest} {p : Put} {c : Cursor} (i : ℕ) → i ≤ j → PutsNext m s j r p c → PutsNext m s i r p c
 gives-later i h y = record { is = y .is; ahead = omega (arith, y .ahead); inside = y .inside }
 
 pub later : {m : Mode} {s : List ℕ} {j : ℕ} {r : Rest} {p : pushes.Push} (i : ℕ) → i ≤ j → Yields m s j r p → Yields m s i r p
 later {m} {s} {j} {r} {p} i h y = record { told = go p (y .told) }
   where
-    go : (p : pushes.Push) → Told m s j r p → Told m s i r p
+    go : (p : pushes.Push) → PushTells m s j r p → PushTells m s i r p
     go End t = t
     go Bad t = t
     go (Id v c) t = gives-later i h t
@@ -60,17 +61,17 @@ later {m} {s} {j} {r} {p} i h y = record { told = go p (y .told) }
 
 -- ---- what a push gives: the walk goes on, and further
 module _ {m : Mode} {s : List ℕ} {i : ℕ} {r : Rest} {p : pushes.Push} (y : Yields m s i r p) where
-  pub id-gives : {v : Value} {c : Cursor} → p ≡ Id v c → Gives m s i r (Put.ident v) c
+  pub id-gives : {v : Value} {c : Cursor} → p ≡ Id v c → PutsNext m s i r (Put.ident v) c
   id-gives e = rw e at (y .told)
 
-  pub class-gives : {v : Value} {c : Cursor} → p ≡ Class v c → Gives m s i r (Put.class v) c
+  pub class-gives : {v : Value} {c : Cursor} → p ≡ Class v c → PutsNext m s i r (Put.class v) c
   class-gives e = rw e at (y .told)
 
-  pub key-gives : {n : Name} {v : Value} {c : Cursor} → p ≡ Key n v c → Gives m s i r (Put.key n v) c
+  pub key-gives : {n : Name} {v : Value} {c : Cursor} → p ≡ Key n v c → PutsNext m s i r (Put.key n v) c
   key-gives e = rw e at (y .told)
 
 -- one put, and then the tokens from e on
-pub alone : (m : Mode) (s : List ℕ) (p : Put) {i e : ℕ} → i < e → e ≤ length s → Gives m s i (before (p ∷ []) (tokensFrom m s e)) p (tokensAt e)
+pub alone : (m : Mode) (s : List ℕ) (p : Put) {i e : ℕ} → i < e → e ≤ length s → PutsNext m s i (before (p ∷ []) (tokensFrom m s e)) p (tokensAt e)
 alone m s p {i} {e} h l = record { is = rw (tokens-first m s e); ahead = h; inside = record { at = omega arith; to = omega arith; next = l } }
 
 -- ---- class values
@@ -137,6 +138,16 @@ module _ (m : Mode) {s : List ℕ} {c : Cursor} (inv : InText s c) {f k : ℕ} (
 
 -- ---- tokens
 
+-- the value behind a key's `=` at k up to e, the one in quotes, and that of a bare name up to e
+abbrev plainAt : ℕ → ℕ → Cursor
+plainAt k e = cursorOf Plain (k + 1) e e
+
+abbrev quotedAt : ℕ → ℕ → Cursor
+quotedAt k e = cursorOf Quoted (k + 2) (e - 1) e
+
+abbrev bareAt : ℕ → Cursor
+bareAt e = cursorOf Empty e e e
+
 -- a token's ranges lie in the text
 abbrev Lies : List ℕ → tokens.Token → Type 0
 Lies s token.Bad = Unit {0}
@@ -151,9 +162,6 @@ of-also : (p : Placed) (r : Reading) → ofReading (also p r) ≡ before (putsOf
 unfolding putsIn flatMap
 of-also p Reading.refused = refl
 of-also p (Reading.items is) = refl
-
-part-end : (s : List ℕ) (f e : ℕ) → f ≤ e → e ≤ length s → f + length (slice f e s) ≡ e
-part-end s f e h l = omega (arith, length-slice f e s l)
 
 module _ (m : Mode) (s : List ℕ) {i a : ℕ} (fits : i ≤ length s) (is : a ≡ i + run (isBlank m) (drop i s)) where
   pub at-end : length s ≤ a → Yields m s i (tokensFrom m s i) End
@@ -176,7 +184,7 @@ module _ (m : Mode) (s : List ℕ) {i a : ℕ} (fits : i ≤ length s) (is : a �
   puts-next {j} {e} st = rw (st .next) (of-also (record { at = a; item = j }) (readFrom m (drop e s) 0 e))
 
   -- a name alone
-  lone : {j : Item} {e : ℕ} {p : Put} → steps.Stepped m s i a j e → putsOf a j ≡ p ∷ [] → Gives m s i (tokensFrom m s i) p (tokensAt e)
+  lone : {j : Item} {e : ℕ} {p : Put} → steps.Stepped m s i a j e → putsOf a j ≡ p ∷ [] → PutsNext m s i (tokensFrom m s i) p (tokensAt e)
   lone st q = rw (puts-next st, q) (alone m s _ (omega (arith, steps.between m s fits is, st .ahead)) (st .within))
 
   module _ {f e : ℕ} {v : Value} {d : Cursor} (p : v ≡ valueOf (text.Plain f e)) (q : d ≡ tokensAt e) where

@@ -1,3 +1,3 @@
--- The definitions that the contracts of set_fill cite.
+-- The definitions that the contracts of set_fill cite; Inner: those of private functions alone.
 pub mod Fill
-pub mod Walk
+pub mod Inner

@@ -1,9 +1,11 @@
 // A payload or a line of blocks read into a set, which is changed where it stands.
 use base_bytes::Mode;
+use base_refusals::Outcome;
 use base_refusals::Refusal;
 use block_grammar::Place;
 use block_tokens::Token;
 use set_table::Attrs;
+use set_table::Filled;
 use set_table::Id;
 use set_table::Ident;
 use set_table::Name;
@@ -15,19 +17,19 @@ use set_table::Value;
 ghost use mathlib.Core.Path.{_≡_};
 ghost use mathlib.Core.Bool.{not};
 ghost use Prim.Native.Nat.{_+_, _-_, _≤_, _<_};
-ghost use lib.Dec.{ltb};
 ghost use lib.ListN.{length, take, drop};
 ghost use Rattle.base_lists.specs.Lists.{run};
 ghost use Rattle.base_bytes.specs.Bytes.{isSpace};
 ghost use Rattle.base_bytes.specs.declared.Mode.{Mode};
 ghost use Rattle.base_bytes.specs.declared.Mode.the-variants.{Loose};
-ghost use Rattle.base_refusals.specs.Numbers.{maxText};
+ghost use Rattle.base_refusals.specs.Numbers.{maxText, tooLong};
 ghost use Rattle.set_table.specs.Types.{one, emptySet};
 ghost use Rattle.set_table.specs.Rows.{noRows, isThere};
 ghost use Rattle.set_table.specs.Puts.{valueOf};
-ghost use Rattle.set_fill.specs.Fill.{refusing, fillAt, chainAt};
-ghost use Rattle.set_fill.specs.declared.Outcome.the-variants.{Refused};
-ghost use Rattle.set_fill.specs.Walk.{kindOf, tokensFrom, restOf, chainRest, cursorOf, tokensAt, InText, Opened, Yields, pieceFrom, classRest, namedRest, filledFrom, overBy, overOf, isRefused, unlessRefused};
+ghost use Rattle.set_table.specs.Filled.{refusing};
+ghost use Rattle.set_fill.specs.Fill.{fillAt, chainAt};
+ghost use Rattle.base_refusals.specs.declared.Outcome.the-variants.{Refused};
+ghost use Rattle.set_fill.specs.Inner.{kindOf, tokensFrom, restOf, chainRest, cursorOf, tokensAt, InText, Opened, Yields, pieceFrom, classRest, namedRest, filledFrom, overBy, overOf, isRefused, unlessRefused};
 
 // What a value is: its bytes as they stand, bytes that were quoted, or nothing behind a bare name.
 enum Kind {
@@ -58,18 +60,6 @@ enum Next {
     Last,
     Unread,
     Closing(usize),
-}
-
-// Why no set is handed out, or that one is.
-pub enum Outcome {
-    Refused(Refusal),
-    Done,
-}
-
-// The set of what was read; the empty one where it is refused.
-pub struct Filled {
-    pub outcome: Outcome,
-    pub set: Attrs,
 }
 
 // A value of this kind from `at` up to `to`, and the tokens from `next` on.
@@ -306,7 +296,7 @@ fn is_given(i: Ident) -> bool
 }
 
 // The tokens from `at` on of the block of w that closes at `close`, and then the blocks behind it; w is the text's front.
-// The set is changed where it stands, and a refusal hands out the empty one that it began with; 34 slots are enough for 32 keys.
+// The set is changed where it stands, and a refusal hands out the empty one that it began with; there is a slot for each key, the id and the classes.
 fn fill_part(text: &[u8], w: &[u8], at: usize, close: usize, mode: Mode, start: Attrs) -> Filled
     requires { ⌜ (at ≤ close) × (close ≤ length (now w)) × (length (now w) ≤ maxText) × (start ≡ emptySet) ⌝ }
     ensures { λ r. ⌜ r ≡ filledFrom (one (now (text .entry))) noRows (chainRest mode (now (w .entry)) close (tokensAt at)) ⌝ }
@@ -318,7 +308,7 @@ fn fill_part(text: &[u8], w: &[u8], at: usize, close: usize, mode: Mode, start: 
         match next_push(&w[..end], cur, mode) {
             Push::End => match block_behind(w, end, mode) {
                 Next::Last => return Filled {
-                    outcome: Outcome::Done,
+                    outcome: Outcome::Passed,
                     set,
                 },
                 Next::Unread => return refused_by(Refusal::NoReading, start),
@@ -391,7 +381,7 @@ fn is_refused(outcome: Outcome) -> bool
 {
     match outcome {
         Outcome::Refused(_) => true,
-        Outcome::Done => false,
+        Outcome::Passed => false,
     }
 }
 
@@ -434,7 +424,7 @@ pub fn refusing(r: Refusal) -> Filled
 
 // Whether places of the text don't fit a range.
 fn too_long(text: &[u8]) -> bool
-    ensures { λ r. ⌜ r ≡ ltb maxText (length (now (text .entry))) ⌝ }
+    ensures { λ r. ⌜ r ≡ tooLong (now (text .entry)) ⌝ }
 {
     base_refusals::MAX_TEXT < text.len()
 }
@@ -450,7 +440,7 @@ pub fn fill(text: &[u8], at: usize, end: usize, mode: Mode) -> Filled
     if s.len() <= block_tokens::blank_end(s, at, mode) {
         return refusing(Refusal::NoReading);
     }
-    fill_unless(Outcome::Done, text, s, at, s.len(), mode, Attrs::empty())
+    fill_unless(Outcome::Passed, text, s, at, s.len(), mode, Attrs::empty())
 }
 
 // The line of blocks that stands from `from` up to `to` of the text.
@@ -465,7 +455,7 @@ pub fn fill_chain(text: &[u8], from: usize, to: usize) -> Filled
         Next::Last => refusing(Refusal::NoReading),
         Next::Unread => refusing(Refusal::NoReading),
         Next::Closing(e) => fill_unless(
-            Outcome::Done,
+            Outcome::Passed,
             text,
             w,
             from + 1,

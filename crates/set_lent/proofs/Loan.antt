@@ -33,9 +33,9 @@ use Rattle.base_loans.proofs.Local.{Ref, Lender, lent-out, taken-back}
 use Rattle.set_table.specs.declared.Attrs.{Attrs}
 use Rattle.set_table.proofs.Attrs as T
 use Rattle.set_table.proofs.Attrs.Laws as T′
-use Rattle.set_fill.specs.declared.Outcome.{Outcome}
-use Rattle.set_fill.specs.declared.Filled.{Filled}
-use Rattle.set_fill.proofs.Outcome as O
+use Rattle.base_refusals.specs.declared.Outcome.{Outcome}
+use Rattle.set_table.specs.declared.Filled.{Filled}
+use Rattle.base_refusals.proofs.Outcome as O
 use Rattle.set_lent.specs.Lent.{endOf}
 use Rattle.set_lent.proofs.Taken.{setVal, Text}
 use Rattle.set_lent.proofs.Walk.{lent, Lent}

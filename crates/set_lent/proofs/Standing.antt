@@ -5,9 +5,9 @@ use mathlib.Core.List.{List}
 use Prim.Native.Nat.{ℕ}
 use Rattle.base_refusals.specs.declared.Refusal.{Refusal}
 use Rattle.set_table.specs.declared.Attrs.{Attrs}
-use Rattle.set_fill.specs.declared.Outcome.{Outcome}
-use Rattle.set_fill.specs.declared.Outcome.the-variants.{Refused, Done}
-use Rattle.set_fill.specs.declared.Filled.{Filled}
+use Rattle.base_refusals.specs.declared.Outcome.{Outcome}
+use Rattle.base_refusals.specs.declared.Outcome.the-variants.{Passed, Refused}
+use Rattle.set_table.specs.declared.Filled.{Filled}
 use Rattle.set_merge.specs.Merge.{mergeOf}
 use Rattle.set_lent.specs.Lent.{endOf, bothOf}
 
@@ -16,7 +16,7 @@ module _ (was : Attrs) (f : Filled) where
   unfolding endOf
   refused-stands e = rw e
 
-  pub done-goes : f .outcome ≡ Done → f .set ≡ endOf was f
+  pub done-goes : f .outcome ≡ Passed → f .set ≡ endOf was f
   unfolding endOf
   done-goes e = rw e
 

@@ -28,9 +28,9 @@ use denote.Triple.Clauses.{ensured, lasts}
 use Rattle.set_table.specs.declared.Attrs.{Attrs}
 use Rattle.set_table.proofs.Attrs as T
 use Rattle.set_table.proofs.Attrs.Laws as T′
-use Rattle.set_fill.specs.declared.Filled.{Filled}
-use Rattle.set_fill.proofs.Filled as P
-use Rattle.set_fill.proofs.Filled.Laws as P′
+use Rattle.set_table.specs.declared.Filled.{Filled}
+use Rattle.set_table.proofs.Filled as P
+use Rattle.set_table.proofs.Filled.Laws as P′
 use Rattle.set_lent.specs.Lent.{endOf}
 use Rattle.set_lent.proofs.end_of as end
 

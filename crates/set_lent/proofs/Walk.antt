@@ -45,11 +45,11 @@ use Rattle.base_loans.proofs.Calls.{answers}
 use Rattle.set_table.specs.declared.Attrs.{Attrs}
 use Rattle.set_table.proofs.Attrs as T
 use Rattle.set_table.proofs.Attrs.Laws as T′
-use Rattle.set_fill.specs.declared.Filled.{Filled}
-use Rattle.set_fill.proofs.Filled as P
-use Rattle.set_fill.proofs.Filled.Laws as P′
-use Rattle.set_fill.proofs.Outcome as O
-use Rattle.set_fill.proofs.Outcome.Laws as O′
+use Rattle.set_table.specs.declared.Filled.{Filled}
+use Rattle.set_table.proofs.Filled as P
+use Rattle.set_table.proofs.Filled.Laws as P′
+use Rattle.base_refusals.proofs.Outcome as O
+use Rattle.base_refusals.proofs.Outcome.Laws as O′
 use Rattle.set_merge.proofs.merge_attrs as mrg
 use Rattle.set_lent.specs.Lent.{endOf}
 use Rattle.set_lent.proofs.end_of.Symbol.{name as #set-lent·end-of}

@@ -2,16 +2,16 @@
 use Prim.Native.Nat.{ℕ}
 use mathlib.Core.List.{List}
 use Rattle.set_table.specs.declared.Attrs.{Attrs}
-use Rattle.set_fill.specs.declared.Outcome as outcomes
-use Rattle.set_fill.specs.declared.Outcome.the-variants.{Refused, Done}
-use Rattle.set_fill.specs.declared.Filled.{Filled}
+use Rattle.base_refusals.specs.declared.Outcome as outcomes
+use Rattle.base_refusals.specs.declared.Outcome.the-variants.{Passed, Refused}
+use Rattle.set_table.specs.declared.Filled.{Filled}
 use Rattle.set_merge.specs.Merge.{mergeOf}
 use Rattle.set_lent.specs.declared.Both.{Both}
 
 -- "A refusal touches no other lent memory, a merge's target included."
 abbrev pub standing : outcomes.Outcome → Attrs → Attrs → Attrs
 standing (Refused r) was new = was
-standing Done was new = new
+standing Passed was new = new
 
 -- the lent set that held `was`, once the merge has come to f
 unfoldable pub endOf : Attrs → Filled → Attrs

@@ -1,7 +1,7 @@
 // A set that the caller lends, added to where it stands.
-use set_fill::Filled;
-use set_fill::Outcome;
+use base_refusals::Outcome;
 use set_table::Attrs;
+use set_table::Filled;
 ghost use mathlib.Core.Path.{_≡_};
 ghost use Rattle.set_merge.specs.Merge.{mergeOf};
 ghost use Rattle.set_lent.specs.Lent.{endOf, bothOf};
@@ -20,7 +20,7 @@ fn end_of(was: Attrs, merged: Filled) -> Attrs
     let outcome = merged.outcome;
     match outcome {
         Outcome::Refused(_) => was,
-        Outcome::Done => merged.set,
+        Outcome::Passed => merged.set,
     }
 }
 

@@ -12,7 +12,7 @@ use Rattle.set_table.specs.Rows.{padded, held, slotIn, tableOf, rowsIn}
 use Rattle.set_table.specs.declared.SlotRecord.{SlotRecord}
 use Rattle.set_table.specs.declared.Attrs.{Attrs}
 use Rattle.set_table.proofs.Table.{padded-more}
-use Rattle.set_merge.specs.Walk.{firsts}
+use Rattle.set_merge.specs.Inner.{firsts}
 
 -- ---- the loop: i rows are copied
 pub record Copies {A : Type 0} (max : ℕ) (zero : A) (from : List A) (n : ℕ) (out : List A) (i : ℕ) : Type 0 where

@@ -3,7 +3,3 @@ pub mod Fronts
 pub mod Tables
 pub mod Rest
 pub mod Whole
-pub mod ByNames
-pub mod Puts
-pub mod Means
-pub mod Numbers

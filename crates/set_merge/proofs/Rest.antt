@@ -3,49 +3,39 @@
 use mathlib.Core.Path.{_≡_, refl, sym, _∙_, ap}
 use mathlib.Core.Bool.{Bool, true, false, cond}
 use mathlib.Core.List.{List, [], _∷_, map, flatMap}
-use Prim.Native.Nat.{ℕ, zero, suc, _+_, _<_, _≤_}
+use Prim.Native.Nat.{ℕ, suc, _+_, _<_, _≤_}
 use native.Mathlib.Numerals.{add-one}
 use native.Mathlib.Omega.{arith}
 use lib.ListN.{length, getD, take, drop, length-append, length-map, take-append-drop, drop-of-length-le}
 use lib.Seq.{drop-cons, getD-take, length-take-le}
-use borrow.Author.Tests.{ne-eqb, ltb-true, lt-ltb, le-ltb}
+use borrow.Author.Tests.{ltb-true, lt-ltb, le-ltb}
 use Rattle.base_lists.specs.Lists.{all, isSome}
 use Rattle.base_lists.proofs.Scan.{both}
 use Rattle.base_lists.proofs.More.{contra, all-parts}
+use Rattle.base_lists.proofs.Each.{get-map}
 use Rattle.base_refusals.specs.declared.Refusal.the-variants.{TooManyClasses, TooManyKeys}
-use Rattle.set_table.specs.Types.{Texts, maxClasses, maxKeys, maxSlots, zeroRow, zeroSlot}
-use Rattle.set_table.specs.Rows.{Rows, Put, noRows, hasKey, withPut, withPuts, slotIn, rowsIn}
-use Rattle.set_table.specs.Shape.{isSlot, times, isPresent, Shaped}
+use Rattle.set_table.specs.Types.{Texts, maxClasses, maxKeys, maxSlots, zeroSlot}
+use Rattle.set_table.specs.Rows.{Rows, Put, withPut, withPuts, slotIn, rowsIn}
+use Rattle.set_table.specs.Shape.{isSlot, times, isPresent}
 use Rattle.set_table.specs.declared.Attrs.{Attrs}
 use Rattle.set_table.specs.declared.Id as ids
 use Rattle.set_table.specs.declared.Id.the-variants as id
 use Rattle.set_table.specs.declared.Slot.{Slot}
 use Rattle.set_table.specs.declared.Slot.the-variants.{Id, Class, Key}
-use Rattle.set_table.specs.declared.SlotRecord.{SlotRecord}
 use Rattle.set_table.specs.declared.Value.{Value}
-use Rattle.set_table.proofs.Slots.{slot-same, slots-length}
-use Rattle.set_fill.specs.declared.Filled.{Filled}
-use Rattle.set_fill.specs.declared.Outcome.the-variants.{Done}
-use Rattle.set_fill.specs.Fill.{refusing, limited}
-use Rattle.set_fill.proofs.Slots.{key-count, one-le, slots}
+use Rattle.set_table.proofs.Slots.{slot-same}
+use Rattle.set_table.proofs.Puts.{puts-after, puts-grow, slots}
+use Rattle.set_table.proofs.Holding.{nclass, rows-of, held-own}
+use Rattle.set_table.specs.Inner.{Holds}
+use Rattle.set_table.specs.declared.Filled.{Filled}
+use Rattle.set_table.specs.Filled.{refusing, limited}
+use Rattle.base_refusals.specs.declared.Outcome.the-variants.{Passed}
 use Rattle.set_merge.specs.declared.Step.{Step}
 use Rattle.set_merge.specs.Merge.{putsOfId, putsAt, putsBy}
-use Rattle.set_merge.specs.Walk.{Held, Steps, Sound, Fits, Present}
-use Rattle.set_merge.proofs.Tables.{holds, nclass, puts-after}
+use Rattle.set_merge.specs.Inner.{Steps, Sound, Fits, Present}
 
--- ---- how many classes and keys there are behind puts
+-- ---- how many classes there are behind puts
 module _ (t : Texts) where
-  pub put-grows : (s : Rows) (p : Put) → (length (s .classes) ≤ length (withPut t s p .classes)) × (length (s .keys) ≤ length (withPut t s p .keys))
-  unfolding withPut
-  put-grows s (Put.ident v) = omega arith
-  put-grows s (Put.class v) = omega (arith, length-append (s .classes) (v ∷ []))
-  put-grows s (Put.key n v) = omega (arith, key-count t n v (s .keys), one-le (hasKey t n (s .keys)))
-
-  pub puts-grow : (s : Rows) (ps : List Put) → (length (s .classes) ≤ length (withPuts t s ps .classes)) × (length (s .keys) ≤ length (withPuts t s ps .keys))
-  unfolding withPuts
-  puts-grow s [] = omega arith
-  puts-grow s (p ∷ ps) = omega (arith, put-grows s p, puts-grow (withPut t s p) ps)
-
   -- each class counts
   all-classes : (s : Rows) (cs : List Value) → length (withPuts t s (map Put.class cs) .classes) ≡ length (s .classes) + length cs
   unfolding withPuts withPut
@@ -97,44 +87,7 @@ module _ (t : Texts) where
         go [] q e = omega (arith, none-from (b .order) s e, ap length q)
         go (c ∷ cs) q e = once-from (b .order) s e
 
-  -- a key's slot puts at most one key more, the others none
-  module _ (b : Rows) where
-    class-keys : (s : Rows) (cs : List Value) → withPuts t s (map Put.class cs) .keys ≡ s .keys
-    unfolding withPuts withPut
-    class-keys s [] = refl
-    class-keys s (c ∷ cs) = class-keys (withPut t s (Put.class c)) cs
-
-    keys-at : (s : Rows) (x : Slot) → length (withPuts t s (putsAt b x) .keys) + cond (isSlot Id x) 1 0 + cond (isSlot Class x) 1 0 ≤ length (s .keys) + 1
-    unfolding putsAt withPuts withPut
-    keys-at s Id = go (b .ident)
-      where
-        go : (i : ids.Id) → length (withPuts t s (putsOfId i) .keys) + 1 + 0 ≤ length (s .keys) + 1
-        go id.Missing = omega arith
-        go (id.Given v) = omega arith
-    keys-at s Class = omega (arith, ap length (class-keys s (b .classes)))
-    keys-at s (Key k) =
-        let r = getD (b .keys) k zeroRow in
-        rw (ne-eqb 0 (suc (suc k)) (omega arith), ne-eqb 1 (suc (suc k)) (omega arith)) (omega (arith, key-count t (r .name) (r .value) (s .keys)))
-
-    keys-from : (o : List Slot) (s : Rows) → length (withPuts t s (flatMap (putsAt b) o) .keys) + times Id o + times Class o ≤ length (s .keys) + length o
-    unfolding flatMap times withPuts
-    keys-from [] s = omega arith
-    keys-from (x ∷ o) s = rw (puts-after t s (putsAt b x) (flatMap (putsAt b) o)) (omega (arith, keys-at s x, keys-from o (withPuts t s (putsAt b x)), more (isSlot Id x) (times Id o), more (isSlot Class x) (times Class o)))
-      where
-        more : (q : Bool) (n : ℕ) → cond q (suc n) n ≡ n + cond q 1 0
-        more true n = omega arith
-        more false n = omega arith
-
-    -- so a shaped set puts at most its keys into a set with nothing in it
-    pub own-keys : Shaped t b → length (withPuts t noRows (putsBy b) .keys) ≤ length (b .keys)
-    own-keys h = omega (arith, keys-from (b .order) noRows, slots-length h, h .once Id, h .once Class)
-
 -- ---- the rows of a table that count
-get-map : (xs : List SlotRecord) (i : ℕ) → getD (map slotIn xs) i Id ≡ slotIn (getD xs i zeroSlot)
-get-map [] i = refl
-get-map (x ∷ xs) zero = refl
-get-map (x ∷ xs) (suc i) = get-map xs i
-
 module _ (b : Attrs) where
   pub class-rows : length (b .classes) ≡ maxClasses → b .nclass ≤ maxClasses → length (rowsIn b .classes) ≡ b .nclass
   unfolding rowsIn
@@ -150,7 +103,7 @@ module _ (b : Attrs) where
 
   slot-at : (i : ℕ) → i < b .norder → getD (rowsIn b .order) i Id ≡ getD (b .order) i zeroSlot .slot
   unfolding rowsIn
-  slot-at i l = get-map (take (b .norder) (b .order)) i ∙ (rw (getD-take (b .norder) (b .order) i zeroSlot l))
+  slot-at i l = get-map slotIn zeroSlot (take (b .norder) (b .order)) i ∙ (rw (getD-take (b .norder) (b .order) i zeroSlot l))
 
 -- ---- the limits of the whole
 module _ (w : Rows) where
@@ -162,17 +115,17 @@ module _ (w : Rows) where
   unfolding limited
   many-keys h k q = q ∙ (rw (le-ltb maxClasses (length (w .classes)) h, lt-ltb maxKeys (length (w .keys)) k))
 
-  pub none-many : {a : Attrs} → Held a → rowsIn a ≡ w → record { outcome = Done; set = a } ≡ limited w
+  pub none-many : {a : Attrs} → Holds a (rowsIn a) → rowsIn a ≡ w → record { outcome = Passed; set = a } ≡ limited w
   unfolding limited
-  none-many h e = rw (h .is, e, le-ltb maxClasses (length (w .classes)) (rw (← e) (h .classes)), le-ltb maxKeys (length (w .keys)) (rw (← e) (h .keys)), le-ltb maxSlots (length (w .order)) (rw (← e) (slots (holds h .shaped) (h .keys))))
+  none-many h e = rw (h .is, e, le-ltb maxClasses (length (w .classes)) (rw (← e) (h .classes)), le-ltb maxKeys (length (w .keys)) (rw (← e) (h .keys)), le-ltb maxSlots (length (w .order)) (rw (← e) (slots (h .each) (h .keys))))
 
 -- ---- the loop: the slots before i are put
 pub record Merges (t : Texts) (a b : Attrs) (set : Attrs) (i : ℕ) : Type 0 where
   pub few : length (withPuts t (rowsIn a) (putsBy (rowsIn b)) .classes) ≤ maxClasses
-  pub held : Held set
+  pub held : Holds set (rowsIn set)
   pub rest : withPuts t (rowsIn set) (flatMap (putsAt (rowsIn b)) (drop i (rowsIn b .order))) ≡ withPuts t (rowsIn a) (putsBy (rowsIn b))
 
-module _ (t : Texts) {a b : Attrs} (h : Held a) (g : Sound b) (c : length (b .classes) ≡ maxClasses) where
+module _ (t : Texts) {a b : Attrs} (h : Holds a (rowsIn a)) (g : Sound b) (c : length (b .classes) ≡ maxClasses) where
   class-count : length (withPuts t (rowsIn a) (putsBy (rowsIn b)) .classes) ≡ a .nclass + b .nclass
   class-count = omega (arith, count-classes t (rowsIn b) (rowsIn a) (g .once), nclass h, class-rows b c (g .nclass))
 
@@ -183,7 +136,7 @@ module _ (t : Texts) {a b : Attrs} (h : Held a) (g : Sound b) (c : length (b .cl
   start l = record { few = omega (arith, class-count); held = h; rest = refl }
 
 module _ {t : Texts} {a b set : Attrs} {i : ℕ} (inv : Merges t a b set i) where
-  pub end : length (b .order) ≡ maxSlots → b .norder ≤ maxSlots → b .norder ≤ i → record { outcome = Done; set = set } ≡ limited (withPuts t (rowsIn a) (putsBy (rowsIn b)))
+  pub end : length (b .order) ≡ maxSlots → b .norder ≤ maxSlots → b .norder ≤ i → record { outcome = Passed; set = set } ≡ limited (withPuts t (rowsIn a) (putsBy (rowsIn b)))
   unfolding flatMap withPuts
   end o n l = none-many (withPuts t (rowsIn a) (putsBy (rowsIn b))) (inv .held) (rw (drop-of-length-le (rowsIn b .order) {i = i} (omega (arith, slot-rows b o n))) at (inv .rest))
 
@@ -201,7 +154,7 @@ module _ {t : Texts} {a b set : Attrs} {i : ℕ} (inv : Merges t a b set i) wher
     grown = rw (← parted) (puts-grow t (withPuts t (rowsIn set) (putsAt (rowsIn b) (getD (b .order) i zeroSlot .slot))) (flatMap (putsAt (rowsIn b)) (drop (suc i) (rowsIn b .order))))
 
     pub next : {s : Step} → Steps t set (putsAt (rowsIn b) (getD (b .order) i zeroSlot .slot)) s → s .fits ≡ true → Merges t a b (s .set) (i + 1)
-    next h e = let z = h .done e in record { few = inv .few; held = z .held; rest = rw (add-one, z .rows) parted }
+    next h e = let z = h .done e in record { few = inv .few; held = held-own z; rest = rw (add-one, rows-of z) parted }
 
     pub over-keys : {s : Step} {f : Filled} → Steps t set (putsAt (rowsIn b) (getD (b .order) i zeroSlot .slot)) s → s .fits ≡ false → f ≡ refusing TooManyKeys
         → f ≡ limited (withPuts t (rowsIn a) (putsBy (rowsIn b)))

@@ -12,20 +12,22 @@ use Rattle.base_lists.proofs.Scan.{both}
 use Rattle.base_refusals.specs.declared.Refusal.{Refusal}
 use Rattle.base_refusals.specs.declared.Refusal.the-variants.{NotWellFormed}
 use Rattle.text_checks.specs.Check.{checkOf}
-use Rattle.text_checks.specs.declared.Check.{Check}
-use Rattle.text_checks.specs.declared.Check.the-variants.{Passed, Refused}
+use Rattle.base_refusals.specs.declared.Outcome.{Outcome}
+use Rattle.base_refusals.specs.declared.Outcome.the-variants.{Passed, Refused}
 use Rattle.set_table.specs.Types.{Texts, one, maxClasses, maxKeys, maxSlots}
 use Rattle.set_table.specs.Rows.{withPuts, tableOf, rowsIn}
 use Rattle.set_table.specs.declared.Attrs.{Attrs}
 use Rattle.set_table.specs.declared.Slot.the-variants.{Class}
 use Rattle.set_table.proofs.Slots.{slots-length}
 use Rattle.set_table.proofs.Whole.{rows-table}
+use Rattle.set_table.proofs.Holding.{held-own}
+use Rattle.set_table.specs.Inner.{Holds}
 use Rattle.set_wellformed.specs.WellFormed.{countsOk, rowsOk, tableOk}
 use Rattle.set_wellformed.proofs.Shape.{slots-named, table-passed, shaped}
-use Rattle.set_fill.specs.declared.Filled.{Filled}
-use Rattle.set_fill.specs.Fill.{refusing, limited}
+use Rattle.set_table.specs.declared.Filled.{Filled}
+use Rattle.set_table.specs.Filled.{refusing, limited}
 use Rattle.set_merge.specs.Merge.{putsBy, mergeOf}
-use Rattle.set_merge.specs.Walk.{Held, Sound}
+use Rattle.set_merge.specs.Inner.{Sound}
 
 -- ---- what a well-formed table has
 module _ (t : Texts) (a : Attrs) (h : tableOk t a ≡ true) where
@@ -41,10 +43,8 @@ module _ (t : Texts) (a : Attrs) (h : tableOk t a ≡ true) where
   unfolding rowsIn
   few = omega (arith, counts, length-take (a .nclass) (a .classes), length-take (a .nkey) (a .keys))
 
-  pub held-clean : {r : Attrs} → r ≡ tableOf (rowsIn a) → Held r
-  held-clean e =
-      let q = rows-table (rowsIn a) in
-      rw e (record { is = rw q; classes = rw q (few .0); keys = rw q (few .1); slots = rw q (slots-length (shaped t a h)) })
+  pub held-clean : {r : Attrs} → r ≡ tableOf (rowsIn a) → Holds r (rowsIn r)
+  held-clean e = held-own (record { is = e; classes = few .0; keys = few .1; each = record { is = slots-length (shaped t a h) } })
 
   pub sound : Sound a
   sound =
@@ -57,7 +57,7 @@ module _ (t : Texts) (a : Attrs) (h : tableOk t a ≡ true) where
       }
 
 -- ---- the entry
-module _ (t : List ℕ) (a b : Attrs) {f : Filled} {c : Check} (e : c ≡ checkOf t) where
+module _ (t : List ℕ) (a b : Attrs) {f : Filled} {c : Outcome} (e : c ≡ checkOf t) where
   pub by-check : {r : Refusal} → c ≡ Refused r → f ≡ refusing r → f ≡ mergeOf t a b
   unfolding mergeOf
   by-check q g = g ∙ (rw (← e, q))

@@ -1,3 +1,3 @@
--- The definitions that the contracts of set_merge cite.
+-- The definitions that the contracts of set_merge cite; Inner: those of private functions alone.
 pub mod Merge
-pub mod Walk
+pub mod Inner

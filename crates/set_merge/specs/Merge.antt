@@ -1,12 +1,13 @@
 -- Two sets over one text made into one: "Merging: a later id wins, classes are joined, later key values win, new slots go behind."
 use Prim.Native.Nat.{ℕ}
 use mathlib.Core.Bool.{cond, _&&_}
-use mathlib.Core.List.{List, [], _∷_, map, flatMap}
+use mathlib.Core.List.{List, [], _∷_, _++_, map, flatMap}
 use lib.ListN.{getD}
+use Rattle.base_refusals.specs.Orders.{Ground}
 use Rattle.base_refusals.specs.declared.Refusal.the-variants.{NotWellFormed}
-use Rattle.text_checks.specs.Check.{checkOf}
-use Rattle.text_checks.specs.declared.Check as checks
-use Rattle.text_checks.specs.declared.Check.the-variants.{Passed, Refused}
+use Rattle.text_checks.specs.Check.{textOrder, checkOf}
+use Rattle.base_refusals.specs.declared.Outcome as outcomes
+use Rattle.base_refusals.specs.declared.Outcome.the-variants.{Passed, Refused}
 use Rattle.set_table.specs.Types.{one, zeroRow}
 use Rattle.set_table.specs.Rows.{Rows, Put, withPuts, rowsIn}
 use Rattle.set_table.specs.declared.Row.{Row}
@@ -16,8 +17,8 @@ use Rattle.set_table.specs.declared.Id as ids
 use Rattle.set_table.specs.declared.Id.the-variants as id
 use Rattle.set_table.specs.declared.Attrs.{Attrs}
 use Rattle.set_wellformed.specs.WellFormed.{tableOk}
-use Rattle.set_fill.specs.declared.Filled.{Filled}
-use Rattle.set_fill.specs.Fill.{refusing, limited}
+use Rattle.set_table.specs.declared.Filled.{Filled}
+use Rattle.set_table.specs.Filled.{refusing, limitOrder, limited}
 
 -- ---- what a set puts into another: its slots in their order, each with its values
 
@@ -38,10 +39,13 @@ putsBy s = flatMap (putsAt s) (s .order)
 
 -- ---- the merge: "merge 1, 2, 11 (either set), 6, 7, 8"
 
-abbrev pub mergedBy : checks.Check → List ℕ → Attrs → Attrs → Filled
+abbrev pub mergedBy : outcomes.Outcome → List ℕ → Attrs → Attrs → Filled
 mergedBy (Refused r) t a b = refusing r
 mergedBy Passed t a b = cond (tableOk (one t) a && tableOk (one t) b) (limited (withPuts (one t) (rowsIn a) (putsBy (rowsIn b)))) (refusing NotWellFormed)
 
 -- the set b merged into the set a
 unfoldable pub mergeOf : List ℕ → Attrs → Attrs → Filled
 mergeOf t a b = mergedBy (checkOf t) t a b
+
+abbrev pub mergeOrder : List ℕ → Attrs → Attrs → List Ground
+mergeOrder t a b = textOrder t ++ (Ground.lacking NotWellFormed (tableOk (one t) a && tableOk (one t) b) ∷ limitOrder (withPuts (one t) (rowsIn a) (putsBy (rowsIn b))))

@@ -1,8 +1,8 @@
 // Two sets over one text made into one.
+use base_refusals::Outcome;
 use base_refusals::Refusal;
-use set_fill::Filled;
-use set_fill::Outcome;
 use set_table::Attrs;
+use set_table::Filled;
 use set_table::Id;
 use set_table::Ident;
 use set_table::Name;
@@ -11,16 +11,16 @@ use set_table::Slot;
 use set_table::SlotRecord;
 use set_table::Text;
 use set_table::Value;
-use text_checks::Check;
 ghost use mathlib.Core.Path.{_≡_};
 ghost use mathlib.Core.List.{[], _∷_, map};
 ghost use Prim.Native.Nat.{_+_, _≤_};
 ghost use lib.ListN.{take};
 ghost use Rattle.set_table.specs.Types.{Texts, one, zeroValue, zeroRow, zeroSlot, maxClasses, maxKeys, maxSlots};
-ghost use Rattle.set_table.specs.Rows.{Put, withPuts, rowsIn, tableOf};
-ghost use Rattle.set_fill.specs.Fill.{refusing, limited};
+ghost use Rattle.set_table.specs.Rows.{Put, withPut, withPuts, rowsIn, tableOf};
+ghost use Rattle.set_table.specs.Filled.{limited};
+ghost use Rattle.set_table.specs.Inner.{Holds};
 ghost use Rattle.set_merge.specs.Merge.{putsAt, putsBy, mergeOf};
-ghost use Rattle.set_merge.specs.Walk.{firsts, Held, After, Steps, Sound, Present};
+ghost use Rattle.set_merge.specs.Inner.{firsts, Steps, Sound, Present};
 
 // What becomes of a set when something is put into it: whether that fits, and the set behind it.
 struct Step {
@@ -105,8 +105,8 @@ fn cleaned(a: Attrs) -> Attrs
 
 // The id, whose slot goes behind where there was none.
 fn put_id(s: Attrs, v: Value) -> Attrs
-    requires { ⌜ Held s ⌝ }
-    ensures { λ r. ⌜ ((t : Texts) → After t s (Put.ident v ∷ []) r) ⌝ }
+    requires { ⌜ Holds s (rowsIn s) ⌝ }
+    ensures { λ r. ⌜ ((t : Texts) → Holds r (withPut t (rowsIn s) (Put.ident v))) ⌝ }
 {
     let mut set = s;
     let was = set.id;
@@ -126,8 +126,8 @@ fn put_id(s: Attrs, v: Value) -> Attrs
 
 // The first m of the classes, joined to those that are there.
 fn put_classes(s: Attrs, from: [Value; Attrs::CLASSES], m: usize) -> Attrs
-    requires { ⌜ (Held s) × (s .nclass + m ≤ maxClasses) ⌝ }
-    ensures { λ r. ⌜ ((t : Texts) → After t s (map Put.class (take m from)) r) ⌝ }
+    requires { ⌜ (Holds s (rowsIn s)) × (s .nclass + m ≤ maxClasses) ⌝ }
+    ensures { λ r. ⌜ ((t : Texts) → Holds r (withPuts t (rowsIn s) (map Put.class (take m from)))) ⌝ }
 {
     let mut set = s;
     let mut i: usize = 0;
@@ -148,7 +148,7 @@ fn put_classes(s: Attrs, from: [Value; Attrs::CLASSES], m: usize) -> Attrs
 
 // A key with its value: the value alone where the key is there already, else a new row whose slot goes behind.
 fn put_key(text: &[u8], s: Attrs, name: Name, value: Value) -> Step
-    requires { ⌜ Held s ⌝ }
+    requires { ⌜ Holds s (rowsIn s) ⌝ }
     ensures { λ r. ⌜ Steps (one (now (text .entry))) s (Put.key name value ∷ []) r ⌝ }
 {
     let mut set = s;
@@ -176,7 +176,7 @@ fn put_key(text: &[u8], s: Attrs, name: Name, value: Value) -> Step
 
 // What stands at one slot of b.
 fn put_slot(text: &[u8], s: Attrs, b: Attrs, slot: Slot) -> Step
-    requires { ⌜ (Held s) × (Present s b slot) ⌝ }
+    requires { ⌜ (Holds s (rowsIn s)) × (Present s b slot) ⌝ }
     ensures { λ r. ⌜ Steps (one (now (text .entry))) s (putsAt (rowsIn b) slot) r ⌝ }
 {
     match slot {
@@ -208,7 +208,7 @@ fn put_slot(text: &[u8], s: Attrs, b: Attrs, slot: Slot) -> Step
 
 // The slots of b in their order, each put into a. Its classes are counted first: a merge with too many of both is refused for its classes.
 fn merge_rows(text: &[u8], a: Attrs, b: Attrs) -> Filled
-    requires { ⌜ (Held a) × (Sound b) ⌝ }
+    requires { ⌜ (Holds a (rowsIn a)) × (Sound b) ⌝ }
     ensures { λ r. ⌜ r ≡ limited (withPuts (one (now (text .entry))) (rowsIn a) (putsBy (rowsIn b))) ⌝ }
 {
     if Attrs::CLASSES < a.nclass as usize + b.nclass as usize {
@@ -228,7 +228,7 @@ fn merge_rows(text: &[u8], a: Attrs, b: Attrs) -> Filled
         i += 1;
     }
     Filled {
-        outcome: Outcome::Done,
+        outcome: Outcome::Passed,
         set,
     }
 }
@@ -238,8 +238,8 @@ pub fn merge_attrs(text: &[u8], target: Attrs, incoming: Attrs) -> Filled
     ensures { λ r. ⌜ r ≡ mergeOf (now (text .entry)) target incoming ⌝ }
 {
     match text_checks::check_text(text) {
-        Check::Refused(r) => set_fill::refusing(r),
-        Check::Passed => {
+        Outcome::Refused(r) => set_fill::refusing(r),
+        Outcome::Passed => {
             if !set_wellformed::table_ok(text, target) {
                 return set_fill::refusing(Refusal::NotWellFormed);
             }

@@ -3,7 +3,6 @@ pub mod Ranges
 pub mod Table
 pub mod Keys
 pub mod Slots
-pub mod Shaping
-pub mod Meant
-pub mod Items
 pub mod Whole
+pub mod Puts
+pub mod Holding

@@ -2,15 +2,14 @@
 -- Assumes nothing.
 use mathlib.Core.Path.{_≡_, refl, sym, _∙_, ap}
 use mathlib.Core.Bool.{Bool, true, false, cond}
-use mathlib.Core.List.{List, [], _∷_, _++_}
+use mathlib.Core.List.{List, [], _∷_}
 use Prim.Native.Nat.{ℕ, zero, suc, _+_, _≤_, zero-le}
 use native.Mathlib.Omega.{arith}
 use lib.Dec.{eqb, ltb}
 use lib.ListN.{length}
 use borrow.Author.Tests.{eqb-true, eqb-false, eq-eqb, ltb-true, ltb-false, lt-ltb, le-ltb}
 use Rattle.base_lists.specs.Lists.{isSome}
-use Rattle.base_lists.proofs.More.{eqb-sym}
-use Rattle.set_table.specs.Types.{Texts, maxKeys, maxSlots}
+use Rattle.set_table.specs.Types.{Texts}
 use Rattle.set_table.specs.Rows.{Rows, isThere}
 use Rattle.set_table.specs.Shape.{slotNumber, isSlot, times, isPresent, Shaped}
 use Rattle.set_table.specs.declared.Slot.{Slot}
@@ -18,9 +17,6 @@ use Rattle.set_table.specs.declared.Slot.the-variants.{Id, Class, Key}
 
 pub slot-refl : (x : Slot) → isSlot x x ≡ true
 slot-refl x = eq-eqb (slotNumber x) (slotNumber x) refl
-
-pub slot-sym : (x y : Slot) → isSlot x y ≡ isSlot y x
-slot-sym x y = eqb-sym (slotNumber x) (slotNumber y)
 
 number-same : (x y : Slot) → slotNumber x ≡ slotNumber y → x ≡ y
 number-same Id Id e = refl
@@ -38,20 +34,6 @@ slot-same x y e = number-same x y (eqb-true (slotNumber x) (slotNumber y) e)
 
 -- ---- one slot more
 module _ (y : Slot) where
-  pub times-more : (o : List Slot) (x : Slot) → times y (o ++ (x ∷ [])) ≡ times y o + cond (isSlot y x) 1 0
-  unfolding times
-  times-more [] x = go (isSlot y x)
-    where
-      go : (b : Bool) → cond b 1 0 ≡ 0 + cond b 1 0
-      go true = omega arith
-      go false = omega arith
-  times-more (z ∷ o) x = go (isSlot y z) (times-more o x)
-    where
-      go : (b : Bool) → times y (o ++ (x ∷ [])) ≡ times y o + cond (isSlot y x) 1 0
-          → cond b (suc (times y (o ++ (x ∷ [])))) (times y (o ++ (x ∷ []))) ≡ cond b (suc (times y o)) (times y o) + cond (isSlot y x) 1 0
-      go true h = omega arith
-      go false h = h
-
   pub times-le : (z : Slot) (o : List Slot) → times y o ≤ times y (z ∷ o)
   unfolding times
   times-le z o = go (isSlot y z)
@@ -124,16 +106,3 @@ slots-length {s = s} h =
     each : (k : ℕ) → k ≤ length (s .keys) → sum (λ i. cond (isPresent s (slotAt i)) 1 0) (suc (suc k)) ≡ cond (isThere (s .ident)) 1 0 + cond (isSome (s .classes)) 1 0 + k
     each zero q = omega arith
     each (suc k) q = rw (lt-ltb k (length (s .keys)) (omega arith)) (omega (arith, each k (omega arith)))
-
-pub slots : {t : Texts} {s : Rows} → Shaped t s → length (s .order) ≤ 2 + length (s .keys)
-slots {s = s} h = go (isThere (s .ident)) (isSome (s .classes)) (slots-length h)
-  where
-    go : (a b : Bool) → length (s .order) ≡ cond a 1 0 + cond b 1 0 + length (s .keys) → length (s .order) ≤ 2 + length (s .keys)
-    go true true e = omega arith
-    go true false e = omega arith
-    go false true e = omega arith
-    go false false e = omega arith
-
--- so whoever keeps the limit on keys keeps that on slots: refusal 8 is never met
-pub slots-fit : {t : Texts} {s : Rows} → Shaped t s → length (s .keys) ≤ maxKeys → length (s .order) ≤ maxSlots
-slots-fit h l = omega (arith, slots h)

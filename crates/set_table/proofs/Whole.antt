@@ -1,27 +1,18 @@
--- The rows read back out of a table are the rows that it was made of, and what lies past the counts is zero.
+-- The rows read back out of a table are the rows that it was made of; and a table without slots means nothing.
 -- Assumes nothing.
-use mathlib.Core.Path.{_≡_, refl, ap}
+use mathlib.Core.Path.{_≡_}
 use mathlib.Core.List.{List, [], map, map-map, map-id}
-use Prim.Native.Nat.{ℕ, zero, suc, _+_, _-_, _≤_}
-use native.Mathlib.Omega.{arith}
-use lib.ListN.{length, getD, take, replicate, length-map}
-use lib.Seq.{take-append-seam, getD-append-add}
-use Rattle.set_table.specs.Types.{Texts, maxClasses, maxKeys, maxSlots, zeroValue, zeroRow, zeroSlot, emptySet}
-use Rattle.set_table.specs.Rows.{Rows, noRows, padded, held, slotIn, tableOf, rowsIn, meant, meaningOf}
+use Prim.Native.Nat.{ℕ, _-_}
+use lib.ListN.{length, take, replicate, length-map}
+use lib.Seq.{take-append-seam}
+use Rattle.set_table.specs.Types.{Texts, maxClasses, maxKeys, maxSlots, zeroValue, zeroRow, zeroSlot}
+use Rattle.set_table.specs.Rows.{Rows, padded, held, slotIn, tableOf, rowsIn, meant, meaningOf}
+use Rattle.set_table.specs.declared.Attrs.{Attrs}
 
 module _ {A : Type 0} (n : ℕ) (z : A) where
   pub padded-front : (xs : List A) → take (length xs) (padded n z xs) ≡ xs
   unfolding padded
   padded-front xs = take-append-seam xs (replicate (n - length xs) z)
-
-  pub padded-past : (xs : List A) (k : ℕ) → length xs ≤ k → getD (padded n z xs) k z ≡ z
-  unfolding padded
-  padded-past xs k h = let e : k ≡ length xs + (k - length xs) = omega arith in rw (e, getD-append-add xs (replicate (n - length xs) z) (k - length xs) z) (none (n - length xs) (k - length xs))
-    where
-      none : (m j : ℕ) → getD (replicate m z) j z ≡ z
-      none zero j = refl
-      none (suc m) zero = refl
-      none (suc m) (suc j) = none m j
 
 module _ (s : Rows) where
   order-back : map slotIn (take (length (s .order)) (padded maxSlots zeroSlot (map held (s .order)))) ≡ s .order
@@ -32,29 +23,6 @@ module _ (s : Rows) where
   unfolding rowsIn tableOf
   rows-table = rw (padded-front maxClasses zeroValue (s .classes), padded-front maxKeys zeroRow (s .keys), order-back)
 
-  pub table-means : (t : Texts) → meaningOf t (tableOf s) ≡ meant t s
-  unfolding meaningOf
-  table-means t = ap (meant t) rows-table
-
-  -- "Rows past the counts are zero"
-  module _ (k : ℕ) where
-    pub past-classes : tableOf s .nclass ≤ k → getD (tableOf s .classes) k zeroValue ≡ zeroValue
-    unfolding tableOf
-    past-classes h = padded-past maxClasses zeroValue (s .classes) k h
-
-    pub past-keys : tableOf s .nkey ≤ k → getD (tableOf s .keys) k zeroRow ≡ zeroRow
-    unfolding tableOf
-    past-keys h = padded-past maxKeys zeroRow (s .keys) k h
-
-    pub past-slots : tableOf s .norder ≤ k → getD (tableOf s .order) k zeroSlot ≡ zeroSlot
-    unfolding tableOf
-    past-slots h = padded-past maxSlots zeroSlot (map held (s .order)) k (rw length-map h)
-
--- the set with nothing in it
-pub empty-table : tableOf noRows ≡ emptySet
-unfolding tableOf padded
-empty-table = refl
-
-pub empty-means : (t : Texts) → meaningOf t emptySet ≡ []
-unfolding meaningOf rowsIn meant
-empty-means t = refl
+pub none-means : (t : Texts) (a : Attrs) → a .norder ≡ 0 → meaningOf t a ≡ []
+unfolding meaningOf meant rowsIn
+none-means t a e = rw e

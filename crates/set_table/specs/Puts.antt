@@ -5,7 +5,7 @@ use mathlib.Core.List.{List, [], _∷_, map, flatMap}
 use lib.ListN.{length}
 use Rattle.base_lists.specs.Lists.{same}
 use Rattle.block_grammar.specs.Grammar.{Item, Placed}
-use Rattle.block_grammar.specs.Meaning.{Range, rangesFrom, orWhole, idName, className}
+use Rattle.block_grammar.specs.Meaning.{PieceAt, pieceRanges, orWhole, idName, className}
 use Rattle.set_table.specs.Rows.{Put}
 use Rattle.set_table.specs.declared.Text.{Text}
 use Rattle.set_table.specs.declared.Text.the-variants as text
@@ -16,7 +16,7 @@ abbrev pub valueOf : Text → Value
 valueOf x = record { text = x }
 
 -- "a class piece is as its value": plain of a plain one, quoted of a quoted one
-abbrev pub pieceOf : (ℕ → ℕ → Text) → Range → Put
+abbrev pub pieceOf : (ℕ → ℕ → Text) → PieceAt → Put
 pieceOf kind r = Put.class (valueOf (kind (r .from) (r .to)))
 
 -- "Keys `id` and `class`, bare or valued, go to the id and the classes."
@@ -28,7 +28,7 @@ byName at k x classes =
 
 -- the value v of the key k, whose first byte stands at `from`
 unfoldable pub valued : ℕ → List ℕ → (ℕ → ℕ → Text) → ℕ → List ℕ → List Put
-valued at k kind from v = byName at k (kind from (from + length v)) (orWhole (Put.class (valueOf (kind from (from + length v)))) (map (pieceOf kind) (rangesFrom from from v)))
+valued at k kind from v = byName at k (kind from (from + length v)) (orWhole (Put.class (valueOf (kind from (from + length v)))) (map (pieceOf kind) (pieceRanges from from v)))
 
 unfoldable pub putsOf : ℕ → Item → List Put
 putsOf at (Item.tag t) = Put.key name.Lang (valueOf (text.Plain (at + 1) (at + 1 + length t))) ∷ []

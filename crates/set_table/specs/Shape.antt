@@ -9,7 +9,7 @@ use lib.ListN.{length, getD}
 use Rattle.base_lists.specs.Lists.{same, isSome}
 use Rattle.block_grammar.specs.Meaning.{idName, className}
 use Rattle.set_table.specs.Types.{Texts, nameBytes, zeroRow}
-use Rattle.set_table.specs.Rows.{Rows, Put, isThere}
+use Rattle.set_table.specs.Rows.{Rows, isThere}
 use Rattle.set_table.specs.declared.Row.{Row}
 use Rattle.set_table.specs.declared.Slot.{Slot}
 use Rattle.set_table.specs.declared.Slot.the-variants.{Id, Class, Key}
@@ -45,9 +45,3 @@ pub record Shaped (t : Texts) (s : Rows) : Type 0 where
   pub once : (x : Slot) → times x (s .order) ≡ cond (isPresent s x) 1 0
   pub free : (k : ℕ) → k < length (s .keys) → isFree (nameAt t (s .keys) k) ≡ true
   pub apart : (j k : ℕ) → j < length (s .keys) → k < length (s .keys) → same (nameAt t (s .keys) j) (nameAt t (s .keys) k) ≡ true → j ≡ k
-
--- "Keys `id` and `class` .. go to the id and the classes": no put of a key has such a name
-unfoldable pub isAllowed : Texts → Put → Bool
-isAllowed t (Put.ident v) = true
-isAllowed t (Put.class v) = true
-isAllowed t (Put.key n v) = isFree (nameBytes t n)

@@ -1,4 +1,5 @@
 // The set of a block: its id, classes and keys as ranges of a text, and the order in which they were met.
+use base_refusals::Outcome;
 ghost use mathlib.Core.Path.{_≡_};
 ghost use Rattle.base_lists.specs.Lists.{same};
 ghost use lib.ListN.{take};
@@ -56,6 +57,12 @@ pub struct Attrs {
     pub nkey: u8,
     pub order: [SlotRecord; Attrs::SLOTS],
     pub norder: u8,
+}
+
+// A set that is handed out, or the empty one and why none is.
+pub struct Filled {
+    pub outcome: Outcome,
+    pub set: Attrs,
 }
 
 impl Attrs {

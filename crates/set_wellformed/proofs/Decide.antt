@@ -1,4 +1,4 @@
--- What the loops over the rows of a table ask: how `every`, `times`, `keysApart` and `keysIn` go on from row to row, and the slots by what is there.
+-- What the loops over the rows of a table ask: how `times`, `keysApart` and `keysIn` go on from row to row, and the slots by what is there.
 -- Assumes nothing.
 use mathlib.Core.Path.{_≡_, refl, sym, _∙_}
 use mathlib.Core.Bool.{Bool, true, false, cond, not, _&&_}
@@ -11,8 +11,9 @@ use lib.Dec.{eqb, ltb}
 use lib.ListN.{length, getD, take, drop, drop-of-length-le}
 use lib.Seq.{drop-cons, getD-take, length-take-le}
 use borrow.Author.Tests.{ltb-true, ltb-false, lt-ltb, le-leb, not-true, eq-eqb, ne-eqb}
-use Rattle.base_lists.specs.Lists.{all, same, isSome}
+use Rattle.base_lists.specs.Lists.{same, isSome}
 use Rattle.base_lists.proofs.Scan.{both}
+use Rattle.base_lists.proofs.Each.{some-take, every-same}
 use Rattle.base_lists.proofs.More.{contra, same-sym}
 use Rattle.set_table.specs.Types.{Texts, zeroRow, zeroValue, zeroSlot, maxClasses, maxKeys, maxSlots}
 use Rattle.set_table.specs.Rows.{Rows, rowsIn, isThere, isNamed, hasKey, keyAt, slotIn}
@@ -22,45 +23,10 @@ use Rattle.set_table.specs.declared.Row.{Row}
 use Rattle.set_table.specs.declared.Slot.{Slot}
 use Rattle.set_table.specs.declared.Slot.the-variants.{Id, Class, Key}
 use Rattle.set_table.specs.declared.SlotRecord.{SlotRecord}
-use Rattle.set_table.specs.declared.Value.{Value}
 use Rattle.set_table.specs.declared.Attrs.{Attrs}
 use Rattle.set_table.proofs.Keys.{key-none, key-some, key-named, key-before}
 use Rattle.set_wellformed.specs.WellFormed.{countsOk, keysApart, keysOnce, slotsOk}
-use Rattle.set_wellformed.specs.Decide.{presentBy, keysIn, slotsIn}
-
--- ---- each of the first n: the answer for the rest is the answer for the whole
-pub record Each {A : Type 0} (f : A → Bool) (xs : List A) (n : ℕ) (r : Bool) (k : ℕ) : Type 0 where
-  pub long : n ≤ length xs
-  pub rest : all f (drop k (take n xs)) ≡ r
-
-pub each-start : {A : Type 0} (f : A → Bool) (xs : List A) (n : ℕ) → n ≤ length xs → Each f xs n (all f (take n xs)) 0
-each-start f xs n h = record { long = h; rest = refl }
-
-module _ {A : Type 0} {f : A → Bool} {xs : List A} {n : ℕ} {r : Bool} {k : ℕ} (inv : Each f xs n r k) (d : A) where
-  next : k < n → drop k (take n xs) ≡ getD xs k d ∷ drop (suc k) (take n xs)
-  next h = rw (← getD-take n xs k d h) (drop-cons (take n xs) k d (omega (arith, length-take-le n xs (inv .long))))
-
-  pub each-stop : k < n → f (getD xs k d) ≡ false → false ≡ r
-  unfolding all
-  each-stop h e = rw (next h, e) at (inv .rest)
-
-  pub each-go : k < n → f (getD xs k d) ≡ true → Each f xs n r (k + 1)
-  unfolding all
-  each-go h e = record { long = inv .long; rest = rw add-one (rw (next h, e) at (inv .rest)) }
-
-pub each-end : {A : Type 0} {f : A → Bool} {xs : List A} {n : ℕ} {r : Bool} {k : ℕ} → Each f xs n r k → n ≤ k → true ≡ r
-unfolding all
-each-end {xs = xs} {n = n} {k = k} inv h = rw (drop-of-length-le (take n xs) {i = k} (omega (arith, length-take-le n xs (inv .long)))) at (inv .rest)
-
-pub all-map : {A B : Type 0} (f : B → Bool) (g : A → B) (xs : List A) → all f (map g xs) ≡ all (λ x. f (g x)) xs
-unfolding all
-all-map f g [] = refl
-all-map f g (x ∷ xs) = rw (all-map f g xs)
-
-pub every-same : {A : Type 0} (f g : A → Bool) → ((x : A) → f x ≡ g x) → (xs : List A) → all f xs ≡ all g xs
-unfolding all
-every-same f g h [] = refl
-every-same f g h (x ∷ xs) = rw (h x, every-same f g h xs)
+use Rattle.set_wellformed.specs.Inner.{presentBy, keysIn, slotsIn}
 
 -- ---- how often the slot of a number stands among the first n: c so far
 pub record Timed (a : ℕ) (order : List SlotRecord) (n c k : ℕ) : Type 0 where
@@ -200,21 +166,11 @@ slots-in s = rw (every-same (isPresent s) (presentBy (isThere (s .ident)) (isSom
 
 -- of a table whose counts are within the limits
 module _ (a : Attrs) (c : a .nclass ≤ length (a .classes)) (k : a .nkey ≤ length (a .keys)) where
-  some : (cs : List Value) (n : ℕ) → n ≤ length cs → isSome (take n cs) ≡ ltb 0 n
-  some cs zero h = refl
-  some [] (suc n) h = absurd (omega arith)
-  some (v ∷ cs) (suc n) h = sym (lt-ltb 0 (suc n) (omega arith))
-
   pub slots-table : slotsOk (rowsIn a) ≡ slotsIn (map slotIn (take (a .norder) (a .order))) (isThere (a .id .id)) (ltb 0 (a .nclass)) (a .nkey)
   unfolding rowsIn
-  slots-table = rw (some (a .classes) (a .nclass) c, length-take-le (a .nkey) (a .keys) k) at (slots-in (rowsIn a))
+  slots-table = rw (some-take (a .classes) (a .nclass) c, length-take-le (a .nkey) (a .keys) k) at (slots-in (rowsIn a))
 
 -- ---- the whole table, a test at a time
 pub counts : (a : Attrs) → a .nclass ≤ maxClasses → a .nkey ≤ maxKeys → a .norder ≤ maxSlots → countsOk a ≡ true
 unfolding countsOk
 counts a c k o = rw (le-leb (a .nclass) maxClasses c, le-leb (a .nkey) maxKeys k, le-leb (a .norder) maxSlots o)
-
--- one more at most
-pub one-le : {m : ℕ} (b : Bool) → m ≡ cond b 1 0 → m ≤ 1
-one-le true e = omega arith
-one-le false e = omega arith

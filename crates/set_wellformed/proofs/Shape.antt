@@ -6,10 +6,11 @@ use mathlib.Core.List.{List, [], _∷_}
 use Prim.Native.Nat.{ℕ, zero, suc, _<_}
 use native.Mathlib.Omega.{arith}
 use lib.Dec.{ltb}
-use lib.ListN.{length, getD}
-use borrow.Author.Tests.{ltb-true, ltb-false, eqb-true, eq-eqb}
+use lib.ListN.{length}
+use borrow.Author.Tests.{ltb-true, ltb-false, eqb-true}
 use Rattle.base_lists.specs.Lists.{same, all}
 use Rattle.base_lists.proofs.Scan.{both}
+use Rattle.base_lists.proofs.Each.{all-at}
 use Rattle.base_lists.proofs.More.{contra, same-sym}
 use Rattle.text_names.specs.Names.{isKey}
 use Rattle.set_table.specs.Types.{Texts, nameBytes, zeroRow}
@@ -19,18 +20,10 @@ use Rattle.set_table.specs.declared.Attrs.{Attrs}
 use Rattle.set_table.specs.declared.Row.{Row}
 use Rattle.set_table.specs.declared.Slot.{Slot}
 use Rattle.set_table.specs.declared.Slot.the-variants.{Id, Class, Key}
-use Rattle.set_table.proofs.Slots.{slot-same, times-le, times-head}
+use Rattle.set_table.proofs.Slots.{slot-same}
 use Rattle.set_wellformed.specs.WellFormed.{countsOk, keysApart, isOnce, keysOnce, slotsOk, rowsOk, tableOk}
 use Rattle.set_values.specs.Values.{nameOk, valueOk, identOk, classOk, keyOk}
-use Rattle.set_wellformed.proofs.Decide.{apart-differ, differ-apart}
-
--- ---- every, at a place
-module _ {A : Type 0} (f : A → Bool) (d : A) where
-  pub all-at : (xs : List A) → all f xs ≡ true → (k : ℕ) → k < length xs → f (getD xs k d) ≡ true
-  unfolding all
-  all-at [] e k h = absurd (omega arith)
-  all-at (x ∷ xs) e zero h = both (f x) (all f xs) e .0
-  all-at (x ∷ xs) e (suc k) h = all-at xs (both (f x) (all f xs) e .1) k (omega arith)
+use Rattle.set_wellformed.proofs.Decide.{apart-differ}
 
 -- ---- every slot stands once where it is there, and never where it isn't
 module _ (s : Rows) where
@@ -51,11 +44,6 @@ module _ (s : Rows) where
       go : (b : Bool) → ltb k n ≡ b → (isOnce s (Key n) ≡ true) × (keysOnce s n ≡ true) → (keysOnce s n ≡ true → (k : ℕ) → k < n → isOnce s (Key k) ≡ true) → isOnce s (Key k) ≡ true
       go true q p ih = ih (p .1) k (ltb-true k n q)
       go false q p ih = let z : k ≡ n = omega (arith, ltb-false k n q) in rw z (p .0)
-
-  once-keys : ((x : Slot) → isOnce s x ≡ true) → (n : ℕ) → keysOnce s n ≡ true
-  unfolding keysOnce
-  once-keys h zero = refl
-  once-keys h (suc n) = rw (h (Key n)) (once-keys h n)
 
   pub slots-named : slotsOk s ≡ true → all (isPresent s) (s .order) ≡ true
   unfolding slotsOk
@@ -83,22 +71,6 @@ module _ (s : Rows) where
       once Class = eqb-true _ _ (classes .0)
       once (Key k) = key k (ltb k (length (s .keys))) refl
 
-  there : (f : Slot → Bool) (o : List Slot) → ((y : Slot) → 0 < times y o → f y ≡ true) → all f o ≡ true
-  unfolding all
-  there f [] h = refl
-  there f (y ∷ o) h = rw (h y (omega (arith, times-head y o))) (there f o (λ z i. h z (omega (arith, times-le z y o))))
-
-  pub once-slots : ((x : Slot) → times x (s .order) ≡ cond (isPresent s x) 1 0) → slotsOk s ≡ true
-  unfolding slotsOk
-  once-slots h = rw (there (isPresent s) (s .order) (λ y i. present y (isPresent s y) (h y) i), once Id, once Class) (once-keys once (length (s .keys)))
-    where
-      present : (y : Slot) (b : Bool) → times y (s .order) ≡ cond b 1 0 → 0 < times y (s .order) → b ≡ true
-      present y true e i = refl
-      present y false e i = absurd (omega arith)
-
-      once : (x : Slot) → isOnce s x ≡ true
-      once x = eq-eqb (times x (s .order)) (cond (isPresent s x) 1 0) (h x)
-
 -- ---- the tests of the rows, one by one
 pub record Passed (t : Texts) (s : Rows) : Type 0 where
   pub ident : identOk t (s .ident) ≡ true
@@ -116,10 +88,6 @@ rows-passed t s e =
     let d = both (keysApart t (s .keys)) (slotsOk s) (c .1) in
     record { ident = a .0; classes = b .0; keys = c .0; apart = d .0; slots = d .1 }
 
-pub passed-rows : {t : Texts} {s : Rows} → Passed t s → rowsOk t s ≡ true
-unfolding rowsOk
-passed-rows p = rw (p .ident, p .classes, p .keys, p .apart) (p .slots)
-
 -- the tests of one row
 pub record Keyed (t : Texts) (r : Row) : Type 0 where
   pub range : nameOk t (r .name) ≡ true
@@ -135,10 +103,6 @@ module _ {t : Texts} {r : Row} where
       let b = both (isKey (nameBytes t (r .name))) (isFree (nameBytes t (r .name)) && valueOk t (r .value)) (a .1) in
       let c = both (isFree (nameBytes t (r .name))) (valueOk t (r .value)) (b .1) in
       record { range = a .0; key = b .0; free = c .0; value = c .1 }
-
-  pub keyed-ok : Keyed t r → keyOk t r ≡ true
-  unfolding keyOk
-  keyed-ok k = rw (k .range, k .key, k .free) (k .value)
 
 -- ---- rows that pass are shaped
 module _ {t : Texts} {s : Rows} where
@@ -158,20 +122,7 @@ module _ {t : Texts} {s : Rows} where
       go j k i l e true q b r = contra _ (same-sym (nameAt t (s .keys) k) (nameAt t (s .keys) j) ∙ e) (differ j k (ltb-true j k q) l)
       go j k i l e false q true r = contra _ e (differ k j (ltb-true k j r) i)
       go j k i l e false q false r = omega (arith, ltb-false j k q, ltb-false k j r)
-
-  pub rows-shaped : rowsOk t s ≡ true → Shaped t s
-  rows-shaped e = passed-shaped (rows-passed t s e)
-
-  -- ---- and shaped rows pass: the id, the classes and each row of a key are left to be looked at alone
-  pub shaped-apart : Shaped t s → keysApart t (s .keys) ≡ true
-  shaped-apart h = differ-apart t (s .keys) (λ j k i l. go j k i l (same (nameAt t (s .keys) k) (nameAt t (s .keys) j)) refl)
-    where
-      go : (j k : ℕ) → j < k → k < length (s .keys) → (b : Bool) → same (nameAt t (s .keys) k) (nameAt t (s .keys) j) ≡ b → b ≡ false
-      go j k i l true q = absurd (omega (arith, h .apart k j l (omega arith) q))
-      go j k i l false q = refl
-
-  pub shaped-slots : Shaped t s → slotsOk s ≡ true
-  shaped-slots h = once-slots s (h .once)
+      -- ---- and shaped rows pass: the id, the classes and each row of a key are left to be looked at alone
 
 -- ---- of a table
 module _ (t : Texts) (a : Attrs) (e : tableOk t a ≡ true) where

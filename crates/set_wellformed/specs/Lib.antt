@@ -1,3 +1,3 @@
--- The definitions that the contracts of set_wellformed cite.
+-- The definitions that the contracts of set_wellformed cite; Inner: those of private functions alone.
 pub mod WellFormed
-pub mod Decide
+pub mod Inner

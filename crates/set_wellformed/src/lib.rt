@@ -17,7 +17,7 @@ ghost use Rattle.set_table.specs.Rows.{isThere, slotIn};
 ghost use Rattle.set_table.specs.Shape.{times, slotNumber};
 ghost use Rattle.set_values.specs.Values.{classOk, keyOk};
 ghost use Rattle.set_wellformed.specs.WellFormed.{keysApart, tableOk, wellFormed};
-ghost use Rattle.set_wellformed.specs.Decide.{presentBy, keysIn, slotsIn};
+ghost use Rattle.set_wellformed.specs.Inner.{presentBy, keysIn, slotsIn};
 
 // Whether an id is there.
 fn has_id(x: Ident) -> bool

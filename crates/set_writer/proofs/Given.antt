@@ -2,41 +2,37 @@
 -- Assumes nothing.
 use mathlib.Core.Path.{_≡_, refl, sym}
 use mathlib.Core.Bool.{true, false}
-use mathlib.Core.List.{List, [], _∷_}
-use Prim.Native.Nat.{ℕ, _<_}
+use mathlib.Core.List.{List}
+use Prim.Native.Nat.{ℕ}
 use native.Mathlib.Omega.{arith}
 use lib.ListN.{length}
-use Rattle.base_lists.specs.Lists.{isSome}
+use Rattle.base_lists.proofs.Each.{is-some}
 use Rattle.base_refusals.specs.declared.Refusal.{Refusal}
 use Rattle.base_refusals.specs.declared.Refusal.the-variants.{NotWellFormed, EmptySet}
 use Rattle.text_checks.specs.Check.{checkOf}
-use Rattle.text_checks.specs.declared.Check.{Check}
-use Rattle.text_checks.specs.declared.Check.the-variants as checks
+use Rattle.base_refusals.specs.declared.Outcome.{Outcome}
+use Rattle.base_refusals.specs.declared.Outcome.the-variants as outcome
 use Rattle.set_canon.specs.Canon.{canon}
 use Rattle.set_table.specs.Types.{one, maxSlots}
 use Rattle.set_table.specs.Rows.{meaningOf}
 use Rattle.set_table.specs.declared.Attrs.{Attrs}
 use Rattle.set_wellformed.specs.WellFormed.{tableOk}
-use Rattle.set_wellformed.proofs.Means.{none-means}
+use Rattle.set_table.proofs.Whole.{none-means}
 use Rattle.set_writer.specs.declared.Wrote.{Wrote}
 use Rattle.set_writer.specs.declared.Wrote.the-variants.{Refused}
 use Rattle.set_writer.specs.Write.{wroteOf, contentAfter, writable, attrsWrote, attrsContent}
 use Rattle.set_writer.proofs.Walks.{slots-length}
 
-is-some : {A : Type 0} (s : List A) → 0 < length s → isSome s ≡ true
-is-some [] h = absurd (omega arith)
-is-some (x ∷ s) h = refl
-
 module _ (t : List ℕ) (a : Attrs) (buf : List ℕ) where
   abbrev pub Answers : Wrote → List ℕ → Type 0
   Answers r b = (r ≡ attrsWrote t a (length buf)) × (b ≡ attrsContent t a buf)
 
-  module _ {c : Check} (e : c ≡ checkOf t) where
-    pub by-text : {why : Refusal} → c ≡ checks.Refused why → Answers (Refused why) buf
+  module _ {c : Outcome} (e : c ≡ checkOf t) where
+    pub by-text : {why : Refusal} → c ≡ outcome.Refused why → Answers (Refused why) buf
     unfolding writable attrsWrote attrsContent
     by-text q = rw (sym e, q) (refl, refl)
 
-    module _ (p : c ≡ checks.Passed) where
+    module _ (p : c ≡ outcome.Passed) where
       pub by-table : tableOk (one t) a ≡ false → Answers (Refused NotWellFormed) buf
       unfolding writable attrsWrote attrsContent
       by-table f = rw (sym e, p, f) (refl, refl)

@@ -19,7 +19,7 @@ use Rattle.base_lists.proofs.Flat.{flat-append}
 use Rattle.set_marks.proofs.Values.{escape-short, bytes-short, raw-value}
 use Rattle.set_table.specs.Types.{Texts, valueBytes}
 use Rattle.set_table.specs.declared.Value.{Value}
-use Rattle.set_writer.specs.Steps.{maxItem, put, wroteTo, leadOf, itemText, itemsText, closing}
+use Rattle.set_writer.specs.Inner.{maxItem, putIf, wroteTo, leadByte, itemText, itemsText, closingBytes}
 use Rattle.set_marks.specs.Marks.{bytesIn, rawBytes, isQuoted}
 
 more-append : (ps qs : List Pair) → moreText (ps ++ qs) ≡ moreText ps ++ moreText qs
@@ -27,7 +27,7 @@ unfolding moreText
 more-append ps qs = flat-append (λ p. 32 ∷ pairText p) ps qs
 
 items-suc : (n : ℕ) (ps : List Pair) → itemsText (suc n) ps ≡ moreText ps
-unfolding moreText flatMap pairsText leadOf
+unfolding moreText flatMap pairsText leadByte
 items-suc n [] = refl
 items-suc n (p ∷ ps) = rw (ne-eqb (suc n) 0 (λ e. omega arith))
 
@@ -35,19 +35,19 @@ pub items-append : (n : ℕ) (ps qs : List Pair) → itemsText n (ps ++ qs) ≡ 
 unfolding pairsText
 items-append n [] qs = rw add-zero
 items-append n (p ∷ ps) qs =
-    rw (add-suc, items-suc, more-append ps qs) (ap (λ (l : List ℕ). leadOf n ∷ l) (sym (append-assoc (pairText p) (moreText ps) (moreText qs))))
+    rw (add-suc, items-suc, more-append ps qs) (ap (λ (l : List ℕ). leadByte n ∷ l) (sym (append-assoc (pairText p) (moreText ps) (moreText qs))))
 
 pub items-one : (n : ℕ) (p : Pair) → itemsText n (p ∷ []) ≡ itemText n (p .name) (p .value)
 unfolding pairsText moreText flatMap
-items-one n p = ap (λ (l : List ℕ). leadOf n ∷ l) (append-nil (pairText p))
+items-one n p = ap (λ (l : List ℕ). leadByte n ∷ l) (append-nil (pairText p))
 
 -- items behind n bytes and the close
 abbrev pub textFrom : ℕ → List Pair → List ℕ
-textFrom n [] = closing n
-textFrom n (p ∷ ps) = leadOf n ∷ (pairsText (p ∷ ps) ++ (125 ∷ []))
+textFrom n [] = closingBytes n
+textFrom n (p ∷ ps) = leadByte n ∷ (pairsText (p ∷ ps) ++ (125 ∷ []))
 
 from-suc : (n : ℕ) (ps : List Pair) → textFrom (suc n) ps ≡ moreText ps ++ (125 ∷ [])
-unfolding moreText flatMap pairsText leadOf closing
+unfolding moreText flatMap pairsText leadByte closingBytes
 from-suc n [] = rw (ne-eqb (suc n) 0 (λ e. omega arith))
 from-suc n (p ∷ ps) = rw (ne-eqb (suc n) 0 (λ e. omega arith))
 
@@ -56,14 +56,14 @@ unfolding pairsText
 from-append n [] qs = rw add-zero
 from-append n (p ∷ ps) qs =
     rw (add-suc, from-suc, more-append ps qs)
-    (ap (λ (l : List ℕ). leadOf n ∷ l)
+    (ap (λ (l : List ℕ). leadByte n ∷ l)
     (append-assoc (pairText p) (moreText ps ++ moreText qs) (125 ∷ [])
     ∙ ap (λ (l : List ℕ). pairText p ++ l) (append-assoc (moreText ps) (moreText qs) (125 ∷ []))
     ∙ sym (append-assoc (pairText p) (moreText ps) (moreText qs ++ (125 ∷ [])))))
 
 -- from the front on it is the canonical text
 pub from-front : (m : List Entry) → textFrom 0 (pairs m) ≡ canon m
-unfolding canon closing pairsText leadOf
+unfolding canon closingBytes pairsText leadByte
 from-front m = go (pairs m)
   where
     go : (ps : List Pair) → textFrom 0 ps ≡ 123 ∷ (pairsText ps ++ (125 ∷ []))
@@ -71,12 +71,12 @@ from-front m = go (pairs m)
     go (p ∷ ps) = refl
 
 -- ---- the close
-pub close-none : (buf : List ℕ) (n : ℕ) → n ≡ 0 → (2 ≡ n + length (closing n)) × (set (set buf 0 123) 1 125 ≡ sets buf n (closing n))
-unfolding closing
+pub close-none : (buf : List ℕ) (n : ℕ) → n ≡ 0 → (2 ≡ n + length (closingBytes n)) × (set (set buf 0 123) 1 125 ≡ sets buf n (closingBytes n))
+unfolding closingBytes
 close-none buf n e = rw e (refl, refl)
 
-pub close-some : (buf : List ℕ) (n : ℕ) → (n ≡ 0 → ⊥) → (n + 1 ≡ n + length (closing n)) × (set buf n 125 ≡ sets buf n (closing n))
-unfolding closing
+pub close-some : (buf : List ℕ) (n : ℕ) → (n ≡ 0 → ⊥) → (n + 1 ≡ n + length (closingBytes n)) × (set buf n 125 ≡ sets buf n (closingBytes n))
+unfolding closingBytes
 close-some buf n e = rw (ne-eqb n 0 e) (refl, refl)
 
 -- ---- one item, part by part
@@ -84,14 +84,14 @@ module _ (at : ℕ) (name v : List ℕ) where
   pub item-length : length (itemText at name v) ≡ length name + length (escape v) + 4
   item-length = simp length-append (omega arith)
 
-  pub item-put : (buf : List ℕ) {b₁ b₂ : List ℕ} {lead k e : ℕ} → lead ≡ leadOf at → k ≡ at + 1 + length name → b₁ ≡ sets (set buf at lead) (at + 1) name → e ≡ k + 2 + length (escape v)
+  pub item-put : (buf : List ℕ) {b₁ b₂ : List ℕ} {lead k e : ℕ} → lead ≡ leadByte at → k ≡ at + 1 + length name → b₁ ≡ sets (set buf at lead) (at + 1) name → e ≡ k + 2 + length (escape v)
       → b₂ ≡ sets (set (set b₁ k 61) (k + 1) 34) (k + 2) (escape v) → (e + 1 ≡ at + length (itemText at name v)) × (set b₂ e 34 ≡ sets buf at (itemText at name v))
   item-put buf {b₁} {b₂} {lead} {k} {e} p q f r g =
       let a : at + 1 ≡ suc at = omega arith in
       let i : k + 1 ≡ suc k = omega arith in
       let j : k + 2 ≡ suc (suc k) = omega arith in
       let z : k ≡ suc at + length name = omega arith in
-      let c : sets buf at (itemText at name v) ≡ sets (sets (set buf at (leadOf at)) (suc at) name) (suc at + length name) (61 ∷ (34 ∷ (escape v ++ (34 ∷ [])))) = sets-append (set buf at (leadOf at)) (suc at) name (61 ∷ (34 ∷ (escape v ++ (34 ∷ [])))) in
+      let c : sets buf at (itemText at name v) ≡ sets (sets (set buf at (leadByte at)) (suc at) name) (suc at + length name) (61 ∷ (34 ∷ (escape v ++ (34 ∷ [])))) = sets-append (set buf at (leadByte at)) (suc at) name (61 ∷ (34 ∷ (escape v ++ (34 ∷ [])))) in
       let d : sets b₁ k (61 ∷ (34 ∷ (escape v ++ (34 ∷ [])))) ≡ set b₂ e 34 = sets-append (set (set b₁ k 61) (suc k) 34) (suc (suc k)) (escape v) (34 ∷ []) ∙ rw (g, r, i, j) in
       (omega (arith, item-length), sym (c ∙ rw (sym p, sym z, sym a, sym f) d))
 
@@ -105,15 +105,15 @@ module _ (at : ℕ) (name v : List ℕ) {w : List ℕ} (e : w ≡ v) where
   item-room h = rw e h
 
   pub item-written : (buf : List ℕ) {buf′ : List ℕ} {really : Bool} {r : ℕ} → length (itemText at name v) ≤ maxItem → really ≡ true → r ≡ at + length (itemText at name w) → buf′ ≡ sets buf at (itemText at name w)
-      → ((r ≡ at + length (itemText at name v)) × (r ≤ at + maxItem)) × (buf′ ≡ put really buf at (itemText at name v))
-  unfolding put
+      → ((r ≡ at + length (itemText at name v)) × (r ≤ at + maxItem)) × (buf′ ≡ putIf really buf at (itemText at name v))
+  unfolding putIf
   item-written buf {r = r} h y p g =
       let z : r ≡ at + length (itemText at name v) = rw (sym e) p in
       ((z, omega arith), rw (y, sym e) g)
 
   pub item-measured : (buf : List ℕ) {really : Bool} {n : ℕ} → length (itemText at name v) ≤ maxItem → really ≡ false → n ≡ length (escape w)
-      → ((at + length name + n + 4 ≡ at + length (itemText at name v)) × (at + length name + n + 4 ≤ at + maxItem)) × (buf ≡ put really buf at (itemText at name v))
-  unfolding put
+      → ((at + length name + n + 4 ≡ at + length (itemText at name v)) × (at + length name + n + 4 ≤ at + maxItem)) × (buf ≡ putIf really buf at (itemText at name v))
+  unfolding putIf
   item-measured buf {n = n} h y p =
       let z : at + length name + n + 4 ≡ at + length (itemText at name v) = rw (sym e) (omega (arith, item-length at name w, p)) in
       ((z, omega arith), rw y)
@@ -127,15 +127,15 @@ value-short t at name v {s} {q} h e f = item-short at name (valueBytes t v) h (r
 
 -- closing, by what is asked
 module _ (buf : List ℕ) (at : ℕ) {cap : ℕ} {really : Bool} where
-  pub close-written : really ≡ true → at + length (closing at) ≤ cap → {k : ℕ} {buf′ : List ℕ} → k ≡ at + length (closing at) → buf′ ≡ sets buf at (closing at)
-      → (Bytes k ≡ wroteTo cap (at + length (closing at))) × (buf′ ≡ put really buf at (closing at))
-  unfolding put wroteTo
-  close-written y h p q = (rw (le-leb (at + length (closing at)) cap h, p), rw (y, q))
+  pub close-written : really ≡ true → at + length (closingBytes at) ≤ cap → {k : ℕ} {buf′ : List ℕ} → k ≡ at + length (closingBytes at) → buf′ ≡ sets buf at (closingBytes at)
+      → (Bytes k ≡ wroteTo cap (at + length (closingBytes at))) × (buf′ ≡ putIf really buf at (closingBytes at))
+  unfolding putIf wroteTo
+  close-written y h p q = (rw (le-leb (at + length (closingBytes at)) cap h, p), rw (y, q))
 
-  pub close-over : really ≡ false → {k : ℕ} → k ≡ at + length (closing at) → cap < k → (Refused CanonTooLong ≡ wroteTo cap (at + length (closing at))) × (buf ≡ put really buf at (closing at))
-  unfolding put wroteTo
-  close-over y p h = (rw (lt-leb (at + length (closing at)) cap (omega arith)), rw y)
+  pub close-over : really ≡ false → {k : ℕ} → k ≡ at + length (closingBytes at) → cap < k → (Refused CanonTooLong ≡ wroteTo cap (at + length (closingBytes at))) × (buf ≡ putIf really buf at (closingBytes at))
+  unfolding putIf wroteTo
+  close-over y p h = (rw (lt-leb (at + length (closingBytes at)) cap (omega arith)), rw y)
 
-  pub close-measured : really ≡ false → {k : ℕ} → k ≡ at + length (closing at) → k ≤ cap → (Bytes k ≡ wroteTo cap (at + length (closing at))) × (buf ≡ put really buf at (closing at))
-  unfolding put wroteTo
-  close-measured y p h = (rw (le-leb (at + length (closing at)) cap (omega arith), p), rw y)
+  pub close-measured : really ≡ false → {k : ℕ} → k ≡ at + length (closingBytes at) → k ≤ cap → (Bytes k ≡ wroteTo cap (at + length (closingBytes at))) × (buf ≡ putIf really buf at (closingBytes at))
+  unfolding putIf wroteTo
+  close-measured y p h = (rw (le-leb (at + length (closingBytes at)) cap (omega arith), p), rw y)

@@ -5,4 +5,3 @@ pub mod Items
 pub mod Walks
 pub mod Room
 pub mod Given
-pub mod Numbers

@@ -16,7 +16,7 @@ use Rattle.base_refusals.specs.declared.Refusal.the-variants.{CanonTooLong}
 use Rattle.set_writer.specs.declared.Wrote.{Wrote}
 use Rattle.set_writer.specs.declared.Wrote.the-variants.{Refused, Bytes}
 use Rattle.set_writer.specs.Write.{hasRoom, wroteOf, contentAfter}
-use Rattle.set_writer.specs.Steps.{put, wroteTo}
+use Rattle.set_writer.specs.Inner.{putIf, wroteTo}
 
 module _ (xs buf : List ℕ) {cap : ℕ} (e : cap ≡ min (length buf) maxText) where
   room-yes : length xs ≤ cap → hasRoom (length buf) (length xs) ≡ true
@@ -35,9 +35,9 @@ module _ (xs buf : List ℕ) {cap : ℕ} (e : cap ≡ min (length buf) maxText) 
   front h = rw (zero-add (length xs)) at (sets-eq xs buf 0 (omega arith))
 
   -- the text was measured, and nothing written
-  module _ {r : Wrote} {b : List ℕ} (m : r ≡ wroteTo cap (length xs)) (f : b ≡ put false buf 0 xs) where
+  module _ {r : Wrote} {b : List ℕ} (m : r ≡ wroteTo cap (length xs)) (f : b ≡ putIf false buf 0 xs) where
     pub same-yet : b ≡ buf
-    unfolding put
+    unfolding putIf
     same-yet = f
 
     pub fits : {k : ℕ} → r ≡ Bytes k → length xs ≤ cap
@@ -57,6 +57,6 @@ module _ (xs buf : List ℕ) {cap : ℕ} (e : cap ≡ min (length buf) maxText) 
         go true p z = let z : _≡_ {A = ℕ} 0 1 = cc in absurd (omega arith)
         go false p z = rw (room-no (leb-false (length xs) cap p)) (sym z, same-yet)
 
-    pub written : length xs ≤ cap → {w : Wrote} {b′ : List ℕ} → w ≡ wroteTo cap (length xs) → b′ ≡ put true b 0 xs → (w ≡ wroteOf xs (length buf)) × (b′ ≡ contentAfter buf xs)
-    unfolding wroteTo wroteOf contentAfter put
+    pub written : length xs ≤ cap → {w : Wrote} {b′ : List ℕ} → w ≡ wroteTo cap (length xs) → b′ ≡ putIf true b 0 xs → (w ≡ wroteOf xs (length buf)) × (b′ ≡ contentAfter buf xs)
+    unfolding wroteTo wroteOf contentAfter putIf
     written h p q = rw (room-yes h) (rw (le-leb (length xs) cap h) at p, (rw same-yet at q) ∙ front (omega arith))

@@ -25,7 +25,7 @@ use Rattle.set_table.specs.declared.Slot.{Slot}
 use Rattle.set_table.specs.declared.Slot.the-variants.{Id, Class, Key}
 use Rattle.set_writer.specs.declared.Wrote.{Wrote}
 use Rattle.set_writer.specs.declared.Wrote.the-variants.{Refused}
-use Rattle.set_writer.specs.Steps.{maxItem, put, wroteTo, itemText, itemsText, idPairs, keyPairs, classPairs, closing}
+use Rattle.set_writer.specs.Inner.{maxItem, putIf, wroteTo, itemText, itemsText, idPairs, keyPairs, classPairs, closingBytes}
 use Rattle.set_writer.proofs.Fills.{put-nothing, Fills, fills-start, fills-end, fills-room, fills-within, fills-go}
 use Rattle.set_writer.proofs.Items.{items-append, items-one, textFrom, from-append, from-front}
 
@@ -35,14 +35,14 @@ some-item at name v = items-one at (record { name = name; value = v })
 
 -- no item, and one, as the items of a slot
 module _ (really : Bool) (buf : List ℕ) (at : ℕ) {ps : List Pair} where
-  pub no-item : ps ≡ [] → (at ≡ at + length (itemsText at ps)) × (buf ≡ put really buf at (itemsText at ps))
+  pub no-item : ps ≡ [] → (at ≡ at + length (itemsText at ps)) × (buf ≡ putIf really buf at (itemsText at ps))
   no-item e = rw e (sym (add-zero at), sym (put-nothing really buf at))
 
   module _ (name v : List ℕ) (e : ps ≡ pairsOf name (v ∷ [])) where
     pub one-room : {size : ℕ} → (really ≡ true → at + length (itemsText at ps) ≤ size) → really ≡ true → at + length (itemText at name v) ≤ size
     one-room h y = rw (e, some-item at name v) at (h y)
 
-    pub one-item : {r : ℕ} {buf′ : List ℕ} → r ≡ at + length (itemText at name v) → buf′ ≡ put really buf at (itemText at name v) → (r ≡ at + length (itemsText at ps)) × (buf′ ≡ put really buf at (itemsText at ps))
+    pub one-item : {r : ℕ} {buf′ : List ℕ} → r ≡ at + length (itemText at name v) → buf′ ≡ putIf really buf at (itemText at name v) → (r ≡ at + length (itemsText at ps)) × (buf′ ≡ putIf really buf at (itemsText at ps))
     one-item p q = rw (e, some-item at name v) (p, q)
 
 -- a key whose name is a range, and one that `:` gave
@@ -82,7 +82,7 @@ module _ (t : Texts) (really : Bool) (buf : List ℕ) (at n : ℕ) (classes : Li
   classes-start l h r = record { long = l; near = h; few = omega arith; fills = fills-start really buf at (classText t at (take n classes)) r }
 
 module _ {t : Texts} {really : Bool} {buf₀ : List ℕ} {at n : ℕ} {classes : List Value} {buf : List ℕ} {k i : ℕ} (inv : Classes t really buf₀ at n classes buf k i) where
-  pub classes-end : min n maxClasses ≤ i → (k ≡ at + length (itemsText at (classPairs t n classes))) × (buf ≡ put really buf₀ at (itemsText at (classPairs t n classes)))
+  pub classes-end : min n maxClasses ≤ i → (k ≡ at + length (itemsText at (classPairs t n classes))) × (buf ≡ putIf really buf₀ at (itemsText at (classPairs t n classes)))
   unfolding pairsOf
   classes-end h = fills-end (inv .fills) (rw (drop-of-length-le (take n classes) {i = i} (omega (arith, length-take n classes, inv .long))))
 
@@ -103,7 +103,7 @@ module _ {t : Texts} {really : Bool} {buf₀ : List ℕ} {at n : ℕ} {classes :
     classes-room = fills-room (inv .fills) now (classText t (k + length now) (drop (i + 1) (take n classes))) step
 
     pub classes-go : {k′ : ℕ} {buf′ : List ℕ} → (k′ ≡ k + length (itemText k className (valueBytes t (getD classes i zeroValue)))) × (k′ ≤ k + maxItem)
-        → buf′ ≡ put really buf k (itemText k className (valueBytes t (getD classes i zeroValue)))
+        → buf′ ≡ putIf really buf k (itemText k className (valueBytes t (getD classes i zeroValue)))
         → Classes t really buf₀ at n classes buf′ k′ (i + 1)
     classes-go {k′} {buf′} e f =
         record {
@@ -175,8 +175,8 @@ module _ (t : Texts) (a : Attrs) (really : Bool) (buf : List ℕ) (cap : ℕ) wh
 
 module _ {t : Texts} {a : Attrs} {really : Bool} {buf₀ : List ℕ} {cap : ℕ} {buf : List ℕ} {n p : ℕ} (inv : Walks t a really buf₀ cap buf n p) where
   -- more than fits was measured: nothing is written
-  pub walks-over : cap < n → (Refused CanonTooLong ≡ wroteTo cap (length (canon (meaningOf t a)))) × (buf ≡ put really buf₀ 0 (canon (meaningOf t a)))
-  unfolding wroteTo put
+  pub walks-over : cap < n → (Refused CanonTooLong ≡ wroteTo cap (length (canon (meaningOf t a)))) × (buf ≡ putIf really buf₀ 0 (canon (meaningOf t a)))
+  unfolding wroteTo putIf
   walks-over h = (rw (lt-leb (length (canon (meaningOf t a))) cap (omega (arith, inv .fills .left))), go really refl (inv .fits) (inv .fills))
     where
       go : (y : Bool) → really ≡ y → (y ≡ true → length (canon (meaningOf t a)) ≤ cap) → Fills y buf₀ 0 (canon (meaningOf t a)) buf n (textFrom n (pairs (drop p (meaningOf t a)))) → buf ≡ cond y (sets buf₀ 0 (canon (meaningOf t a))) buf₀
@@ -184,17 +184,17 @@ module _ {t : Texts} {a : Attrs} {really : Bool} {buf₀ : List ℕ} {cap : ℕ}
       go false e f z = z .same
 
   module _ (h : min (a .norder) maxSlots ≤ p) where
-    none : textFrom n (pairs (drop p (meaningOf t a))) ≡ closing n ++ []
+    none : textFrom n (pairs (drop p (meaningOf t a))) ≡ closingBytes n ++ []
     unfolding pairs flatMap
-    none = rw (drop-of-length-le (meaningOf t a) {i = p} (omega (arith, slots-length t a (inv .long)))) (sym (append-nil (closing n)))
+    none = rw (drop-of-length-le (meaningOf t a) {i = p} (omega (arith, slots-length t a (inv .long)))) (sym (append-nil (closingBytes n)))
 
-    pub close-room : cap ≤ length buf₀ → really ≡ true → (n + length (closing n) ≤ length buf) × (n + length (closing n) ≤ cap)
-    close-room l y = (fills-room (inv .fills) (closing n) [] none y, omega (arith, fills-within (inv .fills) (closing n) [] none, inv .fits y))
+    pub close-room : cap ≤ length buf₀ → really ≡ true → (n + length (closingBytes n) ≤ length buf) × (n + length (closingBytes n) ≤ cap)
+    close-room l y = (fills-room (inv .fills) (closingBytes n) [] none y, omega (arith, fills-within (inv .fills) (closingBytes n) [] none, inv .fits y))
 
-    pub walks-end : {r : Wrote} {buf′ : List ℕ} → r ≡ wroteTo cap (n + length (closing n)) → buf′ ≡ put really buf n (closing n)
-        → (r ≡ wroteTo cap (length (canon (meaningOf t a)))) × (buf′ ≡ put really buf₀ 0 (canon (meaningOf t a)))
+    pub walks-end : {r : Wrote} {buf′ : List ℕ} → r ≡ wroteTo cap (n + length (closingBytes n)) → buf′ ≡ putIf really buf n (closingBytes n)
+        → (r ≡ wroteTo cap (length (canon (meaningOf t a)))) × (buf′ ≡ putIf really buf₀ 0 (canon (meaningOf t a)))
     walks-end e f =
-        let z = fills-end (fills-go (inv .fills) (closing n) [] none refl f) refl in
+        let z = fills-end (fills-go (inv .fills) (closingBytes n) [] none refl f) refl in
         (e ∙ ap (wroteTo cap) (z .0 ∙ zero-add (length (canon (meaningOf t a)))), z .1)
 
   module _ {ps : List Pair} (h : p < min (a .norder) maxSlots) (e : ps ≡ slotPairs t a (getD (a .order) p zeroSlot .slot)) where
@@ -204,7 +204,7 @@ module _ {t : Texts} {a : Attrs} {really : Bool} {buf₀ : List ℕ} {cap : ℕ}
     pub walks-room : really ≡ true → n + length (itemsText n ps) ≤ length buf
     walks-room = fills-room (inv .fills) (itemsText n ps) (textFrom (n + length (itemsText n ps)) (pairs (drop (p + 1) (meaningOf t a)))) slot-step
 
-    pub walks-go : {n′ : ℕ} {buf′ : List ℕ} → n′ ≡ n + length (itemsText n ps) → buf′ ≡ put really buf n (itemsText n ps) → Walks t a really buf₀ cap buf′ n′ (p + 1)
+    pub walks-go : {n′ : ℕ} {buf′ : List ℕ} → n′ ≡ n + length (itemsText n ps) → buf′ ≡ putIf really buf n (itemsText n ps) → Walks t a really buf₀ cap buf′ n′ (p + 1)
     walks-go {n′} f g =
         record {
           long = inv .long;

@@ -9,7 +9,7 @@ use lib.Seq.{sets}
 use Rattle.set_canon.specs.Canon.{marked, escape}
 use Rattle.set_marks.specs.Marks.{bytesIn}
 use Rattle.set_marks.proofs.Values.{Stands, Ends}
-use Rattle.set_writer.specs.Steps.{put}
+use Rattle.set_writer.specs.Inner.{putIf}
 use Rattle.set_writer.proofs.Fills.{Fills, fills-start, fills-end, fills-room, fills-go}
 
 -- ---- writing: the bytes with their backslashes
@@ -21,7 +21,7 @@ writes-start buf at q s h = record { fills = fills-start true buf at (escape (by
 
 module _ {buf₀ : List ℕ} {at : ℕ} {q : Bool} {s buf : List ℕ} {k i : ℕ} (inv : Writes buf₀ at q s buf k i) where
   pub writes-end : Ends q s i → (k ≡ at + length (escape (bytesIn q s))) × (buf ≡ sets buf₀ at (escape (bytesIn q s)))
-  unfolding put
+  unfolding putIf
   writes-end p = fills-end (inv .fills) (p .rest)
 
   module _ {b next : ℕ} (p : Stands q s i b next) where
@@ -29,5 +29,5 @@ module _ {buf₀ : List ℕ} {at : ℕ} {q : Bool} {s buf : List ℕ} {k i : ℕ
     writes-room = fills-room (inv .fills) (marked b) (escape (bytesIn q (drop next s))) (p .rest) refl
 
     pub writes-go : {k′ : ℕ} {buf′ : List ℕ} → k′ ≡ k + length (marked b) → buf′ ≡ sets buf k (marked b) → Writes buf₀ at q s buf′ k′ next
-    unfolding put
+    unfolding putIf
     writes-go e f = record { fills = fills-go (inv .fills) (marked b) (escape (bytesIn q (drop next s))) (p .rest) e f }

@@ -1,3 +1,3 @@
--- The definitions that the contracts of set_writer cite.
+-- The definitions that the contracts of set_writer cite; Inner: those of private functions alone.
 pub mod Write
-pub mod Steps
+pub mod Inner

@@ -1,4 +1,5 @@
 // The canonical text of a set, measured and then written into lent memory.
+use base_refusals::Outcome;
 use base_refusals::Refusal;
 use set_table::Attrs;
 use set_table::Id;
@@ -8,7 +9,6 @@ use set_table::Row;
 use set_table::Slot;
 use set_table::Text;
 use set_table::Value;
-use text_checks::Check;
 use text_escapes::Piece;
 ghost use mathlib.Core.Path.{_≡_};
 ghost use mathlib.Core.Bool.{true};
@@ -21,7 +21,7 @@ ghost use Rattle.set_table.specs.Types.{one, valueBytes, zeroRow};
 ghost use Rattle.set_table.specs.Rows.{meaningOf};
 ghost use Rattle.set_writer.specs.Write.{wroteOf, contentAfter, attrsWrote, attrsContent};
 ghost use Rattle.set_marks.specs.Marks.{bytesIn};
-ghost use Rattle.set_writer.specs.Steps.{leadOf, itemText, itemsText, closing, put, wroteTo, maxItem, maxItems, idPairs, keyPairs, classPairs};
+ghost use Rattle.set_writer.specs.Inner.{leadByte, itemText, itemsText, closingBytes, putIf, wroteTo, maxItem, maxItems, idPairs, keyPairs, classPairs};
 
 // How many bytes were written, or why none were.
 pub enum Wrote {
@@ -76,7 +76,7 @@ fn put_escaped(out: &mut [u8], at: usize, s: &[u8], quoted: bool) -> usize
 
 // The byte before an item: a brace before the first, else a space.
 fn lead(at: usize) -> u8
-    ensures { λ r. ⌜ r ≡ leadOf at ⌝ }
+    ensures { λ r. ⌜ r ≡ leadByte at ⌝ }
 {
     if at == 0 {
         return b'{';
@@ -105,7 +105,7 @@ fn item(out: &mut [u8], at: usize, name: &[u8], text: &[u8], value: Value, reall
     requires { ⌜ (at ≤ maxItems) × (length (now name) ≤ maxText) ⌝ }
     requires { ⌜ (really ≡ true → at + length (itemText at (now name) (valueBytes (one (now text)) value)) ≤ length (now out)) ⌝ }
     ensures { λ r. ⌜ (r ≡ at + length (itemText at (now (name .entry)) (valueBytes (one (now (text .entry))) value))) × (r ≤ at + maxItem) ⌝ }
-    ensures { λ r. ⌜ now (out .exit) ≡ put really (now (out .entry)) at (itemText at (now (name .entry)) (valueBytes (one (now (text .entry))) value)) ⌝ }
+    ensures { λ r. ⌜ now (out .exit) ≡ putIf really (now (out .entry)) at (itemText at (now (name .entry)) (valueBytes (one (now (text .entry))) value)) ⌝ }
 {
     let s = set_marks::raw_bytes(text, value);
     let quoted = set_marks::is_quoted(value);
@@ -120,7 +120,7 @@ fn id_item(out: &mut [u8], at: usize, text: &[u8], ident: Ident, really: bool) -
     requires { ⌜ at ≤ maxText ⌝ }
     requires { ⌜ (really ≡ true → at + length (itemsText at (idPairs (one (now text)) ident)) ≤ length (now out)) ⌝ }
     ensures { λ r. ⌜ r ≡ at + length (itemsText at (idPairs (one (now (text .entry))) ident)) ⌝ }
-    ensures { λ r. ⌜ now (out .exit) ≡ put really (now (out .entry)) at (itemsText at (idPairs (one (now (text .entry))) ident)) ⌝ }
+    ensures { λ r. ⌜ now (out .exit) ≡ putIf really (now (out .entry)) at (itemsText at (idPairs (one (now (text .entry))) ident)) ⌝ }
 {
     let id = ident.id;
     match id {
@@ -134,7 +134,7 @@ fn key_item(out: &mut [u8], at: usize, text: &[u8], row: Row, really: bool) -> u
     requires { ⌜ at ≤ maxText ⌝ }
     requires { ⌜ (really ≡ true → at + length (itemsText at (keyPairs (one (now text)) row)) ≤ length (now out)) ⌝ }
     ensures { λ r. ⌜ r ≡ at + length (itemsText at (keyPairs (one (now (text .entry))) row)) ⌝ }
-    ensures { λ r. ⌜ now (out .exit) ≡ put really (now (out .entry)) at (itemsText at (keyPairs (one (now (text .entry))) row)) ⌝ }
+    ensures { λ r. ⌜ now (out .exit) ≡ putIf really (now (out .entry)) at (itemsText at (keyPairs (one (now (text .entry))) row)) ⌝ }
 {
     let name = row.name;
     match name {
@@ -162,7 +162,7 @@ fn class_items(
     requires { ⌜ at ≤ maxText ⌝ }
     requires { ⌜ (really ≡ true → at + length (itemsText at (classPairs (one (now text)) n classes)) ≤ length (now out)) ⌝ }
     ensures { λ r. ⌜ r ≡ at + length (itemsText at (classPairs (one (now (text .entry))) n classes)) ⌝ }
-    ensures { λ r. ⌜ now (out .exit) ≡ put really (now (out .entry)) at (itemsText at (classPairs (one (now (text .entry))) n classes)) ⌝ }
+    ensures { λ r. ⌜ now (out .exit) ≡ putIf really (now (out .entry)) at (itemsText at (classPairs (one (now (text .entry))) n classes)) ⌝ }
 {
     let many = least(n, Attrs::CLASSES);
     let mut k = at;
@@ -177,9 +177,9 @@ fn class_items(
 
 // Writes what closes the text behind `at` bytes.
 fn put_close(out: &mut [u8], at: usize) -> usize
-    requires { ⌜ at + length (closing at) ≤ length (now out) ⌝ }
-    ensures { λ r. ⌜ r ≡ at + length (closing at) ⌝ }
-    ensures { λ r. ⌜ now (out .exit) ≡ sets (now (out .entry)) at (closing at) ⌝ }
+    requires { ⌜ at + length (closingBytes at) ≤ length (now out) ⌝ }
+    ensures { λ r. ⌜ r ≡ at + length (closingBytes at) ⌝ }
+    ensures { λ r. ⌜ now (out .exit) ≡ sets (now (out .entry)) at (closingBytes at) ⌝ }
 {
     if at == 0 {
         out[0] = b'{';
@@ -193,7 +193,7 @@ fn put_close(out: &mut [u8], at: usize) -> usize
 // Where the text ends that is closed behind `at` bytes.
 fn close_end(at: usize) -> usize
     requires { ⌜ at ≤ maxText ⌝ }
-    ensures { λ r. ⌜ r ≡ at + length (closing at) ⌝ }
+    ensures { λ r. ⌜ r ≡ at + length (closingBytes at) ⌝ }
 {
     if at == 0 {
         return 2;
@@ -204,9 +204,9 @@ fn close_end(at: usize) -> usize
 // Closes the text, or only measures it.
 fn close(out: &mut [u8], at: usize, cap: usize, really: bool) -> Wrote
     requires { ⌜ at ≤ maxText ⌝ }
-    requires { ⌜ (really ≡ true → (at + length (closing at) ≤ length (now out)) × (at + length (closing at) ≤ cap)) ⌝ }
-    ensures { λ r. ⌜ r ≡ wroteTo cap (at + length (closing at)) ⌝ }
-    ensures { λ r. ⌜ now (out .exit) ≡ put really (now (out .entry)) at (closing at) ⌝ }
+    requires { ⌜ (really ≡ true → (at + length (closingBytes at) ≤ length (now out)) × (at + length (closingBytes at) ≤ cap)) ⌝ }
+    ensures { λ r. ⌜ r ≡ wroteTo cap (at + length (closingBytes at)) ⌝ }
+    ensures { λ r. ⌜ now (out .exit) ≡ putIf really (now (out .entry)) at (closingBytes at) ⌝ }
 {
     if really {
         return Wrote::Bytes(put_close(out, at));
@@ -235,7 +235,7 @@ fn walk(text: &[u8], set: Attrs, out: &mut [u8], cap: usize, really: bool) -> Wr
     requires { ⌜ (cap ≤ maxText) × (cap ≤ length (now out)) ⌝ }
     requires { ⌜ (really ≡ true → length (canon (meaningOf (one (now text)) set)) ≤ cap) ⌝ }
     ensures { λ r. ⌜ r ≡ wroteTo cap (length (canon (meaningOf (one (now (text .entry))) set))) ⌝ }
-    ensures { λ r. ⌜ now (out .exit) ≡ put really (now (out .entry)) 0 (canon (meaningOf (one (now (text .entry))) set)) ⌝ }
+    ensures { λ r. ⌜ now (out .exit) ≡ putIf really (now (out .entry)) 0 (canon (meaningOf (one (now (text .entry))) set)) ⌝ }
 {
     let slots = least(set.norder as usize, Attrs::SLOTS);
     let keys = least(set.nkey as usize, Attrs::KEYS);
@@ -291,8 +291,8 @@ pub fn write_attrs(text: &[u8], set: Attrs, out: &mut [u8]) -> Wrote
     ensures { λ r. ⌜ now (out .exit) ≡ attrsContent (now (text .entry)) set (now (out .entry)) ⌝ }
 {
     match text_checks::check_text(text) {
-        Check::Refused(why) => Wrote::Refused(why),
-        Check::Passed => {
+        Outcome::Refused(why) => Wrote::Refused(why),
+        Outcome::Passed => {
             if !set_wellformed::table_ok(text, set) {
                 return Wrote::Refused(Refusal::NotWellFormed);
             }

@@ -1,4 +1,4 @@
-// Writes the reports on sheets to standard output: a line for each block. Without arguments it reads a sheet from standard input; else the
+// The sheet program: it writes the report on a sheet, a line for each block. Without arguments it reads standard input; else the
 // files that its arguments name, one after the other and each under a heading, and for `-` standard input.
 use sheet_report::Part;
 use sheet_report::Told;

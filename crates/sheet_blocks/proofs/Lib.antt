@@ -3,6 +3,3 @@ pub mod Tries
 pub mod Seeks
 pub mod Goes
 pub mod Rooms
-pub mod Answers
-pub mod Order
-pub mod SetsOk

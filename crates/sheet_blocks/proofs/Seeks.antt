@@ -16,14 +16,14 @@ use Rattle.text_lines.specs.Lines.{lineFrom}
 use Rattle.text_lines.specs.declared.LineEnd.{LineEnd}
 use Rattle.text_lines.proofs.Lines.{next-beyond}
 use Rattle.run_lines.specs.Runs.{pastLines}
-use Rattle.set_fill.specs.declared.Outcome.the-variants.{Refused}
+use Rattle.base_refusals.specs.declared.Outcome.the-variants.{Refused}
 use Rattle.read_blocks.specs.Blocks.{nothing, found, joinHolds, blockBy, blockOf, sized, unread}
 use Rattle.read_lengths.specs.Lengths.{flushLeft}
 use Rattle.read_blocks.specs.declared.Block.{Block}
 use Rattle.read_blocks.proofs.Finds.{none-holds, sized-long, sized-is}
 use Rattle.sheet_blocks.specs.declared.Next.{Next}
 use Rattle.sheet_blocks.specs.Sheets.{triesAt, isBlock, onlyBlocks, joinBehind, upToBlock, firstBlock, nextOf, nextTries}
-use Rattle.sheet_blocks.specs.Steps.{mayOpen}
+use Rattle.sheet_blocks.specs.Inner.{mayOpen}
 use Rattle.sheet_blocks.proofs.Tries.{block-counted, holds-long, prose, flush, none-there, tries-end, tries-on, tries-past}
 
 -- what `read_at` answers and leaves in the join buffer

@@ -16,6 +16,7 @@ use Rattle.base_lists.specs.Lists.{all, isIn}
 use Rattle.base_lists.proofs.More.{contra, among-not}
 use Rattle.base_lists.proofs.Scan.{both}
 use Rattle.base_lists.proofs.Steady.{met}
+use Rattle.base_lists.proofs.Sets.{over-long}
 use types.Run.{OneOf}
 use Rattle.base_bytes.specs.Bytes.{isSpace, isIndent}
 use Rattle.base_refusals.specs.declared.Refusal.{Refusal}
@@ -27,17 +28,16 @@ use Rattle.text_lines.proofs.Lines.{to-from, to-next, ranges-end, ranges-at}
 use Rattle.block_payloads.specs.Payloads.{opens}
 use Rattle.block_chain.specs.Chain.{readBlocks, blocksFrom, goodLine}
 use Rattle.run_lines.specs.Runs as runs
-use Rattle.run_lines.specs.declared.Stop as stops
-use Rattle.run_lines.specs.declared.Stop.the-variants as stop
+use Rattle.base_refusals.specs.declared.Outcome as outcomes
+use Rattle.base_refusals.specs.declared.Outcome.the-variants as outcome
 use Rattle.run_lines.proofs.Bounds.{run-by, text-le}
-use Rattle.run_lines.proofs.Joining.{over-long}
 use Rattle.block_trimmed_line.specs.Fronts.{frontOf, opensAt, beginsIndented}
-use Rattle.read_blocks.specs.Blocks.{Found, nothing, closedRun, ended, runFound, found, joinedIn, linesOf, joinHolds}
+use Rattle.read_blocks.specs.Blocks.{Found, nothing, closedRun, endedRun, runFound, found, joinedIn, linesOf, joinHolds}
 use Rattle.read_lengths.specs.Lengths.{flushLeft}
 use Rattle.block_trimmed_line.proofs.Trimmed.{line-none, indent-is}
 use Rattle.read_blocks.proofs.Finds.{found-none}
 use Rattle.sheet_blocks.specs.Sheets.{Try, triesFrom, triesAt, isBlock}
-use Rattle.sheet_blocks.specs.Steps.{mayOpen}
+use Rattle.sheet_blocks.specs.Inner.{mayOpen}
 
 -- ---- each way through the tests of a block
 
@@ -64,9 +64,9 @@ module _ (P : Found → Type 0) (t : List ℕ) (at base cap : ℕ) where
       closed true e = y r refl e
       closed false e = n r refl NoReading
 
-      go : (x : stops.Stop) → P (ended r x)
-      go stop.Closed = closed (goodLine (r .text) 0 (length (r .text))) refl
-      go (stop.Refused q) = n r refl q
+      go : (x : outcomes.Outcome) → P (endedRun r x)
+      go outcome.Passed = closed (goodLine (r .text) 0 (length (r .text))) refl
+      go (outcome.Refused q) = n r refl q
 
 module _ (P : Found → Type 0) (t : List ℕ) (at cap : ℕ) where
   pub flush-by : P (nothing NothingThere) → P (found t at 0 cap) → P (flushLeft t cap at)
@@ -76,10 +76,6 @@ module _ (P : Found → Type 0) (t : List ℕ) (at cap : ℕ) where
       go : (b : Bool) → P (cond b (nothing NothingThere) (found t at 0 cap))
       go true = n
       go false = f
-
--- a block isn't indented
-pub flush-is : (t : List ℕ) (at cap : ℕ) → isBlock (flushLeft t cap at) ≡ true → flushLeft t cap at ≡ found t at 0 cap
-flush-is t at cap = flush-by (λ f. isBlock f ≡ true → f ≡ found t at 0 cap) t at cap (λ e. contra false e refl) (λ e. refl)
 
 -- ---- a block has a line
 

@@ -1,3 +1,3 @@
 -- The definitions that the contracts of sheet_blocks cite.
 pub mod Sheets
-pub mod Steps
+pub mod Inner

@@ -3,8 +3,8 @@ use Prim.Native.Nat.{ℕ, zero, suc, _-_}
 use mathlib.Core.Bool.{Bool, true, false, cond}
 use mathlib.Core.List.{List, [], _∷_, foldl}
 use lib.Dec.{ltb}
-use lib.ListN.{length, drop}
-use Rattle.base_refusals.specs.Numbers.{maxText}
+use lib.ListN.{drop}
+use Rattle.base_refusals.specs.Numbers.{maxText, tooLong}
 use Rattle.base_refusals.specs.declared.Refusal.{Refusal}
 use Rattle.base_refusals.specs.declared.Refusal.the-variants.{TextTooLong, NothingThere, JoinFull}
 use Rattle.text_lines.specs.Lines.{rangesFrom, ranges}
@@ -74,10 +74,10 @@ firstBlock t at (x ∷ xs) = record { skipped = x .line; at = x .at; block = blo
 -- that read whole sheets are lent such a join buffer and answer 9, right after 2, for a shorter one" (2 is for the caller to ask)
 unfoldable pub nextOf : List ℕ → ℕ → ℕ → Next
 nextOf t cap at =
-    cond (ltb maxText (length t)) (nowhere TextTooLong at)
+    cond (tooLong t) (nowhere TextTooLong at)
     (cond (ltb cap maxText) (nowhere JoinFull at)
     (firstBlock t at (onlyBlocks (triesAt t cap 0 at))))
 
 -- the tries that are made for it
 unfoldable pub nextTries : List ℕ → ℕ → ℕ → List Try
-nextTries t cap at = cond (ltb maxText (length t)) [] (cond (ltb cap maxText) [] (upToBlock (triesAt t cap 0 at)))
+nextTries t cap at = cond (tooLong t) [] (cond (ltb cap maxText) [] (upToBlock (triesAt t cap 0 at)))

@@ -1,7 +1,7 @@
 // The blocks of a sheet, one after the other.
+use base_refusals::Outcome;
 use base_refusals::Refusal;
 use read_blocks::Block;
-use set_fill::Outcome;
 use set_table::Attrs;
 ghost use mathlib.Core.Bool.{not};
 ghost use mathlib.Core.Path.{_≡_};
@@ -10,9 +10,9 @@ ghost use lib.ListN.{length, drop};
 ghost use Rattle.text_lines.specs.Lines.{beforeLf};
 ghost use Rattle.sheet_blocks.specs.Sheets.{joinBehind, nextOf, nextTries};
 ghost use Rattle.base_refusals.specs.declared.Refusal.the-variants.{JoinFull};
-ghost use Rattle.set_fill.specs.declared.Outcome.the-variants.{Refused};
+ghost use Rattle.base_refusals.specs.declared.Outcome.the-variants.{Refused};
 ghost use Rattle.read_blocks.specs.Blocks.{blockBy};
-ghost use Rattle.sheet_blocks.specs.Steps.{mayOpen};
+ghost use Rattle.sheet_blocks.specs.Inner.{mayOpen};
 
 // The next block: how many lines are gone past before it, where its first line begins, and what it reads. With no block `block.lines` is 0.
 pub struct Next {

@@ -71,8 +71,3 @@ decimal-le n m h l = omega (arith, decimal-length n, places-le n m h l)
 pub decimal-is : (n k : ℕ) → Fewest 10 1 n k → digits 10 k n ≡ decimal n
 unfolding decimal
 decimal-is n k f = rw (fewest-is n k f)
-
--- the kit's own words: the last k digits, where k is the fewest that hold n
-pub decimal-digits : (n : ℕ) → (k : ℕ) × ((decimal n ≡ digits 10 k n) × Fewest 10 1 n k)
-unfolding decimal
-decimal-digits n = (places n, (refl, fewest n))

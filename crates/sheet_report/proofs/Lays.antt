@@ -12,6 +12,7 @@ use lib.ListN.{length, take, drop, length-append}
 use lib.Seq.{take-append-seam}
 use Rattle.base_lists.specs.Lists.{over}
 use Rattle.base_lists.proofs.More.{contra}
+use Rattle.base_lists.proofs.Sets.{over-long}
 use Rattle.base_refusals.specs.Numbers.{maxText}
 use Rattle.block_chain.specs.Chain.{readBlocks, blocksFrom, goodLine}
 use Rattle.base_refusals.specs.declared.Refusal.{Refusal}
@@ -19,9 +20,9 @@ use Rattle.set_canon.specs.Canon.{canon}
 use Rattle.set_table.specs.Types.{one, textOver}
 use Rattle.set_table.specs.Rows.{meaningOf}
 use Rattle.set_table.specs.declared.Attrs.{Attrs}
-use Rattle.set_fill.specs.declared.Outcome as outcomes
-use Rattle.set_fill.specs.declared.Outcome.the-variants as outcome
-use Rattle.run_lines.proofs.Joining.{over-long, over-sets}
+use Rattle.base_refusals.specs.declared.Outcome as outcomes
+use Rattle.base_refusals.specs.declared.Outcome.the-variants as outcome
+use Rattle.run_lines.proofs.Joining.{over-sets}
 use Rattle.read_blocks.specs.Blocks.{Found, joinedIn, textIn, joinHolds, blockOf}
 use Rattle.read_lengths.specs.Lengths.{flushLeft}
 use Rattle.sheet_blocks.specs.declared.Next.{Next}
@@ -33,41 +34,41 @@ use Rattle.sheet_report.specs.declared.Told.{Told}
 use Rattle.sheet_report.specs.declared.Told.the-variants.{More, Done}
 use Rattle.sheet_report.specs.declared.Part.{Part}
 use Rattle.sheet_report.specs.Report.{refusedLine, canonLine, lineBy, blockLine}
-use Rattle.sheet_report.specs.Parts.{maxLine, Laid, ended, stopped, behind, tryLine, layFrom, shown}
-use Rattle.sheet_report.specs.Steps.{Put}
+use Rattle.sheet_report.specs.Parts.{maxLine, Laid, laidNone, stopped, laidBehind, tryLine, layFrom, shownPart}
+use Rattle.sheet_report.specs.Inner.{PutAt}
 use Rattle.sheet_report.proofs.Laying.{line-le}
 
 -- ---- tries gone past, where the longest line has room
 
 module _ (t : List ℕ) {room : ℕ} (h : maxLine ≤ room) where
-  pub lay-on : (x : Try) (xs : List Try) → isBlock (x .found) ≡ false → layFrom t room (x ∷ xs) ≡ behind (x ∷ []) [] (layFrom t room xs)
+  pub lay-on : (x : Try) (xs : List Try) → isBlock (x .found) ≡ false → layFrom t room (x ∷ xs) ≡ laidBehind (x ∷ []) [] (layFrom t room xs)
   unfolding layFrom tryLine
   lay-on x xs e = rw (le-ltb room maxLine h, e, sub-zero room)
 
-  pub lay-here : (x : Try) (xs : List Try) → isBlock (x .found) ≡ true → layFrom t room (x ∷ xs) ≡ behind (x ∷ []) (blockLine t x) (layFrom t (room - length (blockLine t x)) xs)
+  pub lay-here : (x : Try) (xs : List Try) → isBlock (x .found) ≡ true → layFrom t room (x ∷ xs) ≡ laidBehind (x ∷ []) (blockLine t x) (layFrom t (room - length (blockLine t x)) xs)
   unfolding layFrom tryLine
   lay-here x xs e = rw (le-ltb room maxLine h, e)
 
-  lay-none : (xs : List Try) → onlyBlocks xs ≡ [] → layFrom t room xs ≡ behind xs [] (ended Done)
+  lay-none : (xs : List Try) → onlyBlocks xs ≡ [] → layFrom t room xs ≡ laidBehind xs [] (laidNone Done)
   unfolding onlyBlocks layFrom
   lay-none [] e = refl
   lay-none (x ∷ xs) e = go (isBlock (x .found)) refl e (lay-none xs)
     where
-      go : (b : Bool) → isBlock (x .found) ≡ b → cond b (x ∷ onlyBlocks xs) (onlyBlocks xs) ≡ [] → (onlyBlocks xs ≡ [] → layFrom t room xs ≡ behind xs [] (ended Done))
-          → layFrom t room (x ∷ xs) ≡ behind (x ∷ xs) [] (ended Done)
+      go : (b : Bool) → isBlock (x .found) ≡ b → cond b (x ∷ onlyBlocks xs) (onlyBlocks xs) ≡ [] → (onlyBlocks xs ≡ [] → layFrom t room xs ≡ laidBehind xs [] (laidNone Done))
+          → layFrom t room (x ∷ xs) ≡ laidBehind (x ∷ xs) [] (laidNone Done)
       go true b e ih = let z : _≡_ {A = ℕ} 0 1 = cc in absurd (omega arith)
-      go false b e ih = lay-on x xs b ∙ ap (behind (x ∷ []) []) (ih e)
+      go false b e ih = lay-on x xs b ∙ ap (laidBehind (x ∷ []) []) (ih e)
 
-  lay-first : (xs zs : List Try) {y : Try} {ys : List Try} → onlyBlocks xs ≡ y ∷ ys → layFrom t room (upToBlock xs ++ zs) ≡ behind (upToBlock xs) (blockLine t y) (layFrom t (room - length (blockLine t y)) zs)
+  lay-first : (xs zs : List Try) {y : Try} {ys : List Try} → onlyBlocks xs ≡ y ∷ ys → layFrom t room (upToBlock xs ++ zs) ≡ laidBehind (upToBlock xs) (blockLine t y) (layFrom t (room - length (blockLine t y)) zs)
   unfolding onlyBlocks upToBlock
   lay-first [] zs e = let z : _≡_ {A = ℕ} 0 1 = cc in absurd (omega arith)
   lay-first (x ∷ xs) zs {y} {ys} e = go (isBlock (x .found)) refl e (lay-first xs zs)
     where
       go : (b : Bool) → isBlock (x .found) ≡ b → cond b (x ∷ onlyBlocks xs) (onlyBlocks xs) ≡ y ∷ ys
-          → (onlyBlocks xs ≡ y ∷ ys → layFrom t room (upToBlock xs ++ zs) ≡ behind (upToBlock xs) (blockLine t y) (layFrom t (room - length (blockLine t y)) zs))
-          → layFrom t room (x ∷ (cond b [] (upToBlock xs) ++ zs)) ≡ behind (x ∷ cond b [] (upToBlock xs)) (blockLine t y) (layFrom t (room - length (blockLine t y)) zs)
+          → (onlyBlocks xs ≡ y ∷ ys → layFrom t room (upToBlock xs ++ zs) ≡ laidBehind (upToBlock xs) (blockLine t y) (layFrom t (room - length (blockLine t y)) zs))
+          → layFrom t room (x ∷ (cond b [] (upToBlock xs) ++ zs)) ≡ laidBehind (x ∷ cond b [] (upToBlock xs)) (blockLine t y) (layFrom t (room - length (blockLine t y)) zs)
       go true b e ih = let z : x ≡ y = cc in rw (← z) (lay-here x zs b)
-      go false b e ih = lay-on x (upToBlock xs ++ zs) b ∙ ap (behind (x ∷ []) []) (ih e)
+      go false b e ih = lay-on x (upToBlock xs ++ zs) b ∙ ap (laidBehind (x ∷ []) []) (ih e)
 
 -- where it has none, the next call goes on at the line that was to be tried
 pub lay-stop : (t : List ℕ) (cap n at : ℕ) {room : ℕ} → at < length t → room < maxLine → layFrom t room (triesAt t cap n at) ≡ stopped (try t cap n at)
@@ -116,10 +117,10 @@ joined-text t cap at =
 -- ---- the line of a block, by its outcome and by the text that its set is over
 
 module _ (n k : ℕ) (t join : List ℕ) (joined : ℕ) (a : Attrs) {o : outcomes.Outcome} {at end : ℕ} {out out′ : List ℕ} where
-  pub of-refused : {why : Refusal} → o ≡ outcome.Refused why → Put out at (refusedLine n k why) end out′ → Put out at (lineBy n k (textOver t join joined) a o) end out′
+  pub of-refused : {why : Refusal} → o ≡ outcome.Refused why → PutAt out at (refusedLine n k why) end out′ → PutAt out at (lineBy n k (textOver t join joined) a o) end out′
   of-refused e p = rw e p
 
-  pub of-done : {w : List ℕ} → o ≡ outcome.Done → w ≡ textOver t join joined → Put out at (canonLine n k (canon (meaningOf (one w) a))) end out′ → Put out at (lineBy n k (textOver t join joined) a o) end out′
+  pub of-done : {w : List ℕ} → o ≡ outcome.Passed → w ≡ textOver t join joined → PutAt out at (canonLine n k (canon (meaningOf (one w) a))) end out′ → PutAt out at (lineBy n k (textOver t join joined) a o) end out′
   of-done e f p = rw (e, ← f) p
 
 -- ---- the loop
@@ -137,7 +138,7 @@ pub record Lays (t join₀ out₀ : List ℕ) (R : Laid) (join out : List ℕ) (
   pub counted : k ≡ length done
   pub joins : join ≡ joinBehind join₀ past
   pub content : out ≡ over done out₀
-  pub rest : R ≡ behind past done (layFrom t (length out₀ - k) (triesAt t (length join₀) line at))
+  pub rest : R ≡ laidBehind past done (layFrom t (length out₀ - k) (triesAt t (length join₀) line at))
 
 module _ (t join out : List ℕ) (at line : ℕ) where
   pub lays-start : length t ≤ maxText → at ≤ length t → line ≤ at + 1 → maxText ≤ length join → Lays t join out (layFrom t (length out) (triesAt t maxText line at)) join out at line 0
@@ -160,14 +161,14 @@ module _ (t join out : List ℕ) (at line : ℕ) where
 
 -- what is promised
 abbrev pub Tells : List ℕ → List ℕ → Laid → Part → List ℕ → List ℕ → Type 0
-Tells join₀ out₀ R p join out = (p ≡ shown R) × ((join ≡ joinBehind join₀ (R .past)) × (out ≡ over (R .text) out₀))
+Tells join₀ out₀ R p join out = (p ≡ shownPart R) × ((join ≡ joinBehind join₀ (R .past)) × (out ≡ over (R .text) out₀))
 
 module _ {t join₀ out₀ : List ℕ} {R : Laid} {join out : List ℕ} {at line k : ℕ} (inv : Lays t join₀ out₀ R join out at line k) where
   pub lays-long : length out ≡ length out₀
   lays-long = rw (inv .content) (over-long (inv .done) out₀ (omega (arith, inv .room, inv .counted)))
 
   -- nothing more is laid, and ys are gone past
-  ends-so : (ys : List Try) (a : Told) (m n : ℕ) {join′ : List ℕ} → R ≡ behind (inv .past) (inv .done) (behind ys [] (record { told = a; text = []; past = []; at = m; line = n }))
+  ends-so : (ys : List Try) (a : Told) (m n : ℕ) {join′ : List ℕ} → R ≡ laidBehind (inv .past) (inv .done) (laidBehind ys [] (record { told = a; text = []; past = []; at = m; line = n }))
       → join′ ≡ joinBehind join ys → Tells join₀ out₀ R (record { told = a; len = k; at = m; line = n }) join′ out
   ends-so ys a m n e j =
       rw (e, append-nil (inv .done), append-nil ys)
@@ -240,7 +241,7 @@ module _ {t join₀ out₀ : List ℕ} {R : Laid} {join out : List ℕ} {at line
         line-is = rw (goes .read, text-is)
 
         pub lays-go : {k′ : ℕ} {out′ : List ℕ}
-            → Put out k (lineBy (line + r .skipped) (r .block .lines) (textOver t join′ (r .block .joined)) (r .block .set) (r .block .outcome)) k′ out′
+            → PutAt out k (lineBy (line + r .skipped) (r .block .lines) (textOver t join′ (r .block .joined)) (r .block .set) (r .block .outcome)) k′ out′
             → Lays t join₀ out₀ R join′ out′ (r .block .next) (line + r .skipped + r .block .lines) k′
         lays-go {k′} {out′} p =
             record {
@@ -255,7 +256,7 @@ module _ {t join₀ out₀ : List ℕ} {R : Laid} {join out : List ℕ} {at line
               counted = omega (arith, ends, inv .counted, length-append (inv .done) L);
               joins = joined-so ∙ rw (inv .joins) (sym (join-append join₀ (inv .past) gone));
               content = (rw line-is at (p .content)) ∙ rw (inv .content, inv .counted) (over-sets (inv .done) L out₀ (omega (arith, short, has-room, inv .counted)));
-              rest = inv .rest ∙ ap (behind (inv .past) (inv .done)) step ∙ rw (append-assoc (inv .done), append-assoc (inv .past));
+              rest = inv .rest ∙ ap (laidBehind (inv .past) (inv .done)) step ∙ rw (append-assoc (inv .done), append-assoc (inv .past));
             }
           where
             short : length L ≤ maxLine
@@ -267,5 +268,5 @@ module _ {t join₀ out₀ : List ℕ} {R : Laid} {join out : List ℕ} {at line
             left : length out₀ - k - length L ≡ length out₀ - k′
             left = omega (arith, ends)
 
-            step : layFrom t (length out₀ - k) (triesAt t (length join₀) line at) ≡ behind gone L (layFrom t (length out₀ - k′) (triesAt t (length join₀) (line + r .skipped + r .block .lines) (r .block .next)))
+            step : layFrom t (length out₀ - k) (triesAt t (length join₀) line at) ≡ laidBehind gone L (layFrom t (length out₀ - k′) (triesAt t (length join₀) (line + r .skipped + r .block .lines) (r .block .next)))
             step = ap (layFrom t (length out₀ - k)) (goes .tries line) ∙ lay-first t has-room (triesAt t (length join₀) line at) _ (goes .blocks line) ∙ rw left

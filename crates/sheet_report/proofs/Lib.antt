@@ -3,6 +3,3 @@ pub mod Decimals
 pub mod Laying
 pub mod Lays
 pub mod Entries
-pub mod Numbers
-pub mod Calls
-pub mod Said

@@ -2,4 +2,4 @@
 pub mod Decimal
 pub mod Report
 pub mod Parts
-pub mod Steps
+pub mod Inner

@@ -2,23 +2,20 @@
 use Prim.Native.Nat.{ℕ}
 use mathlib.Core.Bool.{cond}
 use mathlib.Core.List.{List, [], _∷_, _++_, flatMap}
-use lib.Dec.{ltb}
-use lib.ListN.{length}
-use Rattle.base_refusals.specs.Numbers.{maxText, numberOf}
+use Rattle.base_refusals.specs.Numbers.{tooLong, numberOf}
 use Rattle.base_refusals.specs.declared.Refusal.{Refusal}
 use Rattle.base_refusals.specs.declared.Refusal.the-variants.{CanonTooLong}
 use Rattle.text_checks.specs.Check.{checkOf}
-use Rattle.text_checks.specs.declared.Check as checks
-use Rattle.text_checks.specs.declared.Check.the-variants as check
+use Rattle.base_refusals.specs.declared.Outcome as outcomes
+use Rattle.base_refusals.specs.declared.Outcome.the-variants as outcome
 use Rattle.set_canon.specs.Canon.{canon}
 use Rattle.set_table.specs.Types.{one}
 use Rattle.set_table.specs.Rows.{meaningOf}
 use Rattle.set_table.specs.declared.Attrs.{Attrs}
-use Rattle.set_fill.specs.declared.Outcome as outcomes
-use Rattle.set_fill.specs.declared.Outcome.the-variants as outcome
-use Rattle.read_blocks.specs.Blocks.{linesOf, textIn, filledBy}
+use Rattle.read_blocks.specs.Blocks.{linesOf, textIn, filledFound}
 use Rattle.sheet_blocks.specs.Sheets.{Try, blocksOf}
 use Rattle.sheet_report.specs.Decimal.{decimal}
+use Rattle.base_bytes.specs.Bytes.{lf, tab}
 
 -- ---- a line
 
@@ -32,7 +29,7 @@ refusedWord = 114 ∷ 101 ∷ 102 ∷ 117 ∷ 115 ∷ 101 ∷ 100 ∷ []
 
 -- "parted by tabs"; "The last field runs to LF"
 unfoldable pub reportLine : List ℕ → ℕ → ℕ → List ℕ → List ℕ
-reportLine word n k last = word ++ (9 ∷ decimal n ++ (9 ∷ decimal k ++ (9 ∷ last ++ (10 ∷ []))))
+reportLine word n k last = word ++ (tab ∷ decimal n ++ (tab ∷ decimal k ++ (tab ∷ last ++ (lf ∷ []))))
 
 -- "`refused`, first line, line count, number"
 unfoldable pub refusedLine : ℕ → ℕ → Refusal → List ℕ
@@ -40,27 +37,27 @@ refusedLine n k r = reportLine refusedWord n k (decimal (numberOf r))
 
 -- "`block`, first line, line count, canonical text": 10 where the canonical text x is above the size
 unfoldable pub canonLine : ℕ → ℕ → List ℕ → List ℕ
-canonLine n k x = cond (ltb maxText (length x)) (refusedLine n k CanonTooLong) (reportLine blockWord n k x)
+canonLine n k x = cond (tooLong x) (refusedLine n k CanonTooLong) (reportLine blockWord n k x)
 
 -- "or for 6, 7 or 10 `refused`": the set is over the text t
 abbrev pub lineBy : ℕ → ℕ → List ℕ → Attrs → outcomes.Outcome → List ℕ
-lineBy n k t a outcome.Done = canonLine n k (canon (meaningOf (one t) a))
+lineBy n k t a outcome.Passed = canonLine n k (canon (meaningOf (one t) a))
 lineBy n k t a (outcome.Refused r) = refusedLine n k r
 
 -- ---- the report
 
 -- what is written for a block of the text t
 unfoldable pub blockLine : List ℕ → Try → List ℕ
-blockLine t x = lineBy (x .line) (linesOf (x .found)) (textIn t (x .found)) (filledBy t (x .at) (x .found) .set) (filledBy t (x .at) (x .found) .outcome)
+blockLine t x = lineBy (x .line) (linesOf (x .found)) (textIn t (x .found)) (filledFound t (x .at) (x .found) .set) (filledFound t (x .at) (x .found) .outcome)
 
 -- "On a block it writes ..": a line for each
 unfoldable pub reportOf : List ℕ → List Try → List ℕ
 reportOf t xs = flatMap (blockLine t) xs
 
 -- "For 1 or 2 the only output is `refused`, 0, 0, number."
-abbrev pub reportBy : List ℕ → checks.Check → List ℕ
-reportBy t (check.Refused r) = refusedLine 0 0 r
-reportBy t check.Passed = reportOf t (blocksOf t)
+abbrev pub reportBy : List ℕ → outcomes.Outcome → List ℕ
+reportBy t (outcome.Refused r) = refusedLine 0 0 r
+reportBy t outcome.Passed = reportOf t (blocksOf t)
 
 unfoldable pub report : List ℕ → List ℕ
 report t = reportBy t (checkOf t)

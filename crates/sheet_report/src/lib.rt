@@ -1,10 +1,9 @@
 // The report on a sheet: a line for each of its blocks.
+use base_refusals::Outcome;
 use base_refusals::Refusal;
 use read_blocks::Block;
-use set_fill::Outcome;
 use set_table::Attrs;
 use set_writer::Wrote;
-use text_checks::Check;
 ghost use mathlib.Core.Path.{_≡_};
 ghost use mathlib.Core.List.{_∷_};
 ghost use Prim.Native.Nat.{_+_, _≤_};
@@ -14,16 +13,17 @@ ghost use Rattle.base_refusals.specs.Numbers.{maxText};
 ghost use Rattle.set_canon.specs.Canon.{canon};
 ghost use Rattle.set_table.specs.Types.{one, textOver};
 ghost use Rattle.set_table.specs.Rows.{meaningOf};
-ghost use Rattle.set_writer.specs.Steps.{wroteTo};
+ghost use Rattle.set_writer.specs.Inner.{wroteTo};
 ghost use Rattle.sheet_blocks.specs.Sheets.{triesAt, joinBehind};
 ghost use Rattle.sheet_report.specs.declared.Told.the-variants.{Refused, More, Done};
 ghost use Rattle.sheet_report.specs.Decimal.{decimal};
 ghost use Rattle.sheet_report.specs.Report.{refusedLine, canonLine, lineBy};
-ghost use Rattle.sheet_report.specs.Parts.{maxLine, ended, layFrom, beginsLine, mayBegin, partOf, refusal, startOf, shown};
-ghost use Rattle.sheet_report.specs.Steps.{Put, front, putShort};
+ghost use Rattle.sheet_report.specs.Parts.{maxLine, laidNone, layFrom, beginsLine, mayBegin, partOf, refusal, startOf, shownPart};
+ghost use Rattle.sheet_report.specs.Inner.{PutAt, lineFront, putShort};
+ghost use Rattle.base_bytes.specs.Bytes.{tab};
 
 // No line of a report is longer: a canonical text of 65,535 bytes, and 65 for the word, two numbers of at most 20 digits, three tabs and the LF.
-pub const LINE: usize = 65600;
+pub const LINE: usize = base_refusals::MAX_TEXT + 65;
 
 // Whether the report goes on, or why nothing is laid.
 pub enum Told {
@@ -42,8 +42,8 @@ pub struct Part {
 
 // Writes a tab and a number.
 fn put_field(out: &mut [u8], at: usize, n: usize) -> usize
-    requires { ⌜ at + length (9 ∷ decimal n) ≤ length (now out) ⌝ }
-    ensures { λ r. ⌜ Put (now (out .entry)) at (9 ∷ decimal n) r (now (out .exit)) ⌝ }
+    requires { ⌜ at + length (tab ∷ decimal n) ≤ length (now out) ⌝ }
+    ensures { λ r. ⌜ PutAt (now (out .entry)) at (tab ∷ decimal n) r (now (out .exit)) ⌝ }
 {
     let mut digits = [0u8; 20];
     let k = io::decimal(n as u64, &mut digits);
@@ -54,8 +54,8 @@ fn put_field(out: &mut [u8], at: usize, n: usize) -> usize
 
 // Writes a word, the first line and the line count.
 fn put_front(out: &mut [u8], at: usize, word: &[u8], n: usize, lines: usize) -> usize
-    requires { ⌜ at + length (front (now word) n lines) ≤ length (now out) ⌝ }
-    ensures { λ r. ⌜ Put (now (out .entry)) at (front (now (word .entry)) n lines) r (now (out .exit)) ⌝ }
+    requires { ⌜ at + length (lineFront (now word) n lines) ≤ length (now out) ⌝ }
+    ensures { λ r. ⌜ PutAt (now (out .entry)) at (lineFront (now (word .entry)) n lines) r (now (out .exit)) ⌝ }
 {
     base_lists::put_bytes(out, at, word);
     let e = put_field(out, at + word.len(), n);
@@ -65,7 +65,7 @@ fn put_front(out: &mut [u8], at: usize, word: &[u8], n: usize, lines: usize) -> 
 // Lays the line of a block that is refused.
 fn lay_refused(out: &mut [u8], at: usize, n: usize, lines: usize, why: Refusal) -> usize
     requires { ⌜ at + maxLine ≤ length (now out) ⌝ }
-    ensures { λ r. ⌜ Put (now (out .entry)) at (refusedLine n lines why) r (now (out .exit)) ⌝ }
+    ensures { λ r. ⌜ PutAt (now (out .entry)) at (refusedLine n lines why) r (now (out .exit)) ⌝ }
 {
     let k = put_front(out, at, b"refused", n, lines);
     let e = put_field(out, k, base_refusals::number(why) as usize);
@@ -85,7 +85,7 @@ fn put_set(out: &mut [u8], at: usize, text: &[u8], set: Attrs) -> Wrote
 // Lays the line of a block whose set is over the text.
 fn lay_set(out: &mut [u8], at: usize, n: usize, lines: usize, text: &[u8], set: Attrs) -> usize
     requires { ⌜ at + maxLine ≤ length (now out) ⌝ }
-    ensures { λ r. ⌜ Put (now (out .entry)) at (canonLine n lines (canon (meaningOf (one (now (text .entry))) set))) r (now (out .exit)) ⌝ }
+    ensures { λ r. ⌜ PutAt (now (out .entry)) at (canonLine n lines (canon (meaningOf (one (now (text .entry))) set))) r (now (out .exit)) ⌝ }
 {
     let k = put_front(out, at, b"block", n, lines);
     out[k] = b'\t';
@@ -109,12 +109,12 @@ fn lay_block<'a>(
     block: Block,
 ) -> usize
     requires { ⌜ at + maxLine ≤ length (now out) ⌝ }
-    ensures { λ r. ⌜ Put (now (out .entry)) at (lineBy n (block .lines) (textOver (now (text .entry)) (now (join .entry)) (block .joined)) (block .set) (block .outcome)) r (now (out .exit)) ⌝ }
+    ensures { λ r. ⌜ PutAt (now (out .entry)) at (lineBy n (block .lines) (textOver (now (text .entry)) (now (join .entry)) (block .joined)) (block .set) (block .outcome)) r (now (out .exit)) ⌝ }
 {
     let outcome = block.outcome;
     match outcome {
         Outcome::Refused(why) => lay_refused(out, at, n, block.lines, why),
-        Outcome::Done => {
+        Outcome::Passed => {
             let over = set_table::text_over(text, join, block.joined);
             lay_set(out, at, n, block.lines, over, block.set)
         }
@@ -147,7 +147,7 @@ fn more(len: usize, at: usize, line: usize) -> Part
 
 // Nothing is laid.
 fn refused(why: Refusal) -> Part
-    ensures { λ r. ⌜ r ≡ shown (ended (Refused why)) ⌝ }
+    ensures { λ r. ⌜ r ≡ shownPart (laidNone (Refused why)) ⌝ }
 {
     Part {
         told: Told::Refused(why),
@@ -188,7 +188,7 @@ fn may_begin(text: &[u8], at: usize, line: usize) -> bool
 fn lay_from(text: &[u8], from: usize, first: usize, join: &mut [u8], out: &mut [u8]) -> Part
     requires { ⌜ (length (now text) ≤ maxText) × ((from ≤ length (now text)) × (first ≤ from + 1)) ⌝ }
     requires { ⌜ (maxText ≤ length (now join)) × (maxLine ≤ length (now out)) ⌝ }
-    ensures { λ r. ⌜ r ≡ shown (layFrom (now (text .entry)) (length (now (out .entry))) (triesAt (now (text .entry)) maxText first from)) ⌝ }
+    ensures { λ r. ⌜ r ≡ shownPart (layFrom (now (text .entry)) (length (now (out .entry))) (triesAt (now (text .entry)) maxText first from)) ⌝ }
     ensures { λ r. ⌜ now (join .exit) ≡ joinBehind (now (join .entry)) (layFrom (now (text .entry)) (length (now (out .entry))) (triesAt (now (text .entry)) maxText first from) .past) ⌝ }
     ensures { λ r. ⌜ now (out .exit) ≡ over (layFrom (now (text .entry)) (length (now (out .entry))) (triesAt (now (text .entry)) maxText first from) .text) (now (out .entry)) ⌝ }
 {
@@ -217,7 +217,7 @@ fn lay_from(text: &[u8], from: usize, first: usize, join: &mut [u8], out: &mut [
 
 // The report from a line on, whose place and number a call before has told; the text has passed the checks already.
 pub fn report_part(text: &[u8], at: usize, line: usize, join: &mut [u8], out: &mut [u8]) -> Part
-    ensures { λ r. ⌜ r ≡ shown (partOf (now (text .entry)) at line (length (now (join .entry))) (length (now (out .entry)))) ⌝ }
+    ensures { λ r. ⌜ r ≡ shownPart (partOf (now (text .entry)) at line (length (now (join .entry))) (length (now (out .entry)))) ⌝ }
     ensures { λ r. ⌜ now (join .exit) ≡ joinBehind (now (join .entry)) (partOf (now (text .entry)) at line (length (now (join .entry))) (length (now (out .entry))) .past) ⌝ }
     ensures { λ r. ⌜ now (out .exit) ≡ over (partOf (now (text .entry)) at line (length (now (join .entry))) (length (now (out .entry))) .text) (now (out .entry)) ⌝ }
 {
@@ -238,7 +238,7 @@ pub fn report_part(text: &[u8], at: usize, line: usize, join: &mut [u8], out: &m
 
 // The only line of a report on a text that is refused, where it has room.
 fn lay_refusal(why: Refusal, out: &mut [u8]) -> Part
-    ensures { λ r. ⌜ r ≡ shown (refusal (length (now (out .entry))) why) ⌝ }
+    ensures { λ r. ⌜ r ≡ shownPart (refusal (length (now (out .entry))) why) ⌝ }
     ensures { λ r. ⌜ now (out .exit) ≡ over (refusal (length (now (out .entry))) why .text) (now (out .entry)) ⌝ }
 {
     if out.len() < LINE {
@@ -249,12 +249,12 @@ fn lay_refusal(why: Refusal, out: &mut [u8]) -> Part
 
 // The report from the first line on; the text is checked here, once for a sheet.
 pub fn report_start(text: &[u8], join: &mut [u8], out: &mut [u8]) -> Part
-    ensures { λ r. ⌜ r ≡ shown (startOf (now (text .entry)) (length (now (join .entry))) (length (now (out .entry)))) ⌝ }
+    ensures { λ r. ⌜ r ≡ shownPart (startOf (now (text .entry)) (length (now (join .entry))) (length (now (out .entry)))) ⌝ }
     ensures { λ r. ⌜ now (join .exit) ≡ joinBehind (now (join .entry)) (startOf (now (text .entry)) (length (now (join .entry))) (length (now (out .entry))) .past) ⌝ }
     ensures { λ r. ⌜ now (out .exit) ≡ over (startOf (now (text .entry)) (length (now (join .entry))) (length (now (out .entry))) .text) (now (out .entry)) ⌝ }
 {
     match text_checks::check_text(text) {
-        Check::Refused(why) => lay_refusal(why, out),
-        Check::Passed => report_part(text, 0, 1, join, out),
+        Outcome::Refused(why) => lay_refusal(why, out),
+        Outcome::Passed => report_part(text, 0, 1, join, out),
     }
 }

@@ -4,10 +4,10 @@ mod buffers;
 mod changed;
 mod good;
 
+use base_refusals::Outcome;
 use base_refusals::Refusal;
-use set_fill::Filled;
-use set_fill::Outcome;
 use set_table::Attrs;
+use set_table::Filled;
 use set_writer::Wrote;
 
 // What lent memory holds before a call.
@@ -90,7 +90,7 @@ fn say_merged(merged: Filled) {
     let outcome = merged.outcome;
     match outcome {
         Outcome::Refused(r) => say_refused(r, merged.set),
-        Outcome::Done => say(b"yes"),
+        Outcome::Passed => say(b"yes"),
     }
 }
 

@@ -1,3 +1,2 @@
 -- The laws about the two checks.
-pub mod Numbers
 pub mod Texts

@@ -13,8 +13,8 @@ use Rattle.base_refusals.specs.Numbers.{maxText}
 use Rattle.base_refusals.specs.declared.Refusal.{Refusal}
 use Rattle.base_refusals.specs.declared.Refusal.the-variants.{TextTooLong, NotUtf8}
 use Rattle.text_checks.specs.Check.{checkOf, isText}
-use Rattle.text_checks.specs.declared.Check.{Check}
-use Rattle.text_checks.specs.declared.Check.the-variants.{Passed, Refused}
+use Rattle.base_refusals.specs.declared.Outcome.{Outcome}
+use Rattle.base_refusals.specs.declared.Outcome.the-variants.{Passed, Refused}
 
 module _ (t : List ℕ) where
   module _ (h : isText t ≡ true) where
@@ -34,7 +34,7 @@ module _ (t : List ℕ) where
   unfolding isText
   is-text h u = rw (le-leb (length t) maxText h, u)
 
-passes : Check → Bool
+passes : Outcome → Bool
 passes Passed = true
 passes (Refused r) = false
 
@@ -47,10 +47,10 @@ text-is t = go (ltb maxText (length t)) refl (isUtf8 t)
     go false e true = rw (le-leb (length t) maxText (ltb-false maxText (length t) e))
     go false e false = rw (le-leb (length t) maxText (ltb-false maxText (length t) e))
 
-pub passed : (t : List ℕ) {c : Check} → c ≡ checkOf t → c ≡ Passed → true ≡ isText t
+pub passed : (t : List ℕ) {c : Outcome} → c ≡ checkOf t → c ≡ Passed → true ≡ isText t
 unfolding passes
 passed t e q = (rw (← e, q) at (text-is t))
 
-pub refused : (t : List ℕ) {c : Check} {r : Refusal} → c ≡ checkOf t → c ≡ Refused r → false ≡ isText t
+pub refused : (t : List ℕ) {c : Outcome} {r : Refusal} → c ≡ checkOf t → c ≡ Refused r → false ≡ isText t
 unfolding passes
 refused t e q = (rw (← e, q) at (text-is t))

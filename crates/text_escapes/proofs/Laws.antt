@@ -1,17 +1,18 @@
 -- The three loops over the pieces of a text: how each goes on behind a byte, and what it has at the end.
 -- Assumes nothing.
 use mathlib.Core.Path.{_≡_, refl, sym, _∙_}
-use mathlib.Core.Bool.{Bool, true, false}
-use mathlib.Core.List.{List, [], _++_}
+use mathlib.Core.Bool.{false}
+use mathlib.Core.List.{List, _++_}
 use Prim.Native.Nat.{ℕ, _+_, _-_, _<_, _≤_, zero-le}
 use native.Mathlib.Nat.{add-zero, zero-add}
 use native.Mathlib.Omega.{arith}
 use native.Mathlib.Numerals.{add-one}
-use borrow.Author.Tests.{eq-eqb, ne-eqb, le-leb, lt-leb, leb-true, leb-false}
-use lib.Dec.{eqb, leb}
-use lib.ListN.{length, getD, take, drop, set, drop-of-length-le, length-set}
-use lib.Seq.{drop-cons, sets, sets-eq}
+use borrow.Author.Tests.{eq-eqb, ne-eqb, le-leb, lt-leb}
+use lib.Dec.{eqb}
+use lib.ListN.{length, getD, drop, set, drop-of-length-le, length-set}
+use lib.Seq.{drop-cons, sets}
 use Rattle.base_lists.specs.Lists.{same}
+use Rattle.base_lists.proofs.Same.{same-nil}
 use Rattle.text_escapes.specs.declared.Written.{Written}
 use Rattle.text_escapes.specs.declared.Written.the-variants.{Full, To}
 use Rattle.text_escapes.specs.Unescape.{unescape, fits, writtenTo, contentOf}
@@ -40,14 +41,6 @@ pub record Compares (s t : List ℕ) (k i : ℕ) : Type 0 where
 
 pub compares-start : (s t : List ℕ) → Compares s t 0 0
 compares-start s t = record { within = zero-le; rest = refl }
-
-same-nil : (k : ℕ) (t : List ℕ) → k ≤ length t → eqb k (length t) ≡ same [] (drop k t)
-unfolding same
-same-nil k t h = go (leb (length t) k) refl
-  where
-    go : (x : Bool) → leb (length t) k ≡ x → eqb k (length t) ≡ same [] (drop k t)
-    go true e = rw (drop-of-length-le t (leb-true (length t) k e)) (eq-eqb k (length t) (omega (arith, leb-true)))
-    go false e = rw (drop-cons t k 0 (leb-false (length t) k e)) (ne-eqb k (length t) (λ q. omega (arith, leb-false)))
 
 module _ {s t : List ℕ} {k i : ℕ} (inv : Compares s t k i) where
   pub compares-end : Ends s i → eqb k (length t) ≡ same (unescape s) t
@@ -109,8 +102,3 @@ module _ (buf : List ℕ) (at : ℕ) (xs : List ℕ) where
   pub room : at ≤ length buf → length xs ≤ length buf - at → {k : ℕ} {b : List ℕ} → k ≡ at + length xs → b ≡ sets buf at xs → Answers (To k) b
   unfolding fits writtenTo contentOf
   room h l p q = let e = le-leb (at + length xs) (length buf) (omega (arith, h, l)) in (rw (e, p), rw (e, q))
-
-  -- only the bytes that are counted change
-  pub content : at + length xs ≤ length buf → contentOf buf at xs ≡ take at buf ++ xs ++ drop (at + length xs) buf
-  unfolding fits contentOf
-  content h = rw (le-leb (at + length xs) (length buf) h) (sets-eq xs buf at h)

@@ -1,4 +1,3 @@
 -- What callers of text_escapes cite beyond the contracts.
 pub mod Pieces
-pub mod Rules
 pub mod Laws

@@ -144,14 +144,6 @@ pub unescape-le : (s : List ℕ) → length (unescape s) ≤ length s
 unfolding unescape
 unescape-le s = omega (arith, shorter false s)
 
--- a text without a backslash stands for itself
-pub plain : (s : List ℕ) → all (λ b. not (eqb b 92)) s ≡ true → unescape s ≡ s
-unfolding unescape unescapeFrom all
-plain [] h = refl
-plain (b ∷ s) h =
-    let g = both (not (eqb b 92)) (all (λ b. not (eqb b 92)) s) h in
-    rw (not-true (eqb b 92) (g .0), plain s (g .1))
-
 -- a test that a backslash passes can't see what is dropped
 module _ (f : ℕ → Bool) (passes : f 92 ≡ true) where
   all-from : (m : Bool) (s : List ℕ) → all f (unescapeFrom m s) ≡ all f s

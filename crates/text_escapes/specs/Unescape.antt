@@ -5,7 +5,7 @@ use mathlib.Core.List.{List, [], _∷_}
 use lib.Dec.{eqb, leb}
 use lib.ListN.{length, getD}
 use lib.Seq.{sets}
-use Rattle.base_bytes.specs.Bytes.{isPunct}
+use Rattle.base_bytes.specs.Bytes.{isPunct, backslash}
 use Rattle.text_escapes.specs.declared.Piece.{Piece}
 use Rattle.text_escapes.specs.declared.Piece.the-variants.{End, Byte}
 use Rattle.text_escapes.specs.declared.Written.{Written}
@@ -14,9 +14,9 @@ use Rattle.text_escapes.specs.declared.Written.the-variants.{Full, To}
 -- true: a backslash stands just before, and what becomes of it is open
 unfoldable pub unescapeFrom : Bool → List ℕ → List ℕ
 unescapeFrom false [] = []
-unescapeFrom true [] = 92 ∷ []
-unescapeFrom false (b ∷ s) = cond (eqb b 92) (unescapeFrom true s) (b ∷ unescapeFrom false s)
-unescapeFrom true (b ∷ s) = cond (isPunct b) (b ∷ unescapeFrom false s) (92 ∷ (b ∷ unescapeFrom false s))
+unescapeFrom true [] = backslash ∷ []
+unescapeFrom false (b ∷ s) = cond (eqb b backslash) (unescapeFrom true s) (b ∷ unescapeFrom false s)
+unescapeFrom true (b ∷ s) = cond (isPunct b) (b ∷ unescapeFrom false s) (backslash ∷ (b ∷ unescapeFrom false s))
 
 -- the text that a raw text stands for
 unfoldable pub unescape : List ℕ → List ℕ
@@ -26,7 +26,7 @@ unescape s = unescapeFrom false s
 
 -- a backslash at i has ASCII punctuation behind it
 unfoldable pub isPair : List ℕ → ℕ → Bool
-isPair s i = eqb (getD s i 0) 92 && isPunct (getD s (i + 1) 0)
+isPair s i = eqb (getD s i 0) backslash && isPunct (getD s (i + 1) 0)
 
 -- the first byte of what the raw text from i on stands for, and where the next one stands
 unfoldable pub pieceAt : List ℕ → ℕ → Piece

@@ -12,7 +12,7 @@ use Rattle.text_utf8.specs.Utf8.{isUtf8}
 use Rattle.base_refusals.specs.Numbers.{maxText}
 use Rattle.base_refusals.specs.declared.Refusal.the-variants.{TextTooLong, NotUtf8}
 use Rattle.text_checks.specs.Check.{checkOf}
-use Rattle.text_checks.specs.declared.Check.the-variants as check
+use Rattle.base_refusals.specs.declared.Outcome.the-variants as outcome
 use Rattle.text_lines.specs.Lines.{lineOf}
 use Rattle.text_line_start.specs.declared.Start.the-variants as start
 use Rattle.text_line_start.specs.Starts.{begun, startAt}
@@ -21,7 +21,7 @@ pub text-fits : (t : List ℕ) (n : ℕ) {at : ℕ} → startAt t n ≡ start.At
 unfolding startAt checkOf
 text-fits t n {at} e = go (ltb maxText (length t)) refl e
   where
-    go : (x : Bool) → ltb maxText (length t) ≡ x → begun (cond x (check.Refused TextTooLong) (cond (isUtf8 t) check.Passed (check.Refused NotUtf8))) (lineOf n t) ≡ start.At at
+    go : (x : Bool) → ltb maxText (length t) ≡ x → begun (cond x (outcome.Refused TextTooLong) (cond (isUtf8 t) outcome.Passed (outcome.Refused NotUtf8))) (lineOf n t) ≡ start.At at
         → length t ≤ maxText
     go true x e = let z : _≡_ {A = ℕ} 0 1 = cc in absurd (omega arith)
     go false x e = ltb-false maxText (length t) x

@@ -1,12 +1,14 @@
 -- Where the line of a number begins: "elsewhere 1, 2, 3, .."
 use Prim.Native.Nat.{ℕ}
-use mathlib.Core.List.{List}
+use mathlib.Core.Bool.{true}
+use mathlib.Core.List.{List, [], _∷_, _++_}
 use Rattle.base_refusals.specs.Numbers.{numberOf}
+use Rattle.base_refusals.specs.Orders.{Ground}
 use Rattle.base_refusals.specs.declared.Refusal.{Refusal}
 use Rattle.base_refusals.specs.declared.Refusal.the-variants.{NothingThere}
-use Rattle.text_checks.specs.Check.{checkOf}
-use Rattle.text_checks.specs.declared.Check as checks
-use Rattle.text_checks.specs.declared.Check.the-variants as check
+use Rattle.text_checks.specs.Check.{textOrder, checkOf}
+use Rattle.base_refusals.specs.declared.Outcome as outcomes
+use Rattle.base_refusals.specs.declared.Outcome.the-variants as outcome
 use Rattle.text_lines.specs.Lines.{lineOf}
 use Rattle.text_lines.specs.declared.Line as places
 use Rattle.text_lines.specs.declared.Line.the-variants as place
@@ -14,10 +16,10 @@ use Rattle.text_line_start.specs.declared.Start as starts
 use Rattle.text_line_start.specs.declared.Start.the-variants as start
 
 -- where the line of a number begins, or 1, 2, or 3: "no such line"
-abbrev pub begun : checks.Check → places.Line → starts.Start
-begun (check.Refused r) l = start.Refused r
-begun check.Passed place.Missing = start.Refused NothingThere
-begun check.Passed (place.At r) = start.At (r .from)
+abbrev pub begun : outcomes.Outcome → places.Line → starts.Start
+begun (outcome.Refused r) l = start.Refused r
+begun outcome.Passed place.Missing = start.Refused NothingThere
+begun outcome.Passed (place.At r) = start.At (r .from)
 
 unfoldable pub startAt : List ℕ → ℕ → starts.Start
 startAt t n = begun (checkOf t) (lineOf n t)
@@ -33,3 +35,12 @@ placeOf t n = onStart (λ r. 0) (λ at. at) (startAt t n)
 -- the number of an answer: 0 where the line begins
 abbrev pub startNo : starts.Start → ℕ
 startNo s = onStart numberOf (λ at. 0) s
+
+-- ---- "elsewhere 1, 2, 3, ..", where h is the order of the line that begins at a place
+
+abbrev pub onLine : (ℕ → List Ground) → places.Line → List Ground
+onLine h place.Missing = Ground.given NothingThere true ∷ []
+onLine h (place.At r) = h (r .from)
+
+abbrev pub lineOrder : List ℕ → ℕ → (ℕ → List Ground) → List Ground
+lineOrder t n h = textOrder t ++ onLine h (lineOf n t)

@@ -1,6 +1,6 @@
 // Where the line of a number begins.
+use base_refusals::Outcome;
 use base_refusals::Refusal;
-use text_checks::Check;
 use text_lines::Line;
 ghost use mathlib.Core.Path.{_≡_};
 ghost use Rattle.text_line_start.specs.Starts.{startAt};
@@ -16,8 +16,8 @@ pub fn line_start(text: &[u8], line: usize) -> Start
     ensures { λ r. ⌜ r ≡ startAt (now (text .entry)) line ⌝ }
 {
     match text_checks::check_text(text) {
-        Check::Refused(r) => Start::Refused(r),
-        Check::Passed => match text_lines::line_of(text, line) {
+        Outcome::Refused(r) => Start::Refused(r),
+        Outcome::Passed => match text_lines::line_of(text, line) {
             Line::Missing => Start::Refused(Refusal::NothingThere),
             Line::At(r) => Start::At(r.from),
         },

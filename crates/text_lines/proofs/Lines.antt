@@ -2,23 +2,22 @@
 -- Assumes nothing.
 use mathlib.Core.Path.{_≡_, refl, sym, _∙_, ap}
 use mathlib.Core.Bool.{Bool, true, false, cond, not}
-use mathlib.Core.List.{List, [], _∷_, map}
-use mathlib.Core.Logic.{_⊎_, inl, inr}
+use mathlib.Core.List.{List, [], _∷_}
+use mathlib.Core.Logic.{_⊎_}
 use Prim.Native.Nat.{ℕ, zero, suc, _+_, _-_, _<_, _≤_, min}
 use native.Mathlib.Nat.{add-zero}
 use native.Mathlib.Numerals.{add-one}
 use native.Mathlib.Omega.{arith}
 use borrow.Author.Tests.{ltb-true, ltb-false, eq-eqb, ne-eqb, le-ltb, lt-ltb}
 use lib.Dec.{eqb, ltb, eqb·suc-zero}
-use lib.ListN.{length, getD, drop, length-drop, length-map, drop-of-length-le}
+use lib.ListN.{length, getD, drop, length-drop, drop-of-length-le}
 use lib.Seq.{drop-cons, drop-drop, getD-drop, slice}
 use Rattle.base_lists.specs.Lists.{all}
 use Rattle.text_lines.specs.declared.Range.{Range}
 use Rattle.text_lines.specs.declared.Line.{Line}
 use Rattle.text_lines.specs.declared.Line.the-variants.{Missing, At}
 use Rattle.text_lines.specs.declared.LineEnd.{LineEnd}
-use Rattle.text_lines.specs.Lines.{onto, isDropped, lines, eol, firstOf, lineFrom, rangesFrom, ranges, bytesOf, pick, lineOf, lineNo}
-use Rattle.base_refusals.specs.Numbers.{numberOf}
+use Rattle.text_lines.specs.Lines.{onto, isDropped, lines, eol, firstOf, lineFrom, rangesFrom, ranges, bytesOf, pick, lineOf}
 use Rattle.base_lists.proofs.Parts.{slice-add, drop-min}
 use Rattle.text_lines.proofs.First.{first-cons, first-on, first-stop, rest-of, eol-le, first-le, first-take, first-whole, first-cut}
 
@@ -105,7 +104,7 @@ module _ (t : List ℕ) (at : ℕ) where
 -- ---- the lines by places
 
 -- the lines from the one that begins at n on
-abbrev after : ℕ → List ℕ → List Range
+abbrev pub after : ℕ → List ℕ → List Range
 after n s = rangesFrom n false n s
 
 none-left : (n : ℕ) → after n [] ≡ []
@@ -153,33 +152,14 @@ pub ranges-at : (t : List ℕ) (at : ℕ) → at < length t → rangesFrom at fa
 unfolding lineFrom
 ranges-at t at h = rw (← drop-drop, drop-min, drop-cons t at 0 h) (ranges-first at (getD t at 0) (drop (suc at) t) _ refl)
 
--- the two ways to say the lines of a text agree
-abbrev Agree : List ℕ → ℕ → Type 0
-Agree t at = map (bytesOf t) (after at (drop at t)) ≡ lines (drop at t)
-
-agree : (fuel : ℕ) (t : List ℕ) (at : ℕ) → length t ≤ at + fuel → Agree t at
-agree zero t at h = rw (ranges-end t at (omega arith), lines-end t at (omega arith))
-agree (suc fuel) t at h = go (ltb at (length t)) refl (agree fuel t)
-  where
-    go : (x : Bool) → ltb at (length t) ≡ x → ((k : ℕ) → length t ≤ k + fuel → Agree t k) → Agree t at
-    go false x ih = let k = ltb-false at (length t) x in rw (ranges-end t at k, lines-end t at k)
-    go true x ih = let k = ltb-true at (length t) x in rw (ranges-at t at k, line-at t at k, ih (lineFrom t at .next) (omega (arith, next-beyond t at k)))
-
-pub ranges-lines : (t : List ℕ) → map (bytesOf t) (ranges t) ≡ lines t
-unfolding ranges
-ranges-lines t = agree (length t) t 0 (omega arith)
-
-count : (t : List ℕ) → length (ranges t) ≡ length (lines t)
-count t = sym (length-map (ranges t) (bytesOf t)) ∙ ap length (ranges-lines t)
-
 -- ---- the loop of `line_of` stands before the line at `at`: the one asked for is number `left` from there on
 
-pick-zero : (ls : List Range) → pick 0 ls ≡ Missing
+pub pick-zero : (ls : List Range) → pick 0 ls ≡ Missing
 unfolding pick
 pick-zero [] = refl
 pick-zero (l ∷ ls) = refl
 
-pick-on : (n : ℕ) (l : Range) (ls : List Range) → 1 < n → pick n (l ∷ ls) ≡ pick (n - 1) ls
+pub pick-on : (n : ℕ) (l : Range) (ls : List Range) → 1 < n → pick n (l ∷ ls) ≡ pick (n - 1) ls
 unfolding pick
 pick-on zero l ls h = absurd (omega arith)
 pick-on (suc n) l ls h = let z : suc n - 1 ≡ n = omega arith in rw (ne-eqb n 0 (λ q. omega arith), z)
@@ -272,29 +252,6 @@ line-found (suc n) t r q =
       rest = rw m (z .rest);
     }
 
--- line 0 and a line past the last are missing, and no others are
-pick-past : (n : ℕ) (ls : List Range) → length ls < n → pick n ls ≡ Missing
-unfolding pick
-pick-past n [] h = refl
-pick-past n (l ∷ ls) h = pick-on n l ls (omega arith) ∙ pick-past (n - 1) ls (omega arith)
-
-pick-none : (n : ℕ) (ls : List Range) → 0 < n → pick n ls ≡ Missing → length ls < n
-unfolding pick
-pick-none n [] h e = h
-pick-none zero (l ∷ ls) h e = absurd (omega arith)
-pick-none (suc zero) (l ∷ ls) h e = let z : _≡_ {A = ℕ} 0 1 = cc in absurd (omega arith)
-pick-none (suc (suc n)) (l ∷ ls) h e = omega (arith, pick-none (suc n) ls (omega arith) (rw (eqb·suc-zero n) at e))
-
-pub line-missing : (n : ℕ) (t : List ℕ) → lineOf n t ≡ Missing → (n ≡ 0) ⊎ (length (lines t) < n)
-unfolding lineOf
-line-missing zero t q = inl refl
-line-missing (suc n) t q = inr (omega (arith, count t, pick-none (suc n) (ranges t) (omega arith) q))
-
-pub missing-line : (n : ℕ) (t : List ℕ) → (n ≡ 0) ⊎ (length (lines t) < n) → lineOf n t ≡ Missing
-unfolding lineOf
-missing-line n t (inl e) = rw e (pick-zero (ranges t))
-missing-line n t (inr h) = pick-past n (ranges t) (omega (arith, count t))
-
 -- ---- no line holds an LF
 
 abbrev NoLf : List (List ℕ) → ℕ → Type 0
@@ -315,6 +272,3 @@ no-lf (b ∷ s) n = go (eqb b 10) refl (isDropped b s) (lines s) (no-lf s) n
     go false e false (l ∷ ls) ih (suc n) = ih (suc n)
 
 -- ---- the number of an answer: 3 exactly where there is no such line
-pub line-no : (n : ℕ) (t : List ℕ) → (n ≡ 0) ⊎ (length (lines t) < n) → lineNo (lineOf n t) ≡ 3
-unfolding numberOf
-line-no n t h = rw (missing-line n t h)

@@ -9,11 +9,10 @@ use lib.Dec.{eqb, eqb·suc-zero}
 use lib.ListN.{length, getD, take, drop, length-drop}
 use lib.Seq.{take-suc, take-length, take-all, length-take-le, slice}
 use Rattle.base_lists.specs.Lists.{all, run}
-use Rattle.base_lists.proofs.Scan.{run-le}
+use Rattle.base_lists.proofs.Scan.{run-le, all-snoc, all-run}
 use Rattle.base_bytes.specs.Bytes.{isSpace}
 use Rattle.text_lines.specs.declared.Range.{Range}
 use Rattle.text_lines.specs.Trim.{trimStart, trimEnd, trim, isBlankLine, trimRange}
-use Rattle.base_lists.proofs.Scan.{all-snoc, all-run}
 use Rattle.base_lists.proofs.Parts.{slice-part, slice-add}
 
 -- ---- the front

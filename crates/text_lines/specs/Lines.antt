@@ -12,12 +12,13 @@ use Rattle.text_lines.specs.declared.Range.{Range}
 use Rattle.text_lines.specs.declared.Line.{Line}
 use Rattle.text_lines.specs.declared.Line.the-variants.{Missing, At}
 use Rattle.text_lines.specs.declared.LineEnd.{LineEnd}
+use Rattle.base_bytes.specs.Bytes.{cr, lf}
 
 -- ---- the lines of a text, as bytes
 
 -- s begins with an LF
 abbrev pub beforeLf : List ℕ → Bool
-beforeLf s = begins s 10
+beforeLf s = begins s lf
 
 -- A byte in front of the first line. Where none follows it begins one: "Text after the last LF is a line if it isn't empty."
 abbrev pub onto : ℕ → List (List ℕ) → List (List ℕ)
@@ -26,19 +27,19 @@ onto b (l ∷ ls) = (b ∷ l) ∷ ls
 
 -- is this byte a CR, with an LF behind it
 abbrev pub isDropped : ℕ → List ℕ → Bool
-isDropped b s = eqb b 13 && beforeLf s
+isDropped b s = eqb b cr && beforeLf s
 
 -- "Lines end at LF; a CR just before that LF is dropped.": at an LF a line ends, to which the bytes before are yet to come
 unfoldable pub lines : List ℕ → List (List ℕ)
 lines [] = []
-lines (b ∷ s) = cond (eqb b 10) ([] ∷ lines s) (cond (isDropped b s) (lines s) (onto b (lines s)))
+lines (b ∷ s) = cond (eqb b lf) ([] ∷ lines s) (cond (isDropped b s) (lines s) (onto b (lines s)))
 
 -- ---- the same by places
 
 -- how many bytes stand before the first LF
 unfoldable pub eol : List ℕ → ℕ
 eol [] = 0
-eol (b ∷ s) = cond (eqb b 10) 0 (suc (eol s))
+eol (b ∷ s) = cond (eqb b lf) 0 (suc (eol s))
 
 abbrev pub firstOf : List (List ℕ) → List ℕ
 firstOf [] = []
@@ -53,13 +54,13 @@ lineAt t at = firstOf (lines (drop at t))
 unfoldable pub lineFrom : List ℕ → ℕ → LineEnd
 lineFrom t at = record { to = at + length (lineAt t at); next = at + min (suc (eol (drop at t))) (length (drop at t)) }
 
--- The lines from the one that begins at `from` on, where the text goes on with the list at place `at`; cr: a CR of the line stands just
+-- The lines from the one that begins at `from` on, where the text goes on with the list at place `at`; `behindCr`: a CR of the line stands just
 -- before that place, which at a line's start there is not. A line's bytes lie from its start up to its LF, or its CR LF, or the text's end.
 unfoldable pub rangesFrom : ℕ → Bool → ℕ → List ℕ → List Range
-rangesFrom from cr at [] = cond (ltb from at) (record { from = from; to = at } ∷ []) []
-rangesFrom from cr at (b ∷ s) =
-    cond (eqb b 10) (record { from = from; to = cond cr (at - 1) at } ∷ rangesFrom (suc at) false (suc at) s)
-    (rangesFrom from (eqb b 13) (suc at) s)
+rangesFrom from behindCr at [] = cond (ltb from at) (record { from = from; to = at } ∷ []) []
+rangesFrom from behindCr at (b ∷ s) =
+    cond (eqb b lf) (record { from = from; to = cond behindCr (at - 1) at } ∷ rangesFrom (suc at) false (suc at) s)
+    (rangesFrom from (eqb b cr) (suc at) s)
 
 -- where the lines of a text lie
 unfoldable pub ranges : List ℕ → List Range

@@ -5,7 +5,7 @@ use mathlib.Core.List.{List, [], _∷_, _++_}
 use Prim.Native.Nat.{ℕ, _≤_}
 use lib.ListN.{length}
 use Rattle.base_lists.specs.Lists.{all}
-use Rattle.base_bytes.specs.Bytes.{isAlnum}
+use Rattle.base_bytes.specs.Bytes.{isAlnum, hyphen}
 
 -- "A subtag is 1 to 8 ASCII letters or digits."
 pub record Subtag (s : List ℕ) : Type 0 where
@@ -16,7 +16,7 @@ pub record Subtag (s : List ℕ) : Type 0 where
 -- "A tag is one subtag, or a subtag, a hyphen and a tag."
 pub data Tag : List ℕ → Type 0 where
   one : {s : List ℕ} → Subtag s → Tag s
-  more : {s t : List ℕ} → Subtag s → Tag t → Tag (s ++ (45 ∷ t))
+  more : {s t : List ℕ} → Subtag s → Tag t → Tag (s ++ (hyphen ∷ t))
 
 -- "`:`, then nothing or a tag."
 pub data Language : List ℕ → Type 0 where

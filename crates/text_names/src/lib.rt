@@ -102,7 +102,7 @@ fn is_size(k: usize) -> bool
     k <= 8
 }
 
-// The same as `is_tag` in a loop, a byte at a time: what readers of long texts ask, since it takes no more stack for a longer tag.
+// The same as `is_tag` in a loop, a byte at a time: for a long tag, since it takes no more stack for a longer one.
 fn is_long_tag(s: &[u8]) -> bool
     ensures { λ r. ⌜ r ≡ isTag (now (s .entry)) ⌝ }
 {
@@ -126,12 +126,18 @@ fn is_long_tag(s: &[u8]) -> bool
     is_size(k)
 }
 
+// The longest tag that is tested by recursion: its at most 256 subtags take some 48 bytes of stack each, 12 KB in all. The longest text would take 1.5 MB.
+const SHORT: usize = 512;
+
 // What may stand behind `:`: nothing, or a tag.
 pub fn is_language_tag(s: &[u8]) -> bool
     ensures { λ r. ⌜ r ≡ isLanguage (now (s .entry)) ⌝ }
 {
     if s.len() == 0 {
         return true;
+    }
+    if s.len() <= SHORT {
+        return is_tag(s);
     }
     is_long_tag(s)
 }

@@ -38,11 +38,6 @@ pub columns-append : (c : ℕ) (s t : List ℕ) → columnsFrom c (s ++ t) ≡ c
 unfolding columnsFrom
 columns-append = foldl-append columnAfter
 
-pub columns-ge : (c : ℕ) (s : List ℕ) → c ≤ columnsFrom c s
-unfolding columnsFrom
-columns-ge c [] = omega arith
-columns-ge c (b ∷ s) = omega (arith, after-ge c b, columns-ge (columnAfter c b) s)
-
 pub columns-le : (c : ℕ) (s : List ℕ) → columnsFrom c s ≤ c + 4 * length s
 unfolding columnsFrom
 columns-le c [] = omega arith

@@ -1,3 +1,2 @@
 -- What callers of text_tabs cite beyond the contracts.
 pub mod Laws
-pub mod Tabs

@@ -4,7 +4,7 @@ use mathlib.Core.Bool.{cond}
 use mathlib.Core.List.{List, [], _∷_, _++_, foldl}
 use lib.Dec.{eqb, leb}
 use lib.ListN.{replicate}
-use Rattle.base_bytes.specs.Bytes.{isIndent, isTail}
+use Rattle.base_bytes.specs.Bytes.{isIndent, isTail, space, tab}
 
 -- "a tab goes to the next multiple of 4 (CommonMark 2.2)"
 unfoldable pub tabStop : ℕ → ℕ
@@ -12,7 +12,7 @@ tabStop c = c + (4 - c % 4)
 
 -- the column behind a byte that stands at column c, or that goes on the character before it: "Columns count characters, not bytes."
 unfoldable pub columnAfter : ℕ → ℕ → ℕ
-columnAfter c b = cond (eqb b 9) (tabStop c) (cond (isTail b) c (suc c))
+columnAfter c b = cond (eqb b tab) (tabStop c) (cond (isTail b) c (suc c))
 
 -- The column behind the last byte, where the first stands at column c. (In quotes 000 gives an escape two columns whatever it escapes, a tab too:
 -- that is for the scanners of runs to say.)
@@ -39,4 +39,4 @@ capped n = cond (leb n most) n most
 
 unfoldable pub expandFrom : ℕ → List ℕ → List ℕ
 expandFrom c [] = []
-expandFrom c (b ∷ s) = cond (eqb b 9) (replicate (4 - c % 4) 32 ++ expandFrom (tabStop c) s) (b ∷ expandFrom (columnAfter c b) s)
+expandFrom c (b ∷ s) = cond (eqb b tab) (replicate (4 - c % 4) space ++ expandFrom (tabStop c) s) (b ∷ expandFrom (columnAfter c b) s)

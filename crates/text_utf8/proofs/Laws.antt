@@ -14,29 +14,29 @@ use borrow.Author.Tests.{leb-true, eqb-true, eqb-false, eq-eqb, ne-eqb, le-leb, 
 use Rattle.base_lists.proofs.Scan.{both}
 use Rattle.base_lists.proofs.Steady.{steady, values}
 use Rattle.base_bytes.specs.Bytes.{isTail, within}
-use Rattle.text_utf8.specs.Utf8.{Want, Next, isUtf8, octetsFrom, leadOf, afterOf, fresh, want, goOn, isBoundary, charCount}
-use Rattle.text_utf8.specs.Blocks.{NoneAbove, Same, Passed, Begins}
+use Rattle.text_utf8.specs.Utf8.{Want, Follows, isUtf8, octetsFrom, leadOf, afterOf, owesNone, want, goOnChar, isBoundary, charCount}
+use Rattle.text_utf8.specs.Inner.{NoneAbove, Same, PassedTo, Begins}
 
 -- ---- where nothing is owed, the range does not matter
-pub idle : (s : List ℕ) (w : Want) → w .owed ≡ 0 → octetsFrom s w ≡ octetsFrom s fresh
+pub idle : (s : List ℕ) (w : Want) → w .owed ≡ 0 → octetsFrom s w ≡ octetsFrom s owesNone
 unfolding octetsFrom afterOf
 idle [] w o = eq-eqb (w .owed) 0 o
 idle (a ∷ s) w o = rw (eq-eqb (w .owed) 0 o)
 
 -- ---- a block of ASCII is passed at once
-pub past-ascii : (a : ℕ) (s : List ℕ) → a ≤ 0x7F → octetsFrom (a ∷ s) fresh ≡ octetsFrom s fresh
+pub past-ascii : (a : ℕ) (s : List ℕ) → a ≤ 0x7F → octetsFrom (a ∷ s) owesNone ≡ octetsFrom s owesNone
 unfolding octetsFrom afterOf leadOf
 past-ascii a s h = rw (le-leb a 0x7F h)
 
 skipped : (n : ℕ) (s : List ℕ) (i : ℕ) → i + n ≤ length s → ((k : ℕ) → i ≤ k → k < i + n → getD s k 0 ≤ 0x7F)
-    → octetsFrom (drop i s) fresh ≡ octetsFrom (drop (i + n) s) fresh
+    → octetsFrom (drop i s) owesNone ≡ octetsFrom (drop (i + n) s) owesNone
 skipped zero s i h low = rw add-zero
 skipped (suc n) s i h low =
     let z : suc i + n ≡ i + suc n = omega arith in
-    ap (λ (t : List ℕ). octetsFrom t fresh) (drop-cons s i 0 (omega arith))
+    ap (λ (t : List ℕ). octetsFrom t owesNone) (drop-cons s i 0 (omega arith))
     ∙ past-ascii (getD s i 0) (drop (suc i) s) (low i (omega arith) (omega arith))
     ∙ skipped n s (suc i) (omega arith) (λ k a b. low k (omega arith) (omega arith))
-    ∙ ap (λ (m : ℕ). octetsFrom (drop m s) fresh) z
+    ∙ ap (λ (m : ℕ). octetsFrom (drop m s) owesNone) z
 
 pub low-same : {s : List ℕ} {i e m : ℕ} → i ≤ e → e ≤ length s → NoneAbove s i e m → m ≤ 0x7F → Same s i e
 low-same {s} {i} {e} {m} o b low h =
@@ -54,21 +54,21 @@ same-then p q = record { onward = omega (arith, p .onward, q .onward); inside = 
 pub same-low : {s : List ℕ} {i j : ℕ} → Same s i j → j < length s → getD s j 0 ≤ 0x7F → Same s i (j + 1)
 same-low {s} {i} {j} p h l = record { onward = omega (arith, p .onward); inside = omega arith; same = p .same ∙ (rw add-one (rw (drop-cons s j 0 h) (past-ascii (getD s j 0) (drop (suc j) s) l))) }
 
-pub same-on : {s : List ℕ} {i j k : ℕ} → Same s i j → Passed s j k → 0 < k → Same s i k
+pub same-on : {s : List ℕ} {i j k : ℕ} → Same s i j → PassedTo s j k → 0 < k → Same s i k
 same-on p q h = same-then p (q .on h .1)
 
-pub passed : {s : List ℕ} {i j : ℕ} → Same s i j → i < j → Passed s i j
+pub passed : {s : List ℕ} {i j : ℕ} → Same s i j → i < j → PassedTo s i j
 passed p h = record { on = λ l. (h, p); off = λ e. absurd (omega arith) }
 
-pub not-passed : {s : List ℕ} {i : ℕ} → octetsFrom (drop i s) fresh ≡ false → Passed s i 0
+pub not-passed : {s : List ℕ} {i : ℕ} → octetsFrom (drop i s) owesNone ≡ false → PassedTo s i 0
 not-passed e = record { on = λ l. absurd (omega arith); off = λ z. e }
 
-pub fails : {s : List ℕ} {i j k : ℕ} → Same s i j → Passed s j k → k ≡ 0 → Passed s i 0
+pub fails : {s : List ℕ} {i j k : ℕ} → Same s i j → PassedTo s j k → k ≡ 0 → PassedTo s i 0
 fails p q z = not-passed (p .same ∙ q .off z)
 
 -- ---- within a character: behind its first byte at i, at k, n bytes are owed, the next of them from lo to hi
 pub record Owes (s : List ℕ) (i k n lo hi : ℕ) : Type 0 where
-  pub rest : octetsFrom (drop i s) fresh ≡ octetsFrom (drop k s) (record { owed = n; lo = lo; hi = hi })
+  pub rest : octetsFrom (drop i s) owesNone ≡ octetsFrom (drop k s) (record { owed = n; lo = lo; hi = hi })
 
 pub owes : {s : List ℕ} {i n lo hi : ℕ} → Begins s i n lo hi → Owes s i (i + 1) n lo hi
 unfolding octetsFrom afterOf
@@ -80,11 +80,11 @@ unfolding octetsFrom afterOf
 short [] n lo hi h = ne-eqb n 0 (omega arith)
 short (a ∷ t) n lo hi h = rw (ne-eqb n 0 (omega arith)) (at (within lo hi a) (short t (n - 1) 0x80 0xBF (omega arith)))
   where
-    at : (b : Bool) → octetsFrom t (record { owed = n - 1; lo = 0x80; hi = 0xBF }) ≡ false → goOn (cond b (want (n - 1) 0x80 0xBF) Next.bad) (octetsFrom t) ≡ false
+    at : (b : Bool) → octetsFrom t (record { owed = n - 1; lo = 0x80; hi = 0xBF }) ≡ false → goOnChar (cond b (want (n - 1) 0x80 0xBF) Follows.bad) (octetsFrom t) ≡ false
     at true e = e
     at false e = refl
 
-pub cut : {s : List ℕ} {i n lo hi : ℕ} → Begins s i n lo hi → length s - i < n + 1 → Passed s i 0
+pub cut : {s : List ℕ} {i n lo hi : ℕ} → Begins s i n lo hi → length s - i < n + 1 → PassedTo s i 0
 cut {s} {i} {n} {lo} {hi} b h = not-passed (owes b .rest ∙ short (drop (i + 1) s) n lo hi (omega (arith, length-drop (i + 1) s, b .inside)))
 
 module _ {s : List ℕ} {i k n lo hi : ℕ} (o : Owes s i k (suc n) lo hi) (h : k < length s) where
@@ -94,11 +94,11 @@ module _ {s : List ℕ} {i k n lo hi : ℕ} (o : Owes s i k (suc n) lo hi) (h : 
       let z : suc n - 1 ≡ n = omega arith in
       record { rest = o .rest ∙ rw (drop-cons s k 0 h, ne-eqb (suc n) 0 (omega arith), le-leb lo (getD s k 0) l, le-leb (getD s k 0) hi u, z, add-one) }
 
-  pub below : getD s k 0 < lo → Passed s i 0
+  pub below : getD s k 0 < lo → PassedTo s i 0
   unfolding octetsFrom afterOf within
   below l = not-passed (o .rest ∙ rw (drop-cons s k 0 h, ne-eqb (suc n) 0 (omega arith), lt-leb lo (getD s k 0) l))
 
-  pub above : lo ≤ getD s k 0 → hi < getD s k 0 → Passed s i 0
+  pub above : lo ≤ getD s k 0 → hi < getD s k 0 → PassedTo s i 0
   unfolding octetsFrom afterOf within
   above l u = not-passed (o .rest ∙ rw (drop-cons s k 0 h, ne-eqb (suc n) 0 (omega arith), le-leb lo (getD s k 0) l, lt-leb (getD s k 0) hi u))
 
@@ -110,7 +110,7 @@ module _ {s : List ℕ} {i k n : ℕ} (o : Owes s i k (suc n) 0x80 0xBF) (h : k 
       let p = both (leb 0x80 (getD s k 0)) (leb (getD s k 0) 0xBF) e in
       owes-on o h (leb-true 0x80 (getD s k 0) (p .0)) (leb-true (getD s k 0) 0xBF (p .1))
 
-  pub no-tail : isTail (getD s k 0) ≡ false → Passed s i 0
+  pub no-tail : isTail (getD s k 0) ≡ false → PassedTo s i 0
   unfolding octetsFrom afterOf isTail
   no-tail e = not-passed (o .rest ∙ rw (drop-cons s k 0 h, ne-eqb (suc n) 0 (omega arith), e))
 
@@ -121,10 +121,10 @@ third {s} {i} b h l u = let z : i + 1 + 1 ≡ i + 2 = omega arith in rw z at (ow
 pub fourth : {s : List ℕ} {i n : ℕ} → Owes s i (i + 2) (suc n) 0x80 0xBF → i + 2 < length s → isTail (getD s (i + 2) 0) ≡ true → Owes s i (i + 3) n 0x80 0xBF
 fourth {s} {i} o h e = let z : i + 2 + 1 ≡ i + 3 = omega arith in rw z at (tail-on o h e)
 
-pub last : {s : List ℕ} {i k r : ℕ} → Owes s i k 1 0x80 0xBF → i < k → k < length s → r ≡ cond (isTail (getD s k 0)) (k + 1) 0 → Passed s i r
+pub last : {s : List ℕ} {i k r : ℕ} → Owes s i k 1 0x80 0xBF → i < k → k < length s → r ≡ cond (isTail (getD s k 0)) (k + 1) 0 → PassedTo s i r
 last {s} {i} {k} {r} o l h e = at (isTail (getD s k 0)) refl
   where
-    at : (b : Bool) → isTail (getD s k 0) ≡ b → Passed s i r
+    at : (b : Bool) → isTail (getD s k 0) ≡ b → PassedTo s i r
     at true t =
         let z : r ≡ k + 1 = rw t at e in
         let q = tail-on o h t in
@@ -135,11 +135,11 @@ last {s} {i} {k} {r} o l h e = at (isTail (getD s k 0)) refl
 pub begins : {s : List ℕ} {i n lo hi : ℕ} (a m : ℕ) → i < length s → values leadOf m a ≡ replicate m (want n lo hi) → a ≤ getD s i 0 → getD s i 0 < a + m → Begins s i n lo hi
 begins {s} {i} {n} {lo} {hi} a m h e l u = record { inside = h; asks = sym (steady leadOf (want n lo hi) a m (getD s i 0) e l u) }
 
-pub no-lead : {s : List ℕ} {i : ℕ} (a m : ℕ) → i < length s → values leadOf m a ≡ replicate m Next.bad → a ≤ getD s i 0 → getD s i 0 < a + m → Passed s i 0
+pub no-lead : {s : List ℕ} {i : ℕ} (a m : ℕ) → i < length s → values leadOf m a ≡ replicate m Follows.bad → a ≤ getD s i 0 → getD s i 0 < a + m → PassedTo s i 0
 unfolding octetsFrom afterOf
-no-lead {s} {i} a m h e l u = not-passed (rw (drop-cons s i 0 h, sym (steady leadOf Next.bad a m (getD s i 0) e l u)))
+no-lead {s} {i} a m h e l u = not-passed (rw (drop-cons s i 0 h, sym (steady leadOf Follows.bad a m (getD s i 0) e l u)))
 
-pub past-leads : {s : List ℕ} {i : ℕ} → i < length s → 0xF4 < getD s i 0 → Passed s i 0
+pub past-leads : {s : List ℕ} {i : ℕ} → i < length s → 0xF4 < getD s i 0 → PassedTo s i 0
 unfolding octetsFrom afterOf leadOf
 past-leads {s} {i} h l =
     let b = getD s i 0 in
@@ -162,7 +162,7 @@ pub whole-end : {s : List ℕ} {i : ℕ} → Same s 0 i → length s ≤ i → t
 unfolding isUtf8 octetsFrom
 whole-end {s} p h = sym (rw (drop-of-length-le s h) at (p .same))
 
-pub whole-fails : {s : List ℕ} {i j : ℕ} → Same s 0 i → Passed s i j → j ≡ 0 → false ≡ isUtf8 s
+pub whole-fails : {s : List ℕ} {i j : ℕ} → Same s 0 i → PassedTo s i j → j ≡ 0 → false ≡ isUtf8 s
 unfolding isUtf8
 whole-fails p q z = sym (fails p q z .off refl)
 

@@ -5,7 +5,7 @@ ghost use lib.ListN.{length, getD};
 ghost use mathlib.Core.Bool.{cond};
 ghost use Rattle.base_bytes.specs.Bytes.{isTail};
 ghost use Rattle.text_utf8.specs.Utf8.{isUtf8, isBoundary, charCount};
-ghost use Rattle.text_utf8.specs.Blocks.{NoneAbove, Same, Passed, Begins};
+ghost use Rattle.text_utf8.specs.Inner.{NoneAbove, Same, PassedTo, Begins};
 
 // A byte that none from i to before e is above.
 fn greatest(s: &[u8], i: usize, e: usize) -> u8
@@ -34,7 +34,7 @@ fn past_tail(s: &[u8], k: usize) -> usize
 // Past the character of two bytes at i: this and what follows gives the place behind, or 0 where no such character stands.
 fn past_two(s: &[u8], i: usize) -> usize
     requires { ⌜ Begins (now s) i 1 0x80 0xBF ⌝ }
-    ensures { λ r. ⌜ Passed (now (s .entry)) i r ⌝ }
+    ensures { λ r. ⌜ PassedTo (now (s .entry)) i r ⌝ }
 {
     let left = s.len() - i;
     if left < 2 { 0 } else { past_tail(s, i + 1) }
@@ -43,7 +43,7 @@ fn past_two(s: &[u8], i: usize) -> usize
 // Past the character of three bytes at i, the second of them from lo to hi.
 fn past_three(s: &[u8], i: usize, lo: u8, hi: u8) -> usize
     requires { ⌜ Begins (now s) i 2 lo hi ⌝ }
-    ensures { λ r. ⌜ Passed (now (s .entry)) i r ⌝ }
+    ensures { λ r. ⌜ PassedTo (now (s .entry)) i r ⌝ }
 {
     if s.len() - i < 3 {
         return 0;
@@ -61,7 +61,7 @@ fn past_three(s: &[u8], i: usize, lo: u8, hi: u8) -> usize
 // Past the character of four bytes at i, the second of them from lo to hi.
 fn past_four(s: &[u8], i: usize, lo: u8, hi: u8) -> usize
     requires { ⌜ Begins (now s) i 3 lo hi ⌝ }
-    ensures { λ r. ⌜ Passed (now (s .entry)) i r ⌝ }
+    ensures { λ r. ⌜ PassedTo (now (s .entry)) i r ⌝ }
 {
     if s.len() - i < 4 {
         return 0;
@@ -82,7 +82,7 @@ fn past_four(s: &[u8], i: usize, lo: u8, hi: u8) -> usize
 // Past the character at i, which is no ASCII: two bytes are tested first, as they are the most common.
 fn past_wide(s: &[u8], i: usize) -> usize
     requires { ⌜ (i < length (now s)) × (0x7F < getD (now s) i 0) ⌝ }
-    ensures { λ r. ⌜ Passed (now (s .entry)) i r ⌝ }
+    ensures { λ r. ⌜ PassedTo (now (s .entry)) i r ⌝ }
 {
     let a = s[i];
     if a < 0xC2 {
@@ -106,7 +106,7 @@ fn past_wide(s: &[u8], i: usize) -> usize
 // Past characters, one at a time, until e is reached.
 fn past_chars(s: &[u8], i: usize, e: usize) -> usize
     requires { ⌜ (i < e) × (e ≤ length (now s)) ⌝ }
-    ensures { λ r. ⌜ Passed (now (s .entry)) i r ⌝ }
+    ensures { λ r. ⌜ PassedTo (now (s .entry)) i r ⌝ }
 {
     let mut k = i;
     'chars: while k < e {
@@ -125,7 +125,7 @@ fn past_chars(s: &[u8], i: usize, e: usize) -> usize
 // Past 16 bytes at once where they are ASCII, else past their characters.
 fn past_part(s: &[u8], i: usize) -> usize
     requires { ⌜ i < length (now s) ⌝ }
-    ensures { λ r. ⌜ Passed (now (s .entry)) i r ⌝ }
+    ensures { λ r. ⌜ PassedTo (now (s .entry)) i r ⌝ }
 {
     if s.len() - i < 16 {
         return past_chars(s, i, s.len());
@@ -139,7 +139,7 @@ fn past_part(s: &[u8], i: usize) -> usize
 // Past parts of 16 bytes until e is reached.
 fn past_parts(s: &[u8], i: usize, e: usize) -> usize
     requires { ⌜ (i < e) × (e ≤ length (now s)) ⌝ }
-    ensures { λ r. ⌜ Passed (now (s .entry)) i r ⌝ }
+    ensures { λ r. ⌜ PassedTo (now (s .entry)) i r ⌝ }
 {
     let mut k = i;
     while k < e {

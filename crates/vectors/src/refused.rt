@@ -38,8 +38,8 @@ fn numbers_of_sets(t: Tally) -> Tally {
 // Whether a text is answered with the number, 0 where it passes.
 fn answers(s: &[u8], number: u8) -> bool {
     match text_checks::check_text(s) {
-        text_checks::Check::Passed => number == 0,
-        text_checks::Check::Refused(r) => base_refusals::number(r) == number,
+        base_refusals::Outcome::Passed => number == 0,
+        base_refusals::Outcome::Refused(r) => base_refusals::number(r) == number,
     }
 }
 

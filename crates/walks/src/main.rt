@@ -1,4 +1,4 @@
-// The walker and the merges on lent sets at work.
+// A program that tells a walker's tokens step by step, and merges into lent sets, also where that is refused.
 mod merges;
 mod steps;
 

@@ -2,7 +2,7 @@
 use crate::say;
 use crate::say_number;
 use crate::say_refusal;
-use set_fill::Outcome;
+use base_refusals::Outcome;
 use set_lent::Both;
 use set_table::Attrs;
 use set_table::Text;
@@ -48,15 +48,15 @@ fn three(text: &[u8], leading: usize, target: usize, incoming: usize) {
 fn broken(text: &[u8]) {
     let read = read_brace::read_attrs_at(text, 0);
     let mut target = read.set;
-    target.classes[31] = Value {
+    target.classes[Attrs::CLASSES - 1] = Value {
         text: Text::Plain(9, 4),
     };
     let mut bad = Attrs::empty();
-    bad.nclass = 33;
+    bad.nclass = Attrs::CLASSES as u8 + 1;
     let both = set_lent::merge_both(text, target, bad, bad);
     tell(text, both);
     let set = both.set;
-    say_row(set.classes[31]);
+    say_row(set.classes[Attrs::CLASSES - 1]);
     let both = set_lent::merge_both(text, bad, target, target);
     tell(text, both);
     let set = both.set;
@@ -95,7 +95,7 @@ fn tell(text: &[u8], both: Both) {
 fn say_outcome(outcome: Outcome) {
     match outcome {
         Outcome::Refused(r) => say_refusal(r),
-        Outcome::Done => say(b"merged"),
+        Outcome::Passed => say(b"merged"),
     }
 }
 

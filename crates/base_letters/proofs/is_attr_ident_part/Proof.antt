@@ -18,11 +18,11 @@ returns-2 c = missed isNamePart false (45 ∷ 95 ∷ []) 58 7 (c .before .before
 
 returns-3 : tie.Need-returns-3
 unfolding isNamePart isAlnum isLetter isDigit within isIn
-returns-3 c = missed isNamePart false (45 ∷ 95 ∷ []) 91 6 (c .before .before .before .before .before .before .args .b) (c .before .before .before .before .before .match .rest .1) refl (omega arith) (omega arith)
+returns-3 c = let at5 = c .before .before .before .before .before in let at6 = at5 .before in missed isNamePart false (45 ∷ 95 ∷ []) 91 6 (at6 .args .b) (at5 .match .rest .1) refl (omega arith) (omega arith)
 
 returns-4 : tie.Need-returns-4
 unfolding isNamePart isAlnum isLetter isDigit within isIn
-returns-4 c = missed isNamePart false (45 ∷ 95 ∷ []) 123 133 (c .before .before .before .before .before .before .before .args .b) (c .before .before .before .before .before .before .match .rest .1) refl (omega arith) (omega arith)
+returns-4 c = let at6 = c .before .before .before .before .before .before in let at7 = at6 .before in missed isNamePart false (45 ∷ 95 ∷ []) 123 133 (at7 .args .b) (at6 .match .rest .1) refl (omega arith) (omega arith)
 
 returns-5 : tie.Need-returns-5
 unfolding isNamePart isAlnum isLetter isDigit within isIn
@@ -38,7 +38,7 @@ returns-7 c = missed isNamePart true (45 ∷ 95 ∷ []) 65 26 (c .before .before
 
 returns-8 : tie.Need-returns-8
 unfolding isNamePart isAlnum isLetter isDigit within isIn
-returns-8 c = missed isNamePart true (45 ∷ 95 ∷ []) 97 26 (c .before .before .before .before .before .before .before .args .b) (c .before .before .before .before .before .before .match .rest .1) refl (omega arith) (omega arith)
+returns-8 c = let at6 = c .before .before .before .before .before .before in let at7 = at6 .before in missed isNamePart true (45 ∷ 95 ∷ []) 97 26 (at7 .args .b) (at6 .match .rest .1) refl (omega arith) (omega arith)
 
 pub is-attr-ident-part-spec : {M : Type 1} → statement M
 is-attr-ident-part-spec = tie.close (tie.spec returns returns-2 returns-3 returns-4 returns-5 returns-6 returns-7 returns-8)

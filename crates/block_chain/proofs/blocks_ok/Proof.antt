@@ -3,7 +3,7 @@ use native.Mathlib.Omega.{arith}
 use borrow.Author.Needs.{needs}
 use lib.ListN.{length}
 use Rattle.base_bytes.specs.declared.Mode.the-variants.{Loose}
-use Rattle.block_chain.specs.Walk.{blocksOk}
+use Rattle.block_chain.specs.Inner.{blocksOk}
 use Rattle.block_chain.proofs.Good as good
 use Rattle.block_chain.proofs.blocks_ok.Statement.{statement}
 use Rattle.block_chain.proofs.blocks_ok.Tie as tie

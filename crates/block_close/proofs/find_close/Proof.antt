@@ -35,16 +35,18 @@ add-i : tie.Need-add-i Inv-bytes μ-bytes
 add-i c = omega (arith, laws.next (c .before .before .before .before .before .before .bytes .inv) (c .before .goes-on2 .ensures) (c .if2 .left) .there)
 
 bytes-less : tie.Need-bytes-less Inv-bytes μ-bytes
-bytes-less c = omega (arith, laws.here (c .before .before .before .before .before .before .bytes .inv) (c .before .before .before .before .before .goes-on .ensures) (c .before .before .before .before .if1 .left) .there)
+bytes-less c = let at4 = c .before .before .before .before in let at5 = at4 .before in let at6 = at5 .before in omega (arith, laws.here (at6 .bytes .inv) (at5 .goes-on .ensures) (at4 .if1 .left) .there)
 
 bytes-again : tie.Need-bytes-again Inv-bytes μ-bytes
-bytes-again c = laws.pair (c .before .before .before .before .before .before .bytes .inv) (laws.here (c .before .before .before .before .before .before .bytes .inv) (c .before .before .before .before .before .goes-on .ensures) (c .before .before .before .before .if1 .left)) (c .before .before .match .keys2) (laws.next (c .before .before .before .before .before .before .bytes .inv) (c .before .goes-on2 .ensures) (c .if2 .left))
+bytes-again c =
+    let at4 = c .before .before .before .before in let at5 = at4 .before in let at6 = at5 .before in
+    laws.pair (at6 .bytes .inv) (laws.here (at6 .bytes .inv) (at5 .goes-on .ensures) (at4 .if1 .left)) (c .before .before .match .keys2) (laws.next (at6 .bytes .inv) (c .before .goes-on2 .ensures) (c .if2 .left))
 
 add-quote-close : tie.Need-add-quote-close Inv-bytes μ-bytes
 add-quote-close c = omega (arith, laws.here (c .before .before .before .before .bytes .inv) (c .before .before .before .goes-on .ensures) (c .before .before .if1 .left) .there)
 
 shared-slice-read-quote-close : tie.Need-shared-slice-read-quote-close Inv-bytes μ-bytes
-shared-slice-read-quote-close c = omega (arith, laws.here (c .before .before .before .before .before .bytes .inv) (c .before .before .before .before .goes-on .ensures) (c .before .before .before .if1 .left) .there)
+shared-slice-read-quote-close c = let at4 = c .before .before .before .before in let at5 = at4 .before in omega (arith, laws.here (at5 .bytes .inv) (at4 .goes-on .ensures) (c .before .before .before .if1 .left) .there)
 
 quote-close-requires : tie.Need-quote-close-requires Inv-bytes μ-bytes
 quote-close-requires c κs = laws.quoting (c .before .match .keys3)
@@ -62,7 +64,9 @@ bytes-less-2 : tie.Need-bytes-less-2 Inv-bytes μ-bytes
 bytes-less-2 c = omega (arith, c .before .before .before .quote-close .ensures .within _ (c .before .e .given .1))
 
 bytes-again-2 : tie.Need-bytes-again-2 Inv-bytes μ-bytes
-bytes-again-2 c = laws.passed (c .before .before .before .before .before .before .before .before .before .bytes .inv) (laws.here (c .before .before .before .before .before .before .before .before .before .bytes .inv) (c .before .before .before .before .before .before .before .before .goes-on .ensures) (c .before .before .before .before .before .before .before .if1 .left)) (c .before .before .before .before .before .match .keys3) (c .before .before .before .quote-close .ensures) (c .before .e .given .1)
+bytes-again-2 c =
+    let at5 = c .before .before .before .before .before in let at7 = at5 .before .before in let at8 = at7 .before in let at9 = at8 .before in
+    laws.passed (at9 .bytes .inv) (laws.here (at9 .bytes .inv) (at8 .goes-on .ensures) (at7 .if1 .left)) (at5 .match .keys3) (c .before .before .before .quote-close .ensures) (c .before .e .given .1)
 
 add-i-3 : tie.Need-add-i-3 Inv-bytes μ-bytes
 add-i-3 c = omega (arith, laws.here (c .before .before .before .before .bytes .inv) (c .before .before .before .goes-on .ensures) (c .before .before .if1 .left) .there)
@@ -71,19 +75,25 @@ bytes-less-3 : tie.Need-bytes-less-3 Inv-bytes μ-bytes
 bytes-less-3 c = omega (arith, laws.here (c .before .before .before .before .bytes .inv) (c .before .before .before .goes-on .ensures) (c .before .before .if1 .left) .there)
 
 bytes-again-3 : tie.Need-bytes-again-3 Inv-bytes μ-bytes
-bytes-again-3 c = laws.byte (c .before .before .before .before .bytes .inv) (laws.here (c .before .before .before .before .bytes .inv) (c .before .before .before .goes-on .ensures) (c .before .before .if1 .left)) (c .match .rest .0 .0 .1) (c .match .rest .0 .1) (c .match .rest .1)
+bytes-again-3 c =
+    let at4 = c .before .before .before .before in
+    laws.byte (at4 .bytes .inv) (laws.here (at4 .bytes .inv) (c .before .before .before .goes-on .ensures) (c .before .before .if1 .left)) (c .match .rest .0 .0 .1) (c .match .rest .0 .1) (c .match .rest .1)
 
 returns : tie.Need-returns Inv-bytes μ-bytes
 returns c = laws.ended (c .before .before .bytes .inv) (sym (c .before .goes-on .ensures) ∙ not-true _ (c .if1 .taken))
 
 returns-2 : tie.Need-returns-2 Inv-bytes μ-bytes
-returns-2 c = laws.closed (c .before .before .before .before .bytes .inv) (laws.here (c .before .before .before .before .bytes .inv) (c .before .before .before .goes-on .ensures) (c .before .before .if1 .left)) (c .match .keys1)
+returns-2 c = let at4 = c .before .before .before .before in laws.closed (at4 .bytes .inv) (laws.here (at4 .bytes .inv) (c .before .before .before .goes-on .ensures) (c .before .before .if1 .left)) (c .match .keys1)
 
 returns-3 : tie.Need-returns-3 Inv-bytes μ-bytes
-returns-3 c = laws.cut (c .before .before .before .before .before .before .bytes .inv) (laws.here (c .before .before .before .before .before .before .bytes .inv) (c .before .before .before .before .before .goes-on .ensures) (c .before .before .before .before .if1 .left)) (c .before .before .match .keys2) (sym (c .before .goes-on2 .ensures) ∙ not-true _ (c .if2 .taken))
+returns-3 c =
+    let at4 = c .before .before .before .before in let at5 = at4 .before in let at6 = at5 .before in
+    laws.cut (at6 .bytes .inv) (laws.here (at6 .bytes .inv) (at5 .goes-on .ensures) (at4 .if1 .left)) (c .before .before .match .keys2) (sym (c .before .goes-on2 .ensures) ∙ not-true _ (c .if2 .taken))
 
 returns-4 : tie.Need-returns-4 Inv-bytes μ-bytes
-returns-4 c = laws.unshut (c .before .before .before .before .before .before .before .before .bytes .inv) (laws.here (c .before .before .before .before .before .before .before .before .bytes .inv) (c .before .before .before .before .before .before .before .goes-on .ensures) (c .before .before .before .before .before .before .if1 .left)) (c .before .before .before .before .match .keys3) (c .before .before .quote-close .ensures) (c .enum-told .given .1)
+returns-4 c =
+    let at4 = c .before .before .before .before in let at6 = at4 .before .before in let at7 = at6 .before in let at8 = at7 .before in
+    laws.unshut (at8 .bytes .inv) (laws.here (at8 .bytes .inv) (at7 .goes-on .ensures) (at6 .if1 .left)) (at4 .match .keys3) (c .before .before .quote-close .ensures) (c .enum-told .given .1)
 
 pub find-close-spec : {M : Type 1} → statement M
 find-close-spec =

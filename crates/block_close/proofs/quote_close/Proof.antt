@@ -24,10 +24,10 @@ shared-slice-read-if2 : tie.Need-shared-slice-read-if2 Inv-bytes μ-bytes
 shared-slice-read-if2 c = omega (arith, laws.here (c .before .before .before .bytes .inv .scan) (c .before .before .goes-on .ensures) (c .before .if1 .left) .there)
 
 shared-slice-read-if3 : tie.Need-shared-slice-read-if3 Inv-bytes μ-bytes
-shared-slice-read-if3 c = omega (arith, laws.here (c .before .before .before .before .before .bytes .inv .scan) (c .before .before .before .before .goes-on .ensures) (c .before .before .before .if1 .left) .there)
+shared-slice-read-if3 c = let at4 = c .before .before .before .before in let at5 = at4 .before in omega (arith, laws.here (at5 .bytes .inv .scan) (at4 .goes-on .ensures) (c .before .before .before .if1 .left) .there)
 
 add-goes-on : tie.Need-add-goes-on Inv-bytes μ-bytes
-add-goes-on c = omega (arith, laws.here (c .before .before .before .before .before .before .bytes .inv .scan) (c .before .before .before .before .before .goes-on .ensures) (c .before .before .before .before .if1 .left) .there)
+add-goes-on c = let at4 = c .before .before .before .before in let at5 = at4 .before in let at6 = at5 .before in omega (arith, laws.here (at6 .bytes .inv .scan) (at5 .goes-on .ensures) (at4 .if1 .left) .there)
 
 goes-on-requires-2 : tie.Need-goes-on-requires-2 Inv-bytes μ-bytes
 goes-on-requires-2 c κs = search needs
@@ -36,28 +36,36 @@ add-k : tie.Need-add-k Inv-bytes μ-bytes
 add-k c = omega (arith, laws.next (c .before .before .before .before .before .before .before .before .bytes .inv .scan) (c .before .goes-on2 .ensures) (c .if4 .left) .there)
 
 bytes-less : tie.Need-bytes-less Inv-bytes μ-bytes
-bytes-less c = omega (arith, laws.here (c .before .before .before .before .before .before .before .before .bytes .inv .scan) (c .before .before .before .before .before .before .before .goes-on .ensures) (c .before .before .before .before .before .before .if1 .left) .there)
+bytes-less c = let at6 = c .before .before .before .before .before .before in let at7 = at6 .before in let at8 = at7 .before in omega (arith, laws.here (at8 .bytes .inv .scan) (at7 .goes-on .ensures) (at6 .if1 .left) .there)
 
 bytes-again : tie.Need-bytes-again Inv-bytes μ-bytes
-bytes-again c = laws.quote-pair (c .before .before .before .before .before .before .before .before .bytes .inv) (laws.here (c .before .before .before .before .before .before .before .before .bytes .inv .scan) (c .before .before .before .before .before .before .before .goes-on .ensures) (c .before .before .before .before .before .before .if1 .left)) (c .before .before .if3 .taken) (laws.next (c .before .before .before .before .before .before .before .before .bytes .inv .scan) (c .before .goes-on2 .ensures) (c .if4 .left))
+bytes-again c =
+    let at6 = c .before .before .before .before .before .before in let at7 = at6 .before in let at8 = at7 .before in
+    laws.quote-pair (at8 .bytes .inv) (laws.here (at8 .bytes .inv .scan) (at7 .goes-on .ensures) (at6 .if1 .left)) (c .before .before .if3 .taken) (laws.next (at8 .bytes .inv .scan) (c .before .goes-on2 .ensures) (c .if4 .left))
 
 add-k-2 : tie.Need-add-k-2 Inv-bytes μ-bytes
-add-k-2 c = omega (arith, laws.here (c .before .before .before .before .before .before .bytes .inv .scan) (c .before .before .before .before .before .goes-on .ensures) (c .before .before .before .before .if1 .left) .there)
+add-k-2 c = let at4 = c .before .before .before .before in let at5 = at4 .before in let at6 = at5 .before in omega (arith, laws.here (at6 .bytes .inv .scan) (at5 .goes-on .ensures) (at4 .if1 .left) .there)
 
 bytes-less-2 : tie.Need-bytes-less-2 Inv-bytes μ-bytes
-bytes-less-2 c = omega (arith, laws.here (c .before .before .before .before .before .before .bytes .inv .scan) (c .before .before .before .before .before .goes-on .ensures) (c .before .before .before .before .if1 .left) .there)
+bytes-less-2 c = let at4 = c .before .before .before .before in let at5 = at4 .before in let at6 = at5 .before in omega (arith, laws.here (at6 .bytes .inv .scan) (at5 .goes-on .ensures) (at4 .if1 .left) .there)
 
 bytes-again-2 : tie.Need-bytes-again-2 Inv-bytes μ-bytes
-bytes-again-2 c = laws.quote-byte (c .before .before .before .before .before .before .bytes .inv) (laws.here (c .before .before .before .before .before .before .bytes .inv .scan) (c .before .before .before .before .before .goes-on .ensures) (c .before .before .before .before .if1 .left)) (c .before .before .if2 .left) (c .if3 .left)
+bytes-again-2 c =
+    let at4 = c .before .before .before .before in let at5 = at4 .before in let at6 = at5 .before in
+    laws.quote-byte (at6 .bytes .inv) (laws.here (at6 .bytes .inv .scan) (at5 .goes-on .ensures) (at4 .if1 .left)) (c .before .before .if2 .left) (c .if3 .left)
 
 returns : tie.Need-returns Inv-bytes μ-bytes
 returns c = laws.quote-ended (c .before .before .bytes .inv) (sym (c .before .goes-on .ensures) ∙ not-true _ (c .if1 .taken))
 
 returns-2 : tie.Need-returns-2 Inv-bytes μ-bytes
-returns-2 c = laws.shut (c .before .before .before .before .bytes .inv) (laws.here (c .before .before .before .before .bytes .inv .scan) (c .before .before .before .goes-on .ensures) (c .before .before .if1 .left)) (c .before .before .before .before .before .before .pre) (c .if2 .taken)
+returns-2 c =
+    let at4 = c .before .before .before .before in let at6 = at4 .before .before in
+    laws.shut (at4 .bytes .inv) (laws.here (at4 .bytes .inv .scan) (c .before .before .before .goes-on .ensures) (c .before .before .if1 .left)) (at6 .pre) (c .if2 .taken)
 
 returns-3 : tie.Need-returns-3 Inv-bytes μ-bytes
-returns-3 c = laws.quote-cut (c .before .before .before .before .before .before .before .before .bytes .inv) (laws.here (c .before .before .before .before .before .before .before .before .bytes .inv .scan) (c .before .before .before .before .before .before .before .goes-on .ensures) (c .before .before .before .before .before .before .if1 .left)) (c .before .before .if3 .taken) (sym (c .before .goes-on2 .ensures) ∙ not-true _ (c .if4 .taken))
+returns-3 c =
+    let at6 = c .before .before .before .before .before .before in let at7 = at6 .before in let at8 = at7 .before in
+    laws.quote-cut (at8 .bytes .inv) (laws.here (at8 .bytes .inv .scan) (at7 .goes-on .ensures) (at6 .if1 .left)) (c .before .before .if3 .taken) (sym (c .before .goes-on2 .ensures) ∙ not-true _ (c .if4 .taken))
 
 pub quote-close-spec : {M : Type 1} → statement M
 quote-close-spec =

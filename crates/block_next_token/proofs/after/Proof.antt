@@ -37,7 +37,7 @@ use denote.Triple.Walked.{says, walkOf, goes-none, Walks, ends-at, walked, walk-
 use denote.Exit.{yes}
 use Rattle.base_bytes.proofs.Mode as Md
 use Rattle.base_bytes.proofs.Mode.Laws as Md′
-use Rattle.block_next_token.specs.Walk.{stepOf}
+use Rattle.block_next_token.specs.Walk.{walkerStep}
 use Rattle.block_next_token.specs.declared.Walker.{Walker}
 use Rattle.block_next_token.specs.declared.Step.{Step}
 use Rattle.block_next_token.proofs.Walker as T
@@ -67,7 +67,7 @@ module _ {M : Type 1} (𝓤 : URA M) (H : Heap 𝓤) (A : Atoms 𝓤) (W : Given
   abbrev d′ : Step → Walker
   d′ r = record { text = d .text; at = r .at; mode = d .mode }
 
-  exits : (r : Step) → r ≡ stepOf d → r .at < 2 ^ 64 → ent 𝓤 (⋆ 𝓤 H A ((‵ (flft κ q) ⊛ ‵ ftrue) ∷ ‵ (Own α d) ∷ [])) (Post (mach α (d′ r)))
+  exits : (r : Step) → r ≡ walkerStep d → r .at < 2 ^ 64 → ent 𝓤 (⋆ 𝓤 H A ((‵ (flft κ q) ⊛ ‵ ftrue) ∷ ‵ (Own α d) ∷ [])) (Post (mach α (d′ r)))
   exits r e fits =
       qed W ((‵ (flft κ q) ⊛ ‵ ftrue) ∷ ‵ (Own α d) ∷ []) ∵
       suffices ! _ (ends-at 𝓤 H A after.ended stayed (after.clauses 𝓤 H A mem run) W (((κ, tt), (q, tt), tt, (d, tt), (v ∷ [], tt)), tt) (mach α (d′ r)) (d′ r) (tt, tt) (tt, tt)) $ says ! (ap d′ e) $

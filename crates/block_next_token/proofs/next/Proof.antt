@@ -37,7 +37,7 @@ use denote.Triple.Table.{entered, cited}
 use denote.Triple.Walked.{says, Stays, stay-ref, walkOf, goes-ref, Walks, ends-at, walked, walk-meets}
 use Rattle.base_bytes.proofs.Mode as Md
 use Rattle.base_bytes.proofs.Mode.Laws as Md′
-use Rattle.block_next_token.specs.Walk.{stepOf}
+use Rattle.block_next_token.specs.Walk.{walkerStep}
 use Rattle.block_next_token.specs.declared.Walker.{Walker}
 use Rattle.block_next_token.specs.declared.Step.{Step}
 use Rattle.block_next_token.proofs.Walker as T
@@ -83,7 +83,7 @@ module _ {M : Type 1} (𝓤 : URA M) (H : Heap 𝓤) (A : Atoms 𝓤) (W : Given
   abbrev Post : Val → SProp 𝓤
   Post = walkOf 𝓤 H A next.ended stayed (next.clauses 𝓤 H A at-mem run) .post (((κ, (κ′, tt)), (q, (q′, tt)), bounds, x, at), tt)
 
-  exits : (r : Step) → r ≡ stepOf h → Is S.the-row (r .ahead) (EL.val S.the-type S′.the-laws (r .ahead) ∷ [])
+  exits : (r : Step) → r ≡ walkerStep h → Is S.the-row (r .ahead) (EL.val S.the-type S′.the-laws (r .ahead) ∷ [])
       → ent 𝓤 (⋆ 𝓤 H A (‵ (fobs γ (B κ′ .coded .code (h′ r))) ∷ ‵ (fbor κ (Body (mem (B κ′)) b o γ)) ∷ ‵ (flft κ q) ∷ (‵ (flft κ′ q′) ⊛ ‵ ftrue) ∷ [])) (Post (EL.val S.the-type S′.the-laws (r .ahead)))
   exits r e is =
       qed W (‵ (fobs γ (B κ′ .coded .code (h′ r))) ∷ ‵ (fbor κ (Body (mem (B κ′)) b o γ)) ∷ ‵ (flft κ q) ∷ (‵ (flft κ′ q′) ⊛ ‵ ftrue) ∷ []) ∵
@@ -103,7 +103,9 @@ module _ {M : Type 1} (𝓤 : URA M) (H : Heap 𝓤) (A : Atoms 𝓤) (W : Given
         assigns ! (of-opd ! (load ! (from ! (hop ! (look ! 15 refl) (fld ! refl (stop !)))) (look-in ! 0 (sub ! 0 refl (whole !))))) (from ! (stop !)) (init ! 11 refl (tt, LL.lawful (T.the-type (α κ′)) (T′.the-laws (α κ′)) 𝓤 H A W .typed h _ was .0 .1 .0)) $
         assigns ! (of-opd ! (load ! (from ! (hop ! (look ! 15 refl) (fld ! refl (stop !)))) (look-in ! 0 (sub ! 1 refl (whole !))))) (from ! (stop !)) (init ! 9 refl (tt, LL.lawful (T.the-type (α κ′)) (T′.the-laws (α κ′)) 𝓤 H A W .typed h _ was .0 .1 .1 .0)) $
         assigns ! (of-opd ! (load ! (from ! (hop ! (look ! 15 refl) (fld ! refl (stop !)))) (look-in ! 0 (sub ! 2 refl (whole !))))) (from ! (stop !)) (init ! 7 refl (EL.lawful Md.the-type Md′.the-laws 𝓤 H A W tt .typed (h .mode) _ (LL.owed (T.the-type (α κ′)) (T′.the-laws (α κ′)) h _ was .1 .1 .0) .0)) $
-        move ! (1 ∷ []) $ move ! (5 ∷ 0 ∷ []) $ steps ! fm at-mem run known (α κ′) q′ h (LL.owed (T.the-type (α κ′)) (T′.the-laws (α κ′)) h _ was .1 .0 .1) (LL.owed (T.the-type (α κ′)) (T′.the-laws (α κ′)) h _ was .1 .1 .0) (and-then ! (load ! (from ! (stop !)) (look ! 11 refl)) (and-then ! (load ! (from ! (stop !)) (look ! 9 refl)) (and-then ! (load ! (from ! (stop !)) (look ! 7 refl)) (no-more !)))) (λ u r e is.
+        move ! (1 ∷ []) $ move ! (5 ∷ 0 ∷ []) $ steps ! fm at-mem run known (α κ′) q′ h (LL.owed (T.the-type (α κ′)) (T′.the-laws (α κ′)) h _ was .1 .0 .1)
+        (LL.owed (T.the-type (α κ′)) (T′.the-laws (α κ′)) h _ was .1 .1 .0)
+        (and-then ! (load ! (from ! (stop !)) (look ! 11 refl)) (and-then ! (load ! (from ! (stop !)) (look ! 9 refl)) (and-then ! (load ! (from ! (stop !)) (look ! 7 refl)) (no-more !)))) (λ u r e is.
         land ! (from ! (stop !)) (init ! 14 refl (LL.lawful P.the-type P′.the-laws 𝓤 H A W .typed r _ is .0)) $
         rewrite ! 14 (λ (y : Val). ‵ (fat fullShare P′.mir l₂ 0 y)) (ap only (LL.tells P.the-type P′.the-laws r (u ∷ []) is)) refl $ drop ! $
         -- ['a's token; what the walker owns; its cell; the open borrow; obs; auth; nothing; _5; …; _4; …; _3; …; _2; …; _1; …; room for _0; …]

@@ -35,7 +35,7 @@ use denote.Triple.Walked.{says, walkOf, goes-none, Walks, ends-at, walked, walk-
 use denote.Exit.{yes}
 use Rattle.base_bytes.proofs.Mode as Md
 use Rattle.base_bytes.proofs.Mode.Laws as Md′
-use Rattle.block_next_token.specs.Walk.{stepOf}
+use Rattle.block_next_token.specs.Walk.{walkerStep}
 use Rattle.block_next_token.specs.declared.Walker.{Walker}
 use Rattle.block_next_token.specs.declared.Step.{Step}
 use Rattle.block_next_token.proofs.Walker as T
@@ -63,7 +63,7 @@ module _ {M : Type 1} (𝓤 : URA M) (H : Heap 𝓤) (A : Atoms 𝓤) (W : Given
   abbrev Post : Val → SProp 𝓤
   Post = walkOf 𝓤 H A peek.ended stayed (peek.clauses 𝓤 H A mem run) .post (((κ, tt), (q, tt), tt, (d, tt), (v ∷ [], tt)), tt)
 
-  exits : (r : Step) → r ≡ stepOf d → Is S.the-row (r .ahead) (EL.val S.the-type S′.the-laws (r .ahead) ∷ []) → ent 𝓤 (⋆ 𝓤 H A ((‵ (flft κ q) ⊛ ‵ ftrue) ∷ ‵ (Own α d) ∷ [])) (Post (EL.val S.the-type S′.the-laws (r .ahead)))
+  exits : (r : Step) → r ≡ walkerStep d → Is S.the-row (r .ahead) (EL.val S.the-type S′.the-laws (r .ahead) ∷ []) → ent 𝓤 (⋆ 𝓤 H A ((‵ (flft κ q) ⊛ ‵ ftrue) ∷ ‵ (Own α d) ∷ [])) (Post (EL.val S.the-type S′.the-laws (r .ahead)))
   exits r e is =
       qed W ((‵ (flft κ q) ⊛ ‵ ftrue) ∷ ‵ (Own α d) ∷ []) ∵
       suffices ! _ (ends-at 𝓤 H A peek.ended stayed (peek.clauses 𝓤 H A mem run) W (((κ, tt), (q, tt), tt, (d, tt), (v ∷ [], tt)), tt) (EL.val S.the-type S′.the-laws (r .ahead)) (r .ahead) (tt, tt) (tt, tt)) $ says ! (ap (λ (x : Step). x .ahead) e) $

@@ -33,19 +33,23 @@ enum-told-2 : tie.Need-enum-told-2 Inv-tokens μ-tokens
 enum-told-2 c = search needs
 
 add-n : tie.Need-add-n Inv-tokens μ-tokens
-add-n c = record { fits = let g = (counting.go (c .before .before .before .before .before .tokens .inv) (c .before .before .before .before .step-from .ensures) ((c .before .before .ahead .given) .1) (tag-not-bad _ (c .match2 .keys2))) in omega (arith, g .0 .within, g .0 .few) }
+add-n c =
+    let at4 = c .before .before .before .before in let at5 = at4 .before in
+    record { fits = let g = (counting.go (at5 .tokens .inv) (at4 .step-from .ensures) ((c .before .before .ahead .given) .1) (tag-not-bad _ (c .match2 .keys2))) in omega (arith, g .0 .within, g .0 .few) }
 
 tokens-less : tie.Need-tokens-less Inv-tokens μ-tokens
-tokens-less c = let g = (counting.go (c .before .before .before .before .before .tokens .inv) (c .before .before .before .before .step-from .ensures) ((c .before .before .ahead .given) .1) (tag-not-bad _ (c .match2 .keys2))) in omega (arith, g .0 .within, g .1)
+tokens-less c =
+    let at4 = c .before .before .before .before in let at5 = at4 .before in
+    let g = (counting.go (at5 .tokens .inv) (at4 .step-from .ensures) ((c .before .before .ahead .given) .1) (tag-not-bad _ (c .match2 .keys2))) in omega (arith, g .0 .within, g .1)
 
 tokens-again : tie.Need-tokens-again Inv-tokens μ-tokens
-tokens-again c = (counting.go (c .before .before .before .before .before .tokens .inv) (c .before .before .before .before .step-from .ensures) ((c .before .before .ahead .given) .1) (tag-not-bad _ (c .match2 .keys2))) .0
+tokens-again c = let at4 = c .before .before .before .before in let at5 = at4 .before in (counting.go (at5 .tokens .inv) (at4 .step-from .ensures) ((c .before .before .ahead .given) .1) (tag-not-bad _ (c .match2 .keys2))) .0
 
 returns : tie.Need-returns Inv-tokens μ-tokens
 returns c = counting.end (c .before .before .before .tokens .inv) (c .before .before .step-from .ensures) ((c .enum-told .given) .1)
 
 returns-2 : tie.Need-returns-2 Inv-tokens μ-tokens
-returns-2 c = counting.stop (c .before .before .before .before .before .before .tokens .inv) (c .before .before .before .before .before .step-from .ensures) ((c .before .before .before .ahead .given) .1 ∙ ap (λ t. Found t) ((c .enum-told2 .given) .1))
+returns-2 c = let at5 = c .before .before .before .before .before in let at6 = at5 .before in counting.stop (at6 .tokens .inv) (at5 .step-from .ensures) ((c .before .before .before .ahead .given) .1 ∙ ap (λ t. Found t) ((c .enum-told2 .given) .1))
 
 pub token-count-spec : {M : Type 1} → statement M
 token-count-spec =

@@ -11,7 +11,9 @@ is-text-requires : tie.Need-is-text-requires
 is-text-requires c κs = search needs
 
 returns : tie.Need-returns
-returns c = laws.no-text (c .before .before .before .args .s .now) {r = trimRange (c .before .before .before .args .s .now)} refl (sym (c .before .is-text .ensures) ∙ not-true _ (c .if1 .taken))
+returns c =
+    let start = c .before .before .before in
+    laws.no-text (start .args .s .now) {r = trimRange (start .args .s .now)} refl (sym (c .before .is-text .ensures) ∙ not-true _ (c .if1 .taken))
 
 trim-ascii-requires : tie.Need-trim-ascii-requires
 trim-ascii-requires c κs = search needs
@@ -29,7 +31,9 @@ continues-run-requires : tie.Need-continues-run-requires
 continues-run-requires c κs = search needs
 
 returns-2 : tie.Need-returns-2
-returns-2 c = laws.cut-out (c .before .before .before .before .before .before .args .s .now) (c .before .before .trim-ascii .ensures) (sym (c .before .before .before .before .is-text .ensures) ∙ not-false _ (c .before .before .before .if1 .left)) (c .continues-run .ensures)
+returns-2 c =
+    let at4 = c .before .before .before .before in let at6 = at4 .before .before in
+    laws.cut-out (at6 .args .s .now) (c .before .before .trim-ascii .ensures) (sym (at4 .is-text .ensures) ∙ not-false _ (c .before .before .before .if1 .left)) (c .continues-run .ensures)
 
 pub valid-wrapped-attr-continuation-spec : {M : Type 1} → statement M
 valid-wrapped-attr-continuation-spec =

@@ -6,7 +6,7 @@ use Rattle.text_names.specs.Names.{isBareName}
 use Rattle.block_grammar.proofs.Bytes.{letter-key, key-part}
 use Rattle.block_grammar.specs.Grammar.{Item}
 use Rattle.block_tokens.specs.Shown.{shownItem}
-use Rattle.block_tokens.proofs.Runs as runs
+use Rattle.base_lists.proofs.Runs as runs
 use Rattle.block_tokens.proofs.Words as words
 use borrow.Author.Needs.{needs}
 use Rattle.block_tokens.proofs.name_token.Statement.{statement}
@@ -27,27 +27,31 @@ finish-requires c κs = search needs
 returns : tie.Need-returns
 unfolding shownItem isBareName
 returns c =
-    let a = c .before .before .before .before .before .before .args in
-    words.name-bare (a .mode) (a .i) (a .s .now) (c .before .before .before .before .part-end .ensures) (sym (c .before .before .before .has-equals .ensures) ∙ not-true _ (c .before .before .if1 .taken))
-    (words.headed-word isLetter isNamePart (λ b h. key-part b (letter-key b h)) _ _ _ (λ n. Item.bare n) (c .before .before .before .before .part-end .ensures) (omega (arith, c .before .before .before .before .before .before .pre)) (c .before .starts-bare .ensures) (λ n h. rw h) (c .finish .ensures))
+    let at4 = c .before .before .before .before in let at6 = at4 .before .before in
+    let a = at6 .args in
+    words.name-bare (a .mode) (a .i) (a .s .now) (at4 .part-end .ensures) (sym (c .before .before .before .has-equals .ensures) ∙ not-true _ (c .before .before .if1 .taken))
+    (words.headed-word isLetter isNamePart (λ b h. key-part b (letter-key b h)) _ _ _ (λ n. Item.bare n) (at4 .part-end .ensures) (omega (arith, at6 .pre)) (c .before .starts-bare .ensures) (λ n h. rw h) (c .finish .ensures))
 
 starts-key-requires : tie.Need-starts-key-requires
 starts-key-requires c κs = search needs
 
 returns-2 : tie.Need-returns-2
 returns-2 c =
-    let a = c .before .before .before .before .before .before .args in
-    words.name-bad (a .mode) (a .i) (a .s .now) (c .before .before .before .before .part-end .ensures) (sym (c .before .before .before .has-equals .ensures) ∙ not-false _ (c .before .before .if1 .left)) (sym (c .before .starts-key .ensures) ∙ not-true _ (c .if2 .taken))
+    let at4 = c .before .before .before .before in let at6 = at4 .before .before in
+    let a = at6 .args in
+    words.name-bad (a .mode) (a .i) (a .s .now) (at4 .part-end .ensures) (sym (c .before .before .before .has-equals .ensures) ∙ not-false _ (c .before .before .if1 .left)) (sym (c .before .starts-key .ensures) ∙ not-true _ (c .if2 .taken))
 
 value-token-requires : tie.Need-value-token-requires
 value-token-requires c κs =
-    let a = c .before .before .before .before .before .before .args in
-    omega (arith, runs.inside isNamePart (a .s .now) (c .before .before .before .before .part-end .ensures) (omega (arith, c .before .before .before .before .before .before .pre)), words.starts-within (a .s .now) (c .before .before .before .before .part-end .result) (sym (c .before .before .before .has-equals .ensures) ∙ not-false _ (c .before .before .if1 .left)))
+    let at4 = c .before .before .before .before in let at6 = at4 .before .before in
+    let a = at6 .args in
+    omega (arith, runs.inside isNamePart (a .s .now) (at4 .part-end .ensures) (omega (arith, at6 .pre)), words.starts-within (a .s .now) (at4 .part-end .result) (sym (c .before .before .before .has-equals .ensures) ∙ not-false _ (c .before .before .if1 .left)))
 
 returns-3 : tie.Need-returns-3
 returns-3 c =
-    let a = c .before .before .before .before .before .before .before .args in
-    words.name-key (a .mode) (a .i) (a .s .now) (c .before .before .before .before .before .part-end .ensures) (sym (c .before .before .before .before .has-equals .ensures) ∙ not-false _ (c .before .before .before .if1 .left)) (sym (c .before .before .starts-key .ensures) ∙ not-false _ (c .before .if2 .left)) (c .value-token .ensures)
+    let at4 = c .before .before .before .before in let at5 = at4 .before in let at7 = at5 .before .before in
+    let a = at7 .args in
+    words.name-key (a .mode) (a .i) (a .s .now) (at5 .part-end .ensures) (sym (at4 .has-equals .ensures) ∙ not-false _ (c .before .before .before .if1 .left)) (sym (c .before .before .starts-key .ensures) ∙ not-false _ (c .before .if2 .left)) (c .value-token .ensures)
 
 pub name-token-spec : {M : Type 1} → statement M
 name-token-spec =

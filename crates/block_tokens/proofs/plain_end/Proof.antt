@@ -6,7 +6,7 @@ use borrow.Author.Tests.{not-true, not-false}
 use lib.ListN.{length, drop}
 use Rattle.base_lists.specs.Lists.{run}
 use Rattle.base_bytes.specs.Bytes.{isPlain}
-use Rattle.block_tokens.proofs.Runs as runs
+use Rattle.base_lists.proofs.Runs as runs
 use Rattle.block_tokens.proofs.plain_end.Statement.{statement}
 use Rattle.block_tokens.proofs.plain_end.Tie as tie
 

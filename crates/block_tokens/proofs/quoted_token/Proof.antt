@@ -27,13 +27,15 @@ enum-known-e c = search needs
 
 add-finish : tie.Need-add-finish
 add-finish c =
-    let a = c .before .before .before .before .before .before .args in
-    omega (arith, quotes.closed _ (a .s .now) ((a .k) + 2) (sym (c .before .e .given .1) ∙ (c .before .before .before .quote-end .ensures)) (omega (arith, c .before .before .before .before .before .before .pre)) .within)
+    let at6 = c .before .before .before .before .before .before in
+    let a = at6 .args in
+    omega (arith, quotes.closed _ (a .s .now) ((a .k) + 2) (sym (c .before .e .given .1) ∙ (c .before .before .before .quote-end .ensures)) (omega (arith, at6 .pre)) .within)
 
 add-t13 : tie.Need-add-t13
 add-t13 c =
-    let a = c .before .before .before .before .before .before .args in
-    omega (arith, quotes.closed _ (a .s .now) ((a .k) + 2) (sym (c .before .e .given .1) ∙ (c .before .before .before .quote-end .ensures)) (omega (arith, c .before .before .before .before .before .before .pre)) .within)
+    let at6 = c .before .before .before .before .before .before in
+    let a = at6 .args in
+    omega (arith, quotes.closed _ (a .s .now) ((a .k) + 2) (sym (c .before .e .given .1) ∙ (c .before .before .before .quote-end .ensures)) (omega (arith, at6 .pre)) .within)
 
 finish-requires : tie.Need-finish-requires
 finish-requires c κs = search needs
@@ -45,8 +47,9 @@ returns c =
 
 returns-2 : tie.Need-returns-2
 returns-2 c =
-    let a = c .before .before .before .before .before .before .before .args in
-    words.quoted-some (a .mode) (a .i) (a .k) (a .s .now) _ (omega (arith, c .before .before .before .before .before .before .before .pre)) (omega (arith, c .before .before .before .before .before .before .before .pre)) (quotes.closed _ (a .s .now) ((a .k) + 2) (sym (c .before .before .e .given .1) ∙ (c .before .before .before .before .quote-end .ensures)) (omega (arith, c .before .before .before .before .before .before .before .pre))) (c .finish .ensures)
+    let at4 = c .before .before .before .before in let at7 = at4 .before .before .before in
+    let a = at7 .args in
+    words.quoted-some (a .mode) (a .i) (a .k) (a .s .now) _ (omega (arith, at7 .pre)) (omega (arith, at7 .pre)) (quotes.closed _ (a .s .now) ((a .k) + 2) (sym (c .before .before .e .given .1) ∙ (at4 .quote-end .ensures)) (omega (arith, at7 .pre))) (c .finish .ensures)
 
 pub quoted-token-spec : {M : Type 1} → statement M
 quoted-token-spec =

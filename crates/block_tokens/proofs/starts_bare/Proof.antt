@@ -16,7 +16,7 @@ is-letter-requires : tie.Need-is-letter-requires
 is-letter-requires c κs = search needs
 
 returns-2 : tie.Need-returns-2
-returns-2 c = (c .is-letter .ensures) ∙ words.first-some isLetter (c .before .before .before .before .args .s .now) (c .before .before .before .before .args .i) (omega arith)
+returns-2 c = let at4 = c .before .before .before .before in (c .is-letter .ensures) ∙ words.first-some isLetter (at4 .args .s .now) (at4 .args .i) (omega arith)
 
 pub starts-bare-spec : {M : Type 1} → statement M
 starts-bare-spec =

@@ -16,7 +16,7 @@ is-attr-ident-start-requires : tie.Need-is-attr-ident-start-requires
 is-attr-ident-start-requires c κs = search needs
 
 returns-2 : tie.Need-returns-2
-returns-2 c = (c .is-attr-ident-start .ensures) ∙ words.first-some isKeyStart (c .before .before .before .before .args .s .now) (c .before .before .before .before .args .i) (omega arith)
+returns-2 c = let at4 = c .before .before .before .before in (c .is-attr-ident-start .ensures) ∙ words.first-some isKeyStart (at4 .args .s .now) (at4 .args .i) (omega arith)
 
 pub starts-key-spec : {M : Type 1} → statement M
 starts-key-spec =

@@ -16,7 +16,7 @@ is-css-ident-start-requires : tie.Need-is-css-ident-start-requires
 is-css-ident-start-requires c κs = search needs
 
 returns-2 : tie.Need-returns-2
-returns-2 c = (c .is-css-ident-start .ensures) ∙ words.first-some isNameStart (c .before .before .before .before .args .s .now) (c .before .before .before .before .args .i) (omega arith)
+returns-2 c = let at4 = c .before .before .before .before in (c .is-css-ident-start .ensures) ∙ words.first-some isNameStart (at4 .args .s .now) (at4 .args .i) (omega arith)
 
 pub starts-name-spec : {M : Type 1} → statement M
 starts-name-spec =

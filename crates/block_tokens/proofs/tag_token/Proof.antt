@@ -3,7 +3,7 @@ use Rattle.base_bytes.specs.Bytes.{isNamePart}
 use Rattle.text_names.specs.Tags.{isLanguage}
 use Rattle.block_grammar.specs.Grammar.{Item}
 use Rattle.block_tokens.specs.Shown.{shownItem}
-use Rattle.block_tokens.proofs.Runs as runs
+use Rattle.base_lists.proofs.Runs as runs
 use Rattle.block_tokens.proofs.Words as words
 use borrow.Author.Needs.{needs}
 use Rattle.block_tokens.proofs.tag_token.Statement.{statement}

@@ -1,4 +1,5 @@
 use mathlib.Core.List.{[], _∷_}
+use mathlib.Core.Path.{refl}
 use Rattle.door_shared.proofs.Laws.{set-said, told-5}
 use borrow.Author.Needs.{needs}
 use Rattle.door_blocks.proofs.say_block.Statement.{statement}
@@ -6,9 +7,6 @@ use Rattle.door_blocks.proofs.say_block.Tie as tie
 
 text-over-requires : tie.Need-text-over-requires
 text-over-requires c κs = search needs
-
-check-out-requires : tie.Need-check-out-requires
-check-out-requires c κs = search needs
 
 write-out-requires : tie.Need-write-out-requires
 write-out-requires c κs = search needs
@@ -41,14 +39,20 @@ same-length-2 : tie.Need-same-length-2
 same-length-2 c = search needs
 
 returns : tie.Need-returns
-returns c = set-said (c .before .before .before .before .before .before .before .before .before .before .before .before .before .before .before .before .before .before .before .before .before .before .before .before .before .before .before .before .before .before .before .before .args .out .now) (c .before .before .before .before .before .before .before .before .before .before .before .before .before .before .before .before .before .before .before .before .before .before .before .before .before .before .before .before .before .before .before .before .args .told .now) ((c .before .before .before .before .before .before .before .before .before .before .before .before .before .before .before .before .before .before .before .before .before .before .before .before .before .before .before .before .before .before .before .before .args .block .set)) (λ n. (c .before .before .before .before .before .before .before .before .before .before .before .before .before .before .before .before .before .before .before .before .before .before .before .before .before .before .before .before .before .before .before .before .args .block .lines) ∷ (c .before .before .before .before .before .before .before .before .before .before .before .before .before .before .before .before .before .before .before .before .before .before .before .before .before .before .before .before .before .before .before .before .args .block .next) ∷ (c .before .before .before .before .before .before .before .before .before .before .before .before .before .before .before .before .before .before .before .before .before .before .before .before .before .before .before .before .before .before .before .before .args .block .lookahead) ∷ (c .before .before .before .before .before .before .before .before .before .before .before .before .before .before .before .before .before .before .before .before .before .before .before .before .before .before .before .before .before .before .before .before .args .block .joined) ∷ n ∷ []) (c .before .before .before .before .before .before .before .before .before .before .before .before .before .before .before .before .before .before .before .before .before .before .before .before .before .before .check-out .ensures) (c .before .before .before .before .before .before .before .before .before .before .before .before .before .before .before .before .before .before .before .before .before .before .before .before .before .before .before .text-over .ensures) (c .before .before .before .before .before .before .before .before .before .before .before .before .before .before .before .before .before .before .before .before .before .before .before .before .write-out .ensures .0) (c .before .before .before .before .before .before .before .before .before .before .before .before .before .before .before .before .before .before .before .before .before .before .before .before .write-out .ensures .1) (c .before .before .before .before .wrote-len .ensures) (told-5 _ _ _ _ _ _ (c .before .before .before .before .before .before .before .before .before .before .before .before .before .before .before .before .before .before .before .before .tell .ensures) (c .before .before .before .before .before .before .before .before .before .before .before .before .before .before .before .before .tell2 .ensures) (c .before .before .before .before .before .before .before .before .before .before .before .before .tell3 .ensures) (c .before .before .before .before .before .before .before .before .tell4 .ensures) (c .before .before .before .tell5 .ensures)) (c .wrote-number .ensures)
+returns c =
+    let at4 = c .before .before .before .before in let at8 = at4 .before .before .before .before in let at12 = at8 .before .before .before .before in
+    let at16 = at12 .before .before .before .before in let at20 = at16 .before .before .before .before in let at24 = at20 .before .before .before .before in
+    let at26 = at24 .before .before in let at31 = at26 .before .before .before .before .before in
+    set-said (at31 .args .out .now) (at31 .args .told .now) (at31 .args .block .set)
+    (λ n. (at31 .args .block .lines) ∷ (at31 .args .block .next) ∷ (at31 .args .block .lookahead) ∷ (at31 .args .block .joined) ∷ n ∷ []) {c = at31 .args .block .outcome} refl
+    (at26 .text-over .ensures) (at24 .write-out .ensures .0) (at24 .write-out .ensures .1) (at4 .wrote-len .ensures)
+    (told-5 _ _ _ _ _ _ (at20 .tell .ensures) (at16 .tell2 .ensures) (at12 .tell3 .ensures) (at8 .tell4 .ensures) (c .before .before .before .tell5 .ensures)) (c .wrote-number .ensures)
 
 pub say-block-spec : {M : Type 1} → statement M
 say-block-spec =
     tie.close
     (tie.spec
     text-over-requires
-    check-out-requires
     write-out-requires
     tell-requires
     tell-requires-2

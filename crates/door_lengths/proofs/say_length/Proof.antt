@@ -25,7 +25,10 @@ same-length : tie.Need-same-length
 same-length c = search needs
 
 returns : tie.Need-returns
-returns c = ((c .length-number .ensures), rw (← (c .before .before .before .before .before .before .before .before .before .before .before .before .before .before .before .before .lines-in .ensures)) (told-4 _ _ _ _ _ (c .before .before .before .before .before .before .before .before .before .before .before .before .before .before .before .tell .ensures) (c .before .before .before .before .before .before .before .before .before .before .before .tell2 .ensures) (c .before .before .before .before .before .before .before .tell3 .ensures) (c .before .before .before .tell4 .ensures)))
+returns c =
+    let at7 = c .before .before .before .before .before .before .before in let at11 = at7 .before .before .before .before in let at15 = at11 .before .before .before .before in
+    let at16 = at15 .before in
+    ((c .length-number .ensures), rw (← (at16 .lines-in .ensures)) (told-4 _ _ _ _ _ (at15 .tell .ensures) (at11 .tell2 .ensures) (at7 .tell3 .ensures) (c .before .before .before .tell4 .ensures)))
 
 pub say-length-spec : {M : Type 1} → statement M
 say-length-spec =

@@ -21,7 +21,9 @@ same-length-3 : tie.Need-same-length-3
 same-length-3 c = search needs
 
 returns : tie.Need-returns
-returns c = laws.part-told _ (startOf (c .before .before .before .before .before .before .before .before .before .before .before .before .before .before .before .args .text .now) (length (c .before .before .before .before .before .before .before .before .before .before .before .before .before .before .before .args .join .now)) (length (c .before .before .before .before .before .before .before .before .before .before .before .before .before .before .before .args .out .now))) ((c .before .before .before .before .before .before .before .before .report-start .ensures .0)) ((c .before .before .before .before .before .before .before .before .report-start .ensures .1 .0)) ((c .before .before .before .before .before .before .before .before .report-start .ensures .1 .1)) ((c .before .before .say-part .ensures .0)) ((c .before .before .say-part .ensures .1))
+returns c =
+    let at8 = c .before .before .before .before .before .before .before .before in let at15 = at8 .before .before .before .before .before .before .before in
+    laws.part-told _ (startOf (at15 .args .text .now) (length (at15 .args .join .now)) (length (at15 .args .out .now))) (at8 .report-start .ensures .0) (at8 .report-start .ensures .1 .0) (at8 .report-start .ensures .1 .1) (c .before .before .say-part .ensures .0) (c .before .before .say-part .ensures .1)
 
 pub bridlesnow-report-start-spec : {M : Type 1} → statement M
 bridlesnow-report-start-spec =

@@ -19,7 +19,9 @@ same-length : tie.Need-same-length
 same-length c = search needs
 
 returns : tie.Need-returns
-returns c = ((c .told-number .ensures), told-3 _ _ _ _ (c .before .before .before .before .before .before .before .before .before .before .before .tell .ensures) (c .before .before .before .before .before .before .before .tell2 .ensures) (c .before .before .before .tell3 .ensures))
+returns c =
+    let at7 = c .before .before .before .before .before .before .before in let at11 = at7 .before .before .before .before in
+    ((c .told-number .ensures), told-3 _ _ _ _ (at11 .tell .ensures) (at7 .tell2 .ensures) (c .before .before .before .tell3 .ensures))
 
 pub say-part-spec : {M : Type 1} → statement M
 say-part-spec =

@@ -37,7 +37,11 @@ same-length-2 : tie.Need-same-length-2
 same-length-2 c = search needs
 
 returns : tie.Need-returns
-returns c = laws.run-told _ (refusedRun (length (c .before .before .before .before .before .before .before .before .before .before .before .before .before .before .before .before .before .before .before .before .before .before .before .before .before .before .args .join .now)) (c .before .before .before .before .before .before .before .before .before .before .before .before .before .before .before .before .before .before .before .before .before .before .before .before .before .before .args .text .now) (c .before .before .before .before .before .before .before .before .before .before .before .before .before .before .before .before .before .before .before .before .before .before .before .before .before .before .args .line)) (c .before .before .before .before .before .before .before .before .before .before .before .before .before .before .before .before .before .before .before .before .before .refused-brace-run .ensures .0) (c .before .before .before .before .before .before .before .before .before .before .before .before .before .before .before .before .before .before .before .before .before .refused-brace-run .ensures .1) (c .before .before .before .before .before .before .before .before .before .before .before .before .before .before .before .before .before .kind-of .ensures) (c .before .before .before .before .before .before .before .before .before .before .before .before .lines-of .ensures) (told-4 _ _ _ _ _ (c .before .before .before .before .before .before .before .before .before .before .before .before .before .before .before .before .tell .ensures) (c .before .before .before .before .before .before .before .before .before .before .before .tell2 .ensures) (c .before .before .before .before .before .before .before .tell3 .ensures) (c .before .before .before .tell4 .ensures)) (c .answer-number .ensures)
+returns c =
+    let at7 = c .before .before .before .before .before .before .before in let at11 = at7 .before .before .before .before in let at12 = at11 .before in
+    let at16 = at12 .before .before .before .before in let at17 = at16 .before in let at21 = at17 .before .before .before .before in
+    let at26 = at21 .before .before .before .before .before in
+    laws.run-told _ (refusedRun (length (at26 .args .join .now)) (at26 .args .text .now) (at26 .args .line)) (at21 .refused-brace-run .ensures .0) (at21 .refused-brace-run .ensures .1) (at17 .kind-of .ensures) (at12 .lines-of .ensures) (told-4 _ _ _ _ _ (at16 .tell .ensures) (at11 .tell2 .ensures) (at7 .tell3 .ensures) (c .before .before .before .tell4 .ensures)) (c .answer-number .ensures)
 
 pub bridlesnow-refused-brace-run-spec : {M : Type 1} → statement M
 bridlesnow-refused-brace-run-spec =

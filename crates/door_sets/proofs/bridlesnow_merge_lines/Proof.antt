@@ -1,3 +1,4 @@
+use mathlib.Core.Path.{refl}
 use Rattle.door_shared.proofs.Laws.{told-2}
 use Rattle.door_sets.proofs.Said as laws
 use borrow.Author.Needs.{needs}
@@ -12,15 +13,6 @@ parse-standalone-attrs-requires-2 c κs = search needs
 
 merge-attrs-requires : tie.Need-merge-attrs-requires
 merge-attrs-requires c κs = search needs
-
-check-out-requires : tie.Need-check-out-requires
-check-out-requires c κs = search needs
-
-check-out-requires-2 : tie.Need-check-out-requires-2
-check-out-requires-2 c κs = search needs
-
-check-out-requires-3 : tie.Need-check-out-requires-3
-check-out-requires-3 c κs = search needs
 
 first-of-requires : tie.Need-first-of-requires
 first-of-requires c κs = search needs
@@ -53,7 +45,12 @@ same-length-2 : tie.Need-same-length-2
 same-length-2 c = search needs
 
 returns : tie.Need-returns
-returns c = laws.merge-said _ _ _ _ _ (c .before .before .before .before .before .before .before .before .before .before .before .before .before .before .before .before .before .before .before .before .before .before .parse-standalone-attrs .ensures) (c .before .before .before .before .before .before .before .before .before .before .before .before .before .before .before .before .before .before .before .before .before .parse-standalone-attrs2 .ensures) (c .before .before .before .before .before .before .before .before .before .before .before .before .before .before .before .before .before .before .before .before .merge-attrs .ensures) (c .before .before .before .before .before .before .before .before .before .before .before .before .before .before .before .before .before .before .before .check-out .ensures) (c .before .before .before .before .before .before .before .before .before .before .before .before .before .before .before .before .before .before .check-out2 .ensures) (c .before .before .before .before .before .before .before .before .before .before .before .before .before .before .before .before .before .check-out3 .ensures) (c .before .before .before .before .before .before .before .before .before .before .before .before .before .before .before .before .first-of .ensures) (c .before .before .before .before .before .before .before .before .before .before .before .before .before .before .before .first-of2 .ensures) (c .before .before .before .before .before .before .before .before .before .before .before .before .before .write-out .ensures .0) (c .before .before .before .before .before .before .before .before .before .before .before .before .before .write-out .ensures .1) (c .before .before .before .before .before .before .before .before .before .step-of .ensures) (c .before .before .before .before .wrote-len .ensures) (told-2 _ _ _ (c .before .before .before .before .before .before .before .before .tell .ensures) (c .before .before .before .tell2 .ensures)) (c .wrote-number .ensures)
+returns c =
+    let at4 = c .before .before .before .before in let at8 = at4 .before .before .before .before in let at9 = at8 .before in let at13 = at9 .before .before .before .before in
+    let at15 = at13 .before .before in let at16 = at15 .before in let at17 = at16 .before in let at18 = at17 .before in let at19 = at18 .before in
+    laws.merge-said _ _ _ _ _ (at19 .parse-standalone-attrs .ensures) (at18 .parse-standalone-attrs2 .ensures) (at17 .merge-attrs .ensures) refl refl refl (at16 .first-of .ensures)
+    (at15 .first-of2 .ensures) (at13 .write-out .ensures .0) (at13 .write-out .ensures .1) (at9 .step-of .ensures) (at4 .wrote-len .ensures)
+    (told-2 _ _ _ (at8 .tell .ensures) (c .before .before .before .tell2 .ensures)) (c .wrote-number .ensures)
 
 pub bridlesnow-merge-lines-spec : {M : Type 1} → statement M
 bridlesnow-merge-lines-spec =
@@ -62,9 +59,6 @@ bridlesnow-merge-lines-spec =
     parse-standalone-attrs-requires
     parse-standalone-attrs-requires-2
     merge-attrs-requires
-    check-out-requires
-    check-out-requires-2
-    check-out-requires-3
     first-of-requires
     first-of-requires-2
     write-out-requires

@@ -1,3 +1,4 @@
+use mathlib.Core.Path.{refl}
 use Rattle.door_shared.proofs.Laws.{told-1}
 use Rattle.door_sets.proofs.Said as laws
 use borrow.Author.Needs.{needs}
@@ -6,9 +7,6 @@ use Rattle.door_sets.proofs.bridlesnow_parse_standalone_attrs.Tie as ti
 
 parse-standalone-attrs-requires : tie.Need-parse-standalone-attrs-requires
 parse-standalone-attrs-requires c κs = search needs
-
-check-out-requires : tie.Need-check-out-requires
-check-out-requires c κs = search needs
 
 write-out-requires : tie.Need-write-out-requires
 write-out-requires c κs = search needs
@@ -29,14 +27,15 @@ same-length-2 : tie.Need-same-length-2
 same-length-2 c = search needs
 
 returns : tie.Need-returns
-returns c = laws.line-said _ _ _ _ (c .before .before .before .before .before .before .before .before .before .before .before .parse-standalone-attrs .ensures) (c .before .before .before .before .before .before .before .before .before .before .check-out .ensures) (c .before .before .before .before .before .before .before .before .write-out .ensures .0) (c .before .before .before .before .before .before .before .before .write-out .ensures .1) (c .before .before .before .before .wrote-len .ensures) (told-1 _ _ (c .before .before .before .tell .ensures)) (c .wrote-number .ensures)
+returns c =
+    let at4 = c .before .before .before .before in let at8 = at4 .before .before .before .before in let at10 = at8 .before .before in
+    laws.line-said _ _ _ _ (at10 .parse-standalone-attrs .ensures) refl (at8 .write-out .ensures .0) (at8 .write-out .ensures .1) (at4 .wrote-len .ensures) (told-1 _ _ (c .before .before .before .tell .ensures)) (c .wrote-number .ensures)
 
 pub bridlesnow-parse-standalone-attrs-spec : {M : Type 1} → statement M
 bridlesnow-parse-standalone-attrs-spec =
     tie.close
     (tie.spec
     parse-standalone-attrs-requires
-    check-out-requires
     write-out-requires
     wrote-len-requires
     tell-requires

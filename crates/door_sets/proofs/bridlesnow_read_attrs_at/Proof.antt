@@ -41,7 +41,10 @@ same-length-2 : tie.Need-same-length-2
 same-length-2 c = search needs
 
 returns : tie.Need-returns
-returns c = laws.brace-said _ _ _ _ (c .before .before .before .before .before .before .before .before .before .before .before .before .before .before .before .before .before .before .mode-of .ensures) (c .before .before .before .before .before .before .before .before .before .before .before .before .before .before .before .before .before .read-attrs-at-with .ensures) (c .before .before .before .before .before .before .before .before .before .before .before .before .before .before .before .before .check-by .ensures) (c .before .before .before .before .before .before .before .before .before .before .before .before .before .before .before .or-text .ensures) (c .before .before .before .before .before .before .before .before .before .before .before .before .before .write-out .ensures .0) (c .before .before .before .before .before .before .before .before .before .before .before .before .before .write-out .ensures .1) (c .before .before .before .before .before .before .before .before .before .next-of .ensures) (c .before .before .before .before .wrote-len .ensures) (told-2 _ _ _ (c .before .before .before .before .before .before .before .before .tell .ensures) (c .before .before .before .tell2 .ensures)) (c .wrote-number .ensures)
+returns c =
+    let at4 = c .before .before .before .before in let at8 = at4 .before .before .before .before in let at9 = at8 .before in let at13 = at9 .before .before .before .before in
+    let at15 = at13 .before .before in let at16 = at15 .before in let at17 = at16 .before in let at18 = at17 .before in
+    laws.brace-said _ _ _ _ (at18 .mode-of .ensures) (at17 .read-attrs-at-with .ensures) (at16 .check-by .ensures) (at15 .or-text .ensures) (at13 .write-out .ensures .0) (at13 .write-out .ensures .1) (at9 .next-of .ensures) (at4 .wrote-len .ensures) (told-2 _ _ _ (at8 .tell .ensures) (c .before .before .before .tell2 .ensures)) (c .wrote-number .ensures)
 
 pub bridlesnow-read-attrs-at-spec : {M : Type 1} → statement M
 bridlesnow-read-attrs-at-spec =

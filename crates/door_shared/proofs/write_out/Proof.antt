@@ -18,7 +18,7 @@ same-length : tie.Need-same-length
 same-length c = search needs
 
 returns-2 : tie.Need-returns-2
-returns-2 c = (rw ((c .before .before .before .before .enum-told .given .1)) ((c .before .before .write-set .ensures .0)), rw ((c .before .before .before .before .enum-told .given .1)) ((c .before .before .write-set .ensures .1)))
+returns-2 c = let at4 = c .before .before .before .before in (rw (at4 .enum-told .given .1) (c .before .before .write-set .ensures .0), rw (at4 .enum-told .given .1) (c .before .before .write-set .ensures .1))
 
 pub write-out-spec : {M : Type 1} → statement M
 write-out-spec =

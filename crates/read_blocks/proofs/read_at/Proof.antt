@@ -29,7 +29,9 @@ same-length : tie.Need-same-length
 same-length c = search needs
 
 returns-3 : tie.Need-returns-3
-returns-3 c = laws.read-by _ _ _ (laws.sized-is _ _ (c .before .before .before .before .before .before .before .before .before .if1 .left) ∙ open-run _ _ _ _ (c .before .before .before .before .before .before .before .before .trimmed-line .ensures) (opens-by _ _ (c .before .before .before .before .before .before .before .before .trimmed-line .ensures) (not-false _ (c .before .before .before .before .before .before .if2 .left))) (closes-by _ _ (c .before .before .before .before .before .before .before .before .trimmed-line .ensures) (not-true _ (c .before .before .before .before .if3 .taken)))) (c .before .before .read-run .ensures .0) (c .before .before .read-run .ensures .1)
+returns-3 c =
+    let at4 = c .before .before .before .before in let at6 = at4 .before .before in let at8 = at6 .before .before in let at9 = at8 .before in
+    laws.read-by _ _ _ (laws.sized-is _ _ (at9 .if1 .left) ∙ open-run _ _ _ _ (at8 .trimmed-line .ensures) (opens-by _ _ (at8 .trimmed-line .ensures) (not-false _ (at6 .if2 .left))) (closes-by _ _ (at8 .trimmed-line .ensures) (not-true _ (at4 .if3 .taken)))) (c .before .before .read-run .ensures .0) (c .before .before .read-run .ensures .1)
 
 fill-chain-requires : tie.Need-fill-chain-requires
 fill-chain-requires c κs = search needs
@@ -41,13 +43,21 @@ no-block-requires-3 : tie.Need-no-block-requires-3
 no-block-requires-3 c κs = search needs
 
 returns-4 : tie.Need-returns-4
-returns-4 c = laws.read-by _ _ _ (laws.sized-is _ _ (c .before .before .before .before .before .before .before .before .before .if1 .left) ∙ laws.found-shut _ _ _ _ (c .before .before .before .before .before .before .before .before .trimmed-line .ensures) (opens-by _ _ (c .before .before .before .before .before .before .before .before .trimmed-line .ensures) (not-false _ (c .before .before .before .before .before .before .if2 .left))) (laws.good-by _ _ _ (c .before .before .before .before .before .before .before .before .before .if1 .left) (c .before .before .before .fill-chain .ensures) (c .before .before .is-unread .ensures) (c .before .if4 .taken)) (closes-by _ _ (c .before .before .before .before .before .before .before .before .trimmed-line .ensures) (not-false _ (c .before .before .before .before .if3 .left)))) (laws.none-read _ _ (c .no-block3 .ensures)) (laws.none-holds _ _)
+returns-4 c =
+    let at4 = c .before .before .before .before in let at6 = at4 .before .before in let at8 = at6 .before .before in let at9 = at8 .before in
+    laws.read-by _ _ _ (laws.sized-is _ _ (at9 .if1 .left) ∙ laws.found-shut _ _ _ _ (at8 .trimmed-line .ensures) (opens-by _ _ (at8 .trimmed-line .ensures) (not-false _ (at6 .if2 .left)))
+    (laws.good-by _ _ _ (at9 .if1 .left) (c .before .before .before .fill-chain .ensures) (c .before .before .is-unread .ensures) (c .before .if4 .taken))
+    (closes-by _ _ (at8 .trimmed-line .ensures) (not-false _ (at4 .if3 .left)))) (laws.none-read _ _ (c .no-block3 .ensures)) (laws.none-holds _ _)
 
 block-of-requires : tie.Need-block-of-requires
 block-of-requires c κs = search needs
 
 returns-5 : tie.Need-returns-5
-returns-5 c = laws.read-by _ _ _ (laws.sized-is _ _ (c .before .before .before .before .before .before .before .before .before .if1 .left) ∙ laws.found-line _ _ _ _ (c .before .before .before .before .before .before .before .before .trimmed-line .ensures) (opens-by _ _ (c .before .before .before .before .before .before .before .before .trimmed-line .ensures) (not-false _ (c .before .before .before .before .before .before .if2 .left))) (laws.good-by _ _ _ (c .before .before .before .before .before .before .before .before .before .if1 .left) (c .before .before .before .fill-chain .ensures) (c .before .before .is-unread .ensures) (c .before .if4 .left))) (laws.line-read _ _ (c .before .before .before .before .before .before .before .before .trimmed-line .ensures) (c .before .before .before .fill-chain .ensures) (c .block-of .ensures)) (laws.line-holds _)
+returns-5 c =
+    let at6 = c .before .before .before .before .before .before in let at8 = at6 .before .before in let at9 = at8 .before in
+    laws.read-by _ _ _ (laws.sized-is _ _ (at9 .if1 .left) ∙ laws.found-line _ _ _ _ (at8 .trimmed-line .ensures) (opens-by _ _ (at8 .trimmed-line .ensures) (not-false _ (at6 .if2 .left)))
+    (laws.good-by _ _ _ (at9 .if1 .left) (c .before .before .before .fill-chain .ensures) (c .before .before .is-unread .ensures) (c .before .if4 .left)))
+    (laws.line-read _ _ (at8 .trimmed-line .ensures) (c .before .before .before .fill-chain .ensures) (c .block-of .ensures)) (laws.line-holds _)
 
 pub read-at-spec : {M : Type 1} → statement M
 read-at-spec =

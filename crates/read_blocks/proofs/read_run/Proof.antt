@@ -17,10 +17,14 @@ enum-told : tie.Need-enum-told
 enum-told c = search needs
 
 slice-reshare-prefix-fill-chain : tie.Need-slice-reshare-prefix-fill-chain
-slice-reshare-prefix-fill-chain c = laws.joined-in (c .before .before .before .before .before .before .before .before .args .text .now) (c .before .before .before .before .before .before .before .before .args .at) (c .before .before .before .before .before .before .before .before .args .base) (c .before .before .before .before .before .before .before .before .args .join .now) (c .before .before .before .before .join-run .ensures .0) (c .before .before .before .before .join-run .ensures .1)
+slice-reshare-prefix-fill-chain c =
+    let at4 = c .before .before .before .before in let at8 = at4 .before .before .before .before in
+    laws.joined-in (at8 .args .text .now) (at8 .args .at) (at8 .args .base) (at8 .args .join .now) (at4 .join-run .ensures .0) (at4 .join-run .ensures .1)
 
 slice-aggregate-fill-chain : tie.Need-slice-aggregate-fill-chain
-slice-aggregate-fill-chain c = sym (laws.joined-long (c .before .before .before .before .before .before .before .before .before .args .text .now) (c .before .before .before .before .before .before .before .before .before .args .at) (c .before .before .before .before .before .before .before .before .before .args .base) (c .before .before .before .before .before .before .before .before .before .args .join .now) (c .before .before .before .before .before .join-run .ensures .0) (c .before .before .before .before .before .join-run .ensures .1))
+slice-aggregate-fill-chain c =
+    let at5 = c .before .before .before .before .before in let at9 = at5 .before .before .before .before in
+    sym (laws.joined-long (at9 .args .text .now) (at9 .args .at) (at9 .args .base) (at9 .args .join .now) (at5 .join-run .ensures .0) (at5 .join-run .ensures .1))
 
 fill-chain-requires : tie.Need-fill-chain-requires
 fill-chain-requires c κs = search needs
@@ -35,7 +39,14 @@ same-length : tie.Need-same-length
 same-length c = search needs
 
 returns : tie.Need-returns
-returns c = let g = laws.good-by _ _ _ (laws.joined-short (c .before .before .before .before .before .before .before .before .before .before .before .before .before .args .text .now) (c .before .before .before .before .before .before .before .before .before .before .before .before .before .args .at) (c .before .before .before .before .before .before .before .before .before .before .before .before .before .args .base) (c .before .before .before .before .before .before .before .before .before .before .before .before .before .args .join .now) (c .before .before .before .before .before .before .before .before .before .join-run .ensures .0) (c .before .before .before .before .before .before .before .before .before .join-run .ensures .1) (c .before .before .before .before .before .before .before .before .before .before .before .before .before .pre)) (c .before .before .before .fill-chain .ensures) (c .before .before .is-unread .ensures) (c .before .if1 .taken) in (laws.bad-read (c .before .before .before .before .before .before .before .before .before .before .before .before .before .args .text .now) (c .before .before .before .before .before .before .before .before .before .before .before .before .before .args .at) (c .before .before .before .before .before .before .before .before .before .before .before .before .before .args .base) (c .before .before .before .before .before .before .before .before .before .before .before .before .before .args .join .now) (c .before .before .before .before .before .before .before .before .before .join-run .ensures .0) (c .before .before .before .before .before .before .before .before .before .join-run .ensures .1) (c .before .before .before .before .before .enum-told .given .1) g (c .no-block2 .ensures), laws.bad-holds (c .before .before .before .before .before .before .before .before .before .before .before .before .before .args .text .now) (c .before .before .before .before .before .before .before .before .before .before .before .before .before .args .at) (c .before .before .before .before .before .before .before .before .before .before .before .before .before .args .base) (c .before .before .before .before .before .before .before .before .before .before .before .before .before .args .join .now) (c .before .before .before .before .before .before .before .before .before .join-run .ensures .0) (c .before .before .before .before .before .before .before .before .before .join-run .ensures .1) (c .before .before .before .before .before .enum-told .given .1) g)
+returns c =
+    let at5 = c .before .before .before .before .before in let at9 = at5 .before .before .before .before in let at13 = at9 .before .before .before .before in
+    let g = laws.good-by _ _ _ (laws.joined-short (at13 .args .text .now) (at13 .args .at) (at13 .args .base) (at13 .args .join .now) (at9 .join-run .ensures .0) (at9 .join-run .ensures .1)
+    (at13 .pre)) (c .before .before .before .fill-chain .ensures) (c .before .before .is-unread .ensures) (c .before .if1 .taken) in (
+      laws.bad-read (at13 .args .text .now) (at13 .args .at) (at13 .args .base) (at13 .args .join .now) (at9 .join-run .ensures .0) (at9 .join-run .ensures .1) (at5 .enum-told .given .1) g
+          (c .no-block2 .ensures),
+      laws.bad-holds (at13 .args .text .now) (at13 .args .at) (at13 .args .base) (at13 .args .join .now) (at9 .join-run .ensures .0) (at9 .join-run .ensures .1) (at5 .enum-told .given .1) g,
+    )
 
 block-of-requires : tie.Need-block-of-requires
 block-of-requires c κs = search needs
@@ -44,13 +55,29 @@ same-length-2 : tie.Need-same-length-2
 same-length-2 c = search needs
 
 returns-2 : tie.Need-returns-2
-returns-2 c = (laws.run-unread (c .before .before .before .before .before .before .before .before .before .before .args .text .now) (c .before .before .before .before .before .before .before .before .before .before .args .at) (c .before .before .before .before .before .before .before .before .before .before .args .base) (c .before .before .before .before .before .before .before .before .before .before .args .join .now) (c .before .before .before .before .before .before .join-run .ensures .0) (c .before .before .before .before .before .before .join-run .ensures .1) (c .before .before .stop .given .1) (c .no-block .ensures), laws.run-holds (c .before .before .before .before .before .before .before .before .before .before .args .text .now) (c .before .before .before .before .before .before .before .before .before .before .args .at) (c .before .before .before .before .before .before .before .before .before .before .args .base) (c .before .before .before .before .before .before .before .before .before .before .args .join .now) (c .before .before .before .before .before .before .join-run .ensures .0) (c .before .before .before .before .before .before .join-run .ensures .1) (c .before .before .stop .given .1))
+returns-2 c =
+    let at6 = c .before .before .before .before .before .before in
+    let at10 = at6 .before .before .before .before in (
+      laws.run-unread (at10 .args .text .now) (at10 .args .at) (at10 .args .base) (at10 .args .join .now) (at6 .join-run .ensures .0) (at6 .join-run .ensures .1) (c .before .before .stop .given .1)
+          (c .no-block .ensures),
+      laws.run-holds (at10 .args .text .now) (at10 .args .at) (at10 .args .base) (at10 .args .join .now) (at6 .join-run .ensures .0) (at6 .join-run .ensures .1) (c .before .before .stop .given .1),
+    )
 
 same-length-3 : tie.Need-same-length-3
 same-length-3 c = search needs
 
 returns-3 : tie.Need-returns-3
-returns-3 c = let g = laws.good-by _ _ _ (laws.joined-short (c .before .before .before .before .before .before .before .before .before .before .before .before .before .args .text .now) (c .before .before .before .before .before .before .before .before .before .before .before .before .before .args .at) (c .before .before .before .before .before .before .before .before .before .before .before .before .before .args .base) (c .before .before .before .before .before .before .before .before .before .before .before .before .before .args .join .now) (c .before .before .before .before .before .before .before .before .before .join-run .ensures .0) (c .before .before .before .before .before .before .before .before .before .join-run .ensures .1) (c .before .before .before .before .before .before .before .before .before .before .before .before .before .pre)) (c .before .before .before .fill-chain .ensures) (c .before .before .is-unread .ensures) (c .before .if1 .left) in (laws.good-read (c .before .before .before .before .before .before .before .before .before .before .before .before .before .args .text .now) (c .before .before .before .before .before .before .before .before .before .before .before .before .before .args .at) (c .before .before .before .before .before .before .before .before .before .before .before .before .before .args .base) (c .before .before .before .before .before .before .before .before .before .before .before .before .before .args .join .now) (c .before .before .before .before .before .before .before .before .before .join-run .ensures .0) (c .before .before .before .before .before .before .before .before .before .join-run .ensures .1) (c .before .before .before .before .before .enum-told .given .1) g (c .before .before .before .fill-chain .ensures) (c .block-of .ensures), laws.good-holds (c .before .before .before .before .before .before .before .before .before .before .before .before .before .args .text .now) (c .before .before .before .before .before .before .before .before .before .before .before .before .before .args .at) (c .before .before .before .before .before .before .before .before .before .before .before .before .before .args .base) (c .before .before .before .before .before .before .before .before .before .before .before .before .before .args .join .now) (c .before .before .before .before .before .before .before .before .before .join-run .ensures .0) (c .before .before .before .before .before .before .before .before .before .join-run .ensures .1) (c .before .before .before .before .before .enum-told .given .1) g)
+returns-3 c =
+    let start = c .before .before .before in
+    let p = start .before .before in
+    let q = p .before .before .before .before in
+    let r = q .before .before .before .before in
+    let g = laws.good-by _ _ _ (laws.joined-short (r .args .text .now) (r .args .at) (r .args .base) (r .args .join .now) (q .join-run .ensures .0) (q .join-run .ensures .1) (r .pre))
+    (start .fill-chain .ensures) (c .before .before .is-unread .ensures) (c .before .if1 .left) in (
+      laws.good-read (r .args .text .now) (r .args .at) (r .args .base) (r .args .join .now) (q .join-run .ensures .0) (q .join-run .ensures .1) (p .enum-told .given .1) g (start .fill-chain .ensures)
+          (c .block-of .ensures),
+      laws.good-holds (r .args .text .now) (r .args .at) (r .args .base) (r .args .join .now) (q .join-run .ensures .0) (q .join-run .ensures .1) (p .enum-told .given .1) g,
+    )
 
 pub read-run-spec : {M : Type 1} → statement M
 read-run-spec =

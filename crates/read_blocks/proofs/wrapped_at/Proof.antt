@@ -28,7 +28,9 @@ same-length : tie.Need-same-length
 same-length c = search needs
 
 returns-3 : tie.Need-returns-3
-returns-3 c = laws.read-by _ _ _ (laws.sized-is _ _ (c .before .before .before .before .before .before .before .if1 .left) ∙ laws.wrapped-run _ _ _ _ (opens-by _ _ (c .before .before .before .before .before .before .trimmed-line .ensures) (not-false _ (c .before .before .before .before .if2 .left)))) (c .before .before .read-run .ensures .0) (c .before .before .read-run .ensures .1)
+returns-3 c =
+    let at4 = c .before .before .before .before in let at6 = at4 .before .before in let at7 = at6 .before in
+    laws.read-by _ _ _ (laws.sized-is _ _ (at7 .if1 .left) ∙ laws.wrapped-run _ _ _ _ (opens-by _ _ (at6 .trimmed-line .ensures) (not-false _ (at4 .if2 .left)))) (c .before .before .read-run .ensures .0) (c .before .before .read-run .ensures .1)
 
 pub wrapped-at-spec : {M : Type 1} → statement M
 wrapped-at-spec =

@@ -19,7 +19,9 @@ part-result-end : tie.Need-part-result-end
 part-result-end c = rw (c .payload-range .ensures) (laws.range-in (c .before .before .args .text .now) (c .before .before .args .place) .within)
 
 returns : tie.Need-returns
-returns c = rw (c .before .payload-range .ensures) (sym (slice-part (payloadAt (c .before .before .before .args .text .now) (c .before .before .before .args .place) .from) (payloadAt (c .before .before .before .args .text .now) (c .before .before .before .args .place) .to) (c .before .before .before .args .text .now)), refl)
+returns c =
+    let start = c .before .before .before in
+    rw (c .before .payload-range .ensures) (sym (slice-part (payloadAt (start .args .text .now) (start .args .place) .from) (payloadAt (start .args .text .now) (start .args .place) .to) (start .args .text .now)), refl)
 
 pub payload-at-spec : {M : Type 1} → statement M
 payload-at-spec =

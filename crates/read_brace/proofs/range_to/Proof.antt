@@ -21,13 +21,13 @@ is-utf8-requires : tie.Need-is-utf8-requires
 is-utf8-requires c κs = search needs
 
 returns : tie.Need-returns
-returns c = laws.part-bad (c .before .before .before .before .args .text .now) (c .before .before .before .before .args .place) (c .before .before .before .before .args .end) (sym (c .before .is-utf8 .ensures) ∙ not-true _ (c .if1 .taken))
+returns c = let at4 = c .before .before .before .before in laws.part-bad (at4 .args .text .now) (at4 .args .place) (at4 .args .end) (sym (c .before .is-utf8 .ensures) ∙ not-true _ (c .if1 .taken))
 
 add-t5 : tie.Need-add-t5
 add-t5 c = search needs
 
 returns-2 : tie.Need-returns-2
-returns-2 c = laws.part-good (c .before .before .before .before .args .text .now) (c .before .before .before .before .args .place) (c .before .before .before .before .args .end) (sym (c .before .is-utf8 .ensures) ∙ not-false _ (c .if1 .left))
+returns-2 c = let at4 = c .before .before .before .before in laws.part-good (at4 .args .text .now) (at4 .args .place) (at4 .args .end) (sym (c .before .is-utf8 .ensures) ∙ not-false _ (c .if1 .left))
 
 pub range-to-spec : {M : Type 1} → statement M
 range-to-spec =

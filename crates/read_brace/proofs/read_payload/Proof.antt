@@ -24,7 +24,9 @@ refused-requires : tie.Need-refused-requires
 refused-requires c κs = search needs
 
 returns : tie.Need-returns
-returns c = (c .refused .ensures) ∙ laws.not-utf8 (c .before .before .before .before .before .args .mode) (c .before .before .before .before .before .args .text .now) (c .before .before .before .before .before .args .place) (c .before .before .before .before .before .args .end) (sym (c .before .before .is-utf8 .ensures) ∙ not-true _ (c .before .if1 .taken))
+returns c =
+    let at5 = c .before .before .before .before .before in
+    (c .refused .ensures) ∙ laws.not-utf8 (at5 .args .mode) (at5 .args .text .now) (at5 .args .place) (at5 .args .end) (sym (c .before .before .is-utf8 .ensures) ∙ not-true _ (c .before .if1 .taken))
 
 add-fill : tie.Need-add-fill
 add-fill c = search needs
@@ -39,7 +41,9 @@ handed-out-requires : tie.Need-handed-out-requires
 handed-out-requires c κs = search needs
 
 returns-2 : tie.Need-returns-2
-returns-2 c = (c .handed-out .ensures) ∙ laws.filled (c .before .before .before .before .before .before .args .mode) (c .before .before .before .before .before .before .args .text .now) (c .before .before .before .before .before .before .args .place) (c .before .before .before .before .before .before .args .end) (sym (c .before .before .before .is-utf8 .ensures) ∙ not-false _ (c .before .before .if1 .left)) ((c .before .before .before .before .before .before .pre) .0) (c .before .fill .ensures)
+returns-2 c =
+    let at6 = c .before .before .before .before .before .before in
+    (c .handed-out .ensures) ∙ laws.filled (at6 .args .mode) (at6 .args .text .now) (at6 .args .place) (at6 .args .end) (sym (c .before .before .before .is-utf8 .ensures) ∙ not-false _ (c .before .before .if1 .left)) ((at6 .pre) .0) (c .before .fill .ensures)
 
 pub read-payload-spec : {M : Type 1} → statement M
 read-payload-spec =

@@ -20,7 +20,9 @@ fill-chain-requires c κs = search needs
 
 returns-2 : tie.Need-returns-2
 unfolding lineRead
-returns-2 c = rw (opens-by _ _ (c .before .before .before .trimmed-line .ensures) (not-false _ (c .before .if1 .left)), ← (c .before .before .before .trimmed-line .ensures)) (c .fill-chain .ensures)
+returns-2 c =
+    let start = c .before .before .before in
+    rw (opens-by _ _ (start .trimmed-line .ensures) (not-false _ (c .before .if1 .left)), ← (start .trimmed-line .ensures)) (c .fill-chain .ensures)
 
 pub read-line-spec : {M : Type 1} → statement M
 read-line-spec =

@@ -26,7 +26,9 @@ same-length : tie.Need-same-length
 same-length c = search needs
 
 returns-2 : tie.Need-returns-2
-returns-2 c = let e = sym (c .before .before .before .before .before .before .before .line-start .ensures) ∙ (c .before .before .before .before .before .at .given .1) in laws.measured-at _ _ e _ (laws.indented-at _ _ e _) (c .before .before .measure-wrapped-at .ensures .0) (c .before .before .measure-wrapped-at .ensures .1)
+returns-2 c =
+    let at5 = c .before .before .before .before .before in let at7 = at5 .before .before in
+    let e = sym (at7 .line-start .ensures) ∙ (at5 .at .given .1) in laws.measured-at _ _ e _ (laws.indented-at _ _ e _) (c .before .before .measure-wrapped-at .ensures .0) (c .before .before .measure-wrapped-at .ensures .1)
 
 pub indented-wrapped-attrs-block-len-spec : {M : Type 1} → statement M
 indented-wrapped-attrs-block-len-spec =

@@ -20,13 +20,17 @@ good-line-requires : tie.Need-good-line-requires
 good-line-requires c κs = search needs
 
 returns-2 : tie.Need-returns-2
-returns-2 c = laws.measured-by _ _ _ (finds.found-line _ _ _ _ (c .before .before .before .before .trimmed-line .ensures) (opens-by _ _ (c .before .before .before .before .trimmed-line .ensures) (not-false _ (c .before .before .if1 .left))) (sym (c .before .good-line .ensures) ∙ (c .if2 .taken))) (laws.line-measured _ _ (c .before .before .before .before .trimmed-line .ensures)) (finds.line-holds _)
+returns-2 c =
+    let at4 = c .before .before .before .before in
+    laws.measured-by _ _ _ (finds.found-line _ _ _ _ (at4 .trimmed-line .ensures) (opens-by _ _ (at4 .trimmed-line .ensures) (not-false _ (c .before .before .if1 .left))) (sym (c .before .good-line .ensures) ∙ (c .if2 .taken))) (laws.line-measured _ _ (at4 .trimmed-line .ensures)) (finds.line-holds _)
 
 no-measure-requires-2 : tie.Need-no-measure-requires-2
 no-measure-requires-2 c κs = search needs
 
 returns-3 : tie.Need-returns-3
-returns-3 c = laws.none-by _ _ _ (finds.found-shut _ _ _ _ (c .before .before .before .before .before .before .trimmed-line .ensures) (opens-by _ _ (c .before .before .before .before .before .before .trimmed-line .ensures) (not-false _ (c .before .before .before .before .if1 .left))) (sym (c .before .before .before .good-line .ensures) ∙ (c .before .before .if2 .left)) (closes-by _ _ (c .before .before .before .before .before .before .trimmed-line .ensures) (c .before .if3 .taken))) (c .no-measure2 .ensures)
+returns-3 c =
+    let at4 = c .before .before .before .before in let at6 = at4 .before .before in
+    laws.none-by _ _ _ (finds.found-shut _ _ _ _ (at6 .trimmed-line .ensures) (opens-by _ _ (at6 .trimmed-line .ensures) (not-false _ (at4 .if1 .left))) (sym (c .before .before .before .good-line .ensures) ∙ (c .before .before .if2 .left)) (closes-by _ _ (at6 .trimmed-line .ensures) (c .before .if3 .taken))) (c .no-measure2 .ensures)
 
 measure-run-requires : tie.Need-measure-run-requires
 measure-run-requires c κs = search needs
@@ -35,7 +39,9 @@ same-length : tie.Need-same-length
 same-length c = search needs
 
 returns-4 : tie.Need-returns-4
-returns-4 c = laws.measured-by _ _ _ (finds.found-run _ _ _ _ (c .before .before .before .before .before .before .before .before .before .trimmed-line .ensures) (opens-by _ _ (c .before .before .before .before .before .before .before .before .before .trimmed-line .ensures) (not-false _ (c .before .before .before .before .before .before .before .if1 .left))) (sym (c .before .before .before .before .before .before .good-line .ensures) ∙ (c .before .before .before .before .before .if2 .left)) (closes-by _ _ (c .before .before .before .before .before .before .before .before .before .trimmed-line .ensures) (c .before .before .before .before .if3 .left))) (c .before .before .measure-run .ensures .0) (c .before .before .measure-run .ensures .1)
+returns-4 c =
+    let at4 = c .before .before .before .before in let at5 = at4 .before in let at6 = at5 .before in let at7 = at6 .before in let at9 = at7 .before .before in
+    laws.measured-by _ _ _ (finds.found-run _ _ _ _ (at9 .trimmed-line .ensures) (opens-by _ _ (at9 .trimmed-line .ensures) (not-false _ (at7 .if1 .left))) (sym (at6 .good-line .ensures) ∙ (at5 .if2 .left)) (closes-by _ _ (at9 .trimmed-line .ensures) (at4 .if3 .left))) (c .before .before .measure-run .ensures .0) (c .before .before .measure-run .ensures .1)
 
 pub measure-at-spec : {M : Type 1} → statement M
 measure-at-spec =

@@ -24,7 +24,9 @@ no-measure-requires-2 : tie.Need-no-measure-requires-2
 no-measure-requires-2 c κs = search needs
 
 returns : tie.Need-returns
-returns c = let e = sym (c .before .before .before .before .before .before .line-start .ensures) ∙ (c .before .before .before .before .at .given .1) in laws.measured-at _ _ e _ (laws.standalone-in _ _ e _ (sym (c .before .before .is-indented .ensures) ∙ (c .before .if1 .taken))) (laws.none-measured _ _ (c .no-measure2 .ensures)) (none-holds _ _)
+returns c =
+    let at4 = c .before .before .before .before in let at6 = at4 .before .before in
+    let e = sym (at6 .line-start .ensures) ∙ (at4 .at .given .1) in laws.measured-at _ _ e _ (laws.standalone-in _ _ e _ (sym (c .before .before .is-indented .ensures) ∙ (c .before .if1 .taken))) (laws.none-measured _ _ (c .no-measure2 .ensures)) (none-holds _ _)
 
 measure-at-requires : tie.Need-measure-at-requires
 measure-at-requires c κs = search needs
@@ -36,7 +38,9 @@ same-length : tie.Need-same-length
 same-length c = search needs
 
 returns-3 : tie.Need-returns-3
-returns-3 c = let e = sym (c .before .before .before .before .before .before .before .before .before .line-start .ensures) ∙ (c .before .before .before .before .before .before .before .at .given .1) in laws.measured-at _ _ e _ (laws.standalone-at _ _ e _ (sym (c .before .before .before .before .before .is-indented .ensures) ∙ (c .before .before .before .before .if1 .left))) (c .before .before .measure-at .ensures .0) (c .before .before .measure-at .ensures .1)
+returns-3 c =
+    let at4 = c .before .before .before .before in let at5 = at4 .before in let at7 = at5 .before .before in let at9 = at7 .before .before in
+    let e = sym (at9 .line-start .ensures) ∙ (at7 .at .given .1) in laws.measured-at _ _ e _ (laws.standalone-at _ _ e _ (sym (at5 .is-indented .ensures) ∙ (at4 .if1 .left))) (c .before .before .measure-at .ensures .0) (c .before .before .measure-at .ensures .1)
 
 pub standalone-attrs-block-len-spec : {M : Type 1} → statement M
 standalone-attrs-block-len-spec =

@@ -11,7 +11,7 @@ slice-relend-prefix-part : tie.Need-slice-relend-prefix-part
 slice-relend-prefix-part c = search needs
 
 slice-aggregate-part : tie.Need-slice-aggregate-part
-slice-aggregate-part c = sym (length-take-le (c .before .before .before .before .before .args .q .cap) (c .before .before .before .before .before .args .join .now) (omega (arith, (c .before .if1 .taken))))
+slice-aggregate-part c = let at5 = c .before .before .before .before .before in sym (length-take-le (at5 .args .q .cap) (at5 .args .join .now) (omega (arith, (c .before .if1 .taken))))
 
 reply-by-requires : tie.Need-reply-by-requires
 reply-by-requires c κs = search needs

@@ -12,7 +12,7 @@ ended-requires : tie.Need-ended-requires
 ended-requires c κs = search needs
 
 returns : tie.Need-returns
-returns c = rw (laws.ends-empty (c .before .before .before .before .args .text .now) (c .before .before .before .before .args .join .now) ((c .before .if1 .taken))) ((c .ended .ensures), refl)
+returns c = let at4 = c .before .before .before .before in rw (laws.ends-empty (at4 .args .text .now) (at4 .args .join .now) (c .before .if1 .taken)) ((c .ended .ensures), refl)
 
 line-start-requires : tie.Need-line-start-requires
 line-start-requires c κs = (omega (arith, (c .if1 .left)), (omega arith, inr (inl refl)))
@@ -36,16 +36,22 @@ ended-requires-2 : tie.Need-ended-requires-2
 ended-requires-2 c κs = search needs
 
 returns-2 : tie.Need-returns-2
-returns-2 c = rw (laws.ends-none (c .before .before .before .before .before .before .before .before .before .args .text .now) (c .before .before .before .before .before .before .before .before .before .args .join .now) ((c .before .before .before .before .before .line-start .ensures)) ((c .before .before .before .before .line-from .ensures)) (sym (not-true _ ((c .before .if2 .taken))) ∙ ((c .before .before .contains-close .ensures)))) ((c .ended2 .ensures), refl)
+returns-2 c =
+    let at4 = c .before .before .before .before in let at5 = at4 .before in let at9 = at5 .before .before .before .before in
+    rw (laws.ends-none (at9 .args .text .now) (at9 .args .join .now) (at5 .line-start .ensures) (at4 .line-from .ensures) (sym (not-true _ (c .before .if2 .taken)) ∙ (c .before .before .contains-close .ensures))) ((c .ended2 .ensures), refl)
 
 sub-closes-comment : tie.Need-sub-closes-comment
-sub-closes-comment c = omega (arith, line-in (c .before .before .before .before .before .before .before .before .args .text .now) _ ((c .before .before .before .before .line-start .ensures .below)) ((c .before .before .before .line-from .ensures)))
+sub-closes-comment c = let at4 = c .before .before .before .before in let at8 = at4 .before .before .before .before in omega (arith, line-in (at8 .args .text .now) _ (at4 .line-start .ensures .below) (c .before .before .before .line-from .ensures))
 
 part-closes-comment-start : tie.Need-part-closes-comment-start
-part-closes-comment-start c = omega (arith, line-in (c .before .before .before .before .before .before .before .before .args .text .now) _ ((c .before .before .before .before .line-start .ensures .below)) ((c .before .before .before .line-from .ensures)))
+part-closes-comment-start c =
+    let at4 = c .before .before .before .before in let at8 = at4 .before .before .before .before in
+    omega (arith, line-in (at8 .args .text .now) _ (at4 .line-start .ensures .below) (c .before .before .before .line-from .ensures))
 
 part-closes-comment-end : tie.Need-part-closes-comment-end
-part-closes-comment-end c = omega (arith, line-in (c .before .before .before .before .before .before .before .before .args .text .now) _ ((c .before .before .before .before .line-start .ensures .below)) ((c .before .before .before .line-from .ensures)))
+part-closes-comment-end c =
+    let at4 = c .before .before .before .before in let at8 = at4 .before .before .before .before in
+    omega (arith, line-in (at8 .args .text .now) _ (at4 .line-start .ensures .below) (c .before .before .before .line-from .ensures))
 
 closes-comment-requires : tie.Need-closes-comment-requires
 closes-comment-requires c κs = search needs
@@ -57,7 +63,10 @@ same-length : tie.Need-same-length
 same-length c = search needs
 
 returns-3 : tie.Need-returns-3
-returns-3 c = rw (laws.ends-search (c .before .before .before .before .before .before .before .before .before .before .before .before .before .before .args .text .now) (c .before .before .before .before .before .before .before .before .before .before .before .before .before .before .args .join .now) ((c .before .before .before .before .before .before .before .before .before .before .line-start .ensures)) ((c .before .before .before .before .before .before .before .before .before .line-from .ensures)) (sym (not-false _ ((c .before .before .before .before .before .before .if2 .left))) ∙ ((c .before .before .before .before .before .before .before .contains-close .ensures))) ((c .before .before .before .before .closes-comment .ensures))) ((c .before .before .search-back .ensures))
+returns-3 c =
+    let at4 = c .before .before .before .before in let at6 = at4 .before .before in let at7 = at6 .before in let at9 = at7 .before .before in let at10 = at9 .before in
+    let at14 = at10 .before .before .before .before in
+    rw (laws.ends-search (at14 .args .text .now) (at14 .args .join .now) (at10 .line-start .ensures) (at9 .line-from .ensures) (sym (not-false _ (at6 .if2 .left)) ∙ (at7 .contains-close .ensures)) (at4 .closes-comment .ensures)) (c .before .before .search-back .ensures)
 
 pub ends-in-spec : {M : Type 1} → statement M
 ends-in-spec =

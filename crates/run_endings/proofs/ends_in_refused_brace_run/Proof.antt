@@ -29,7 +29,7 @@ same-length c = search needs
 
 returns-2 : tie.Need-returns-2
 unfolding endsIn
-returns-2 c = rw (sym ((c .before .before .before .before .before .before .check-text .ensures)) ∙ ((c .before .before .before .before .enum-told .given) .1)) ((c .before .before .ends-in .ensures))
+returns-2 c = let at4 = c .before .before .before .before in let at6 = at4 .before .before in rw (sym (at6 .check-text .ensures) ∙ ((at4 .enum-told .given) .1)) (c .before .before .ends-in .ensures)
 
 pub ends-in-refused-brace-run-spec : {M : Type 1} → statement M
 ends-in-refused-brace-run-spec =

@@ -21,16 +21,22 @@ sub-if1 : tie.Need-sub-if1
 sub-if1 c = search needs
 
 returns : tie.Need-returns
-returns c = sym (columns.capped-top _ (omega (arith, (c .if1 .taken)))) ∙ laws.brace-sum ((c .before .before .before .before .before .before .args .brace)) ((c .before .before .before .before .before .before .args .base)) (lastOpenBrace Out ((c .before .before .before .before .before .before .args .pad)) ((c .before .before .before .before .before .before .args .line .now))) ((c .before .before .before .before .last-open-brace-column .ensures)) ((c .before .before .c .given) .1)
+returns c =
+    let at4 = c .before .before .before .before in let at6 = at4 .before .before in
+    sym (columns.capped-top _ (omega (arith, (c .if1 .taken)))) ∙ laws.brace-sum (at6 .args .brace) (at6 .args .base) (lastOpenBrace Out (at6 .args .pad) (at6 .args .line .now)) (at4 .last-open-brace-column .ensures) ((c .before .before .c .given) .1)
 
 add-result : tie.Need-add-result
 add-result c = search needs
 
 returns-2 : tie.Need-returns-2
-returns-2 c = laws.brace-kept ((c .before .before .before .before .args .brace)) ((c .before .before .before .before .args .base)) (lastOpenBrace Out ((c .before .before .before .before .args .pad)) ((c .before .before .before .before .args .line .now))) ((c .before .before .last-open-brace-column .ensures)) (omega arith) ((c .enum-told .given) .1)
+returns-2 c =
+    let at4 = c .before .before .before .before in
+    laws.brace-kept (at4 .args .brace) (at4 .args .base) (lastOpenBrace Out (at4 .args .pad) (at4 .args .line .now)) (c .before .before .last-open-brace-column .ensures) (omega arith) ((c .enum-told .given) .1)
 
 returns-3 : tie.Need-returns-3
-returns-3 c = columns.capped-is _ refl (omega (arith, (c .if1 .left))) ∙ laws.brace-sum ((c .before .before .before .before .before .before .args .brace)) ((c .before .before .before .before .before .before .args .base)) (lastOpenBrace Out ((c .before .before .before .before .before .before .args .pad)) ((c .before .before .before .before .before .before .args .line .now))) ((c .before .before .before .before .last-open-brace-column .ensures)) ((c .before .before .c .given) .1)
+returns-3 c =
+    let at4 = c .before .before .before .before in let at6 = at4 .before .before in
+    columns.capped-is _ refl (omega (arith, (c .if1 .left))) ∙ laws.brace-sum (at6 .args .brace) (at6 .args .base) (lastOpenBrace Out (at6 .args .pad) (at6 .args .line .now)) (at4 .last-open-brace-column .ensures) ((c .before .before .c .given) .1)
 
 pub brace-after-spec : {M : Type 1} → statement M
 brace-after-spec =

@@ -9,7 +9,9 @@ hold-on-requires : tie.Need-hold-on-requires
 hold-on-requires c κs = search needs
 
 returns : tie.Need-returns
-returns c = ((c .hold-on .ensures)) ∙ laws.hold-first ((c .before .before .before .args .hold)) ((c .before .before .before .args .core .now)) ((c .before .if1 .taken))
+returns c =
+    let start = c .before .before .before in
+    ((c .hold-on .ensures)) ∙ laws.hold-first ((start .args .hold)) ((start .args .core .now)) ((c .before .if1 .taken))
 
 slice-aggregate-hold-on : tie.Need-slice-aggregate-hold-on
 slice-aggregate-hold-on c = search needs
@@ -21,7 +23,9 @@ hold-on-requires-3 : tie.Need-hold-on-requires-3
 hold-on-requires-3 c κs = search needs
 
 returns-2 : tie.Need-returns-2
-returns-2 c = ((c .hold-on3 .ensures)) ∙ ap (λ h. holdFrom h ((c .before .before .before .before .before .args .core .now))) ((c .before .hold-on2 .ensures)) ∙ laws.hold-later ((c .before .before .before .before .before .args .hold)) ((c .before .before .before .before .before .args .core .now)) ((c .before .before .before .if1 .left))
+returns-2 c =
+    let at5 = c .before .before .before .before .before in
+    (c .hold-on3 .ensures) ∙ ap (λ h. holdFrom h (at5 .args .core .now)) (c .before .hold-on2 .ensures) ∙ laws.hold-later (at5 .args .hold) (at5 .args .core .now) (c .before .before .before .if1 .left)
 
 pub hold-line-spec : {M : Type 1} → statement M
 hold-line-spec =

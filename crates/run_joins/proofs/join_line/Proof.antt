@@ -13,7 +13,9 @@ sub-core : tie.Need-sub-core
 sub-core c = laws.core-from ((c .before .before .before .args .line .now)) ((c .trim-ascii .ensures))
 
 part-core-start : tie.Need-part-core-start
-part-core-start c = omega (arith, laws.core-from ((c .before .before .before .args .line .now)) ((c .trim-ascii .ensures)), laws.core-to ((c .before .before .before .args .line .now)) ((c .trim-ascii .ensures)))
+part-core-start c =
+    let start = c .before .before .before in
+    omega (arith, laws.core-from ((start .args .line .now)) ((c .trim-ascii .ensures)), laws.core-to ((start .args .line .now)) ((c .trim-ascii .ensures)))
 
 part-core-end : tie.Need-part-core-end
 part-core-end c = omega (arith, laws.core-to ((c .before .before .before .args .line .now)) ((c .trim-ascii .ensures)))
@@ -22,19 +24,23 @@ passes-tests-requires : tie.Need-passes-tests-requires
 passes-tests-requires c κs = laws.core-is ((c .before .before .before .before .args .line .now)) ((c .before .trim-ascii .ensures))
 
 returns : tie.Need-returns
-returns c = laws.step-broken ((c .before .before .before .before .before .before .args .st)) ((c .before .before .before .before .before .before .args .pad)) ((c .before .before .before .before .before .before .args .line .now)) ((c .before .before .before .before .before .before .args .join .now)) (sym (not-true _ ((c .if1 .taken))) ∙ ((c .before .passes-tests .ensures)))
+returns c = let at6 = c .before .before .before .before .before .before in laws.step-broken (at6 .args .st) (at6 .args .pad) (at6 .args .line .now) (at6 .args .join .now) (sym (not-true _ (c .if1 .taken)) ∙ (c .before .passes-tests .ensures))
 
 lacks-room-requires : tie.Need-lacks-room-requires
 lacks-room-requires c κs = search needs
 
 returns-2 : tie.Need-returns-2
-returns-2 c = laws.step-full ((c .before .before .before .before .before .before .before .before .args .st)) ((c .before .before .before .before .before .before .before .before .args .pad)) ((c .before .before .before .before .before .before .before .before .args .line .now)) ((c .before .before .before .before .before .before .before .before .args .join .now)) (sym (not-false _ ((c .before .before .if1 .left))) ∙ ((c .before .before .before .passes-tests .ensures))) (laws.core-is ((c .before .before .before .before .before .before .before .before .args .line .now)) ((c .before .before .before .before .before .trim-ascii .ensures))) (sym ((c .if2 .taken)) ∙ ((c .before .lacks-room .ensures)))
+returns-2 c =
+    let at5 = c .before .before .before .before .before in let at8 = at5 .before .before .before in
+    laws.step-full (at8 .args .st) (at8 .args .pad) (at8 .args .line .now) (at8 .args .join .now) (sym (not-false _ (c .before .before .if1 .left)) ∙ (c .before .before .before .passes-tests .ensures)) (laws.core-is (at8 .args .line .now) (at5 .trim-ascii .ensures)) (sym (c .if2 .taken) ∙ (c .before .lacks-room .ensures))
 
 put-line-requires : tie.Need-put-line-requires
-put-line-requires c κs = laws.step-room ((c .before .before .before .before .before .before .before .before .before .args .st)) ((c .before .before .before .before .before .before .before .before .before .args .pad)) ((c .before .before .before .before .before .before .before .before .before .args .line .now)) ((c .before .before .before .before .before .before .before .before .before .args .join .now)) (sym (not-false _ ((c .before .before .before .if1 .left))) ∙ ((c .before .before .before .before .passes-tests .ensures))) (laws.core-is ((c .before .before .before .before .before .before .before .before .before .args .line .now)) ((c .before .before .before .before .before .before .trim-ascii .ensures))) (sym ((c .before .if2 .left)) ∙ ((c .before .before .lacks-room .ensures)))
+put-line-requires c κs =
+    let at4 = c .before .before .before .before in let at6 = at4 .before .before in let at9 = at6 .before .before .before in
+    laws.step-room (at9 .args .st) (at9 .args .pad) (at9 .args .line .now) (at9 .args .join .now) (sym (not-false _ (c .before .before .before .if1 .left)) ∙ (at4 .passes-tests .ensures)) (laws.core-is (at9 .args .line .now) (at6 .trim-ascii .ensures)) (sym (c .before .if2 .left) ∙ (c .before .before .lacks-room .ensures))
 
 state-after-requires : tie.Need-state-after-requires
-state-after-requires c κs = laws.core-is ((c .before .before .before .before .before .before .before .before .before .before .before .before .args .line .now)) ((c .before .before .before .before .before .before .before .before .before .trim-ascii .ensures))
+state-after-requires c κs = let at9 = c .before .before .before .before .before .before .before .before .before in let at12 = at9 .before .before .before in laws.core-is (at12 .args .line .now) (at9 .trim-ascii .ensures)
 
 is-last-requires : tie.Need-is-last-requires
 is-last-requires c κs = search needs
@@ -43,13 +49,23 @@ same-length : tie.Need-same-length
 same-length c = search needs
 
 returns-3 : tie.Need-returns-3
-returns-3 c = laws.step-closes ((c .before .before .before .before .before .before .before .before .before .before .before .before .before .before .before .args .st)) ((c .before .before .before .before .before .before .before .before .before .before .before .before .before .before .before .args .pad)) ((c .before .before .before .before .before .before .before .before .before .before .before .before .before .before .before .args .line .now)) ((c .before .before .before .before .before .before .before .before .before .before .before .before .before .before .before .args .join .now)) (sym (not-false _ ((c .before .before .before .before .before .before .before .before .before .if1 .left))) ∙ ((c .before .before .before .before .before .before .before .before .before .before .passes-tests .ensures))) (laws.core-is ((c .before .before .before .before .before .before .before .before .before .before .before .before .before .before .before .args .line .now)) ((c .before .before .before .before .before .before .before .before .before .before .before .before .trim-ascii .ensures))) (sym ((c .before .before .before .before .before .before .before .if2 .left)) ∙ ((c .before .before .before .before .before .before .before .before .lacks-room .ensures))) ((c .before .before .before .before .before .put-line .ensures)) ((c .before .before .state-after .ensures)) (sym ((c .if3 .taken)) ∙ ((c .before .is-last .ensures)))
+returns-3 c =
+    let at5 = c .before .before .before .before .before in let at7 = at5 .before .before in let at8 = at7 .before in let at9 = at8 .before in let at10 = at9 .before in
+    let at12 = at10 .before .before in let at15 = at12 .before .before .before in
+    laws.step-closes (at15 .args .st) (at15 .args .pad) (at15 .args .line .now) (at15 .args .join .now) (sym (not-false _ (at9 .if1 .left)) ∙ (at10 .passes-tests .ensures))
+    (laws.core-is (at15 .args .line .now) (at12 .trim-ascii .ensures)) (sym (at7 .if2 .left) ∙ (at8 .lacks-room .ensures)) (at5 .put-line .ensures) (c .before .before .state-after .ensures)
+    (sym (c .if3 .taken) ∙ (c .before .is-last .ensures))
 
 same-length-2 : tie.Need-same-length-2
 same-length-2 c = search needs
 
 returns-4 : tie.Need-returns-4
-returns-4 c = laws.step-go ((c .before .before .before .before .before .before .before .before .before .before .before .before .before .before .before .args .st)) ((c .before .before .before .before .before .before .before .before .before .before .before .before .before .before .before .args .pad)) ((c .before .before .before .before .before .before .before .before .before .before .before .before .before .before .before .args .line .now)) ((c .before .before .before .before .before .before .before .before .before .before .before .before .before .before .before .args .join .now)) (sym (not-false _ ((c .before .before .before .before .before .before .before .before .before .if1 .left))) ∙ ((c .before .before .before .before .before .before .before .before .before .before .passes-tests .ensures))) (laws.core-is ((c .before .before .before .before .before .before .before .before .before .before .before .before .before .before .before .args .line .now)) ((c .before .before .before .before .before .before .before .before .before .before .before .before .trim-ascii .ensures))) (sym ((c .before .before .before .before .before .before .before .if2 .left)) ∙ ((c .before .before .before .before .before .before .before .before .lacks-room .ensures))) ((c .before .before .before .before .before .put-line .ensures)) ((c .before .before .state-after .ensures)) (sym ((c .if3 .left)) ∙ ((c .before .is-last .ensures)))
+returns-4 c =
+    let at5 = c .before .before .before .before .before in let at7 = at5 .before .before in let at8 = at7 .before in let at9 = at8 .before in let at10 = at9 .before in
+    let at12 = at10 .before .before in let at15 = at12 .before .before .before in
+    laws.step-go (at15 .args .st) (at15 .args .pad) (at15 .args .line .now) (at15 .args .join .now) (sym (not-false _ (at9 .if1 .left)) ∙ (at10 .passes-tests .ensures))
+    (laws.core-is (at15 .args .line .now) (at12 .trim-ascii .ensures)) (sym (at7 .if2 .left) ∙ (at8 .lacks-room .ensures)) (at5 .put-line .ensures) (c .before .before .state-after .ensures)
+    (sym (c .if3 .left) ∙ (c .before .is-last .ensures))
 
 pub join-line-spec : {M : Type 1} → statement M
 join-line-spec =

@@ -11,10 +11,12 @@ same-length : tie.Need-same-length
 same-length c = search needs
 
 returns : tie.Need-returns
-returns c = laws.put-first (c .before .before .before .before .before .before .before .args .join .now) (c .before .before .before .before .before .before .before .args .len) (c .before .before .before .before .before .before .before .args .core .now) (c .before .before .before .before .if1 .taken) (c .before .before .put-bytes .ensures)
+returns c = let at4 = c .before .before .before .before in let at7 = at4 .before .before .before in laws.put-first (at7 .args .join .now) (at7 .args .len) (at7 .args .core .now) (at4 .if1 .taken) (c .before .before .put-bytes .ensures)
 
 slice-write-join : tie.Need-slice-write-join
-slice-write-join c = omega (arith, laws.room-later (c .before .before .before .args .join .now) (c .before .before .before .args .len) (c .before .before .before .args .core .now) (c .if1 .left) (c .before .before .before .pre))
+slice-write-join c =
+    let start = c .before .before .before in
+    omega (arith, laws.room-later (start .args .join .now) (start .args .len) (start .args .core .now) (c .if1 .left) (start .pre))
 
 add-put-bytes : tie.Need-add-put-bytes
 add-put-bytes c = search needs
@@ -26,13 +28,13 @@ add-result : tie.Need-add-result
 add-result c = search needs
 
 add-result-2 : tie.Need-add-result-2
-add-result-2 c = omega (arith, laws.room-later (c .before .before .before .before .before .before .before .args .join .now) (c .before .before .before .before .before .before .before .args .len) (c .before .before .before .before .before .before .before .args .core .now) (c .before .before .before .before .if1 .left) (c .before .before .before .before .before .before .before .pre))
+add-result-2 c = let at4 = c .before .before .before .before in let at7 = at4 .before .before .before in omega (arith, laws.room-later (at7 .args .join .now) (at7 .args .len) (at7 .args .core .now) (at4 .if1 .left) (at7 .pre))
 
 same-length-2 : tie.Need-same-length-2
-same-length-2 c = laws.same-length (c .before .before .before .before .before .before .before .args .join .now) (c .before .before .before .before .before .before .before .args .len) (c .before .before .before .before .before .before .before .args .core .now) (c .before .before .put-bytes2 .ensures)
+same-length-2 c = let at7 = c .before .before .before .before .before .before .before in laws.same-length (at7 .args .join .now) (at7 .args .len) (at7 .args .core .now) (c .before .before .put-bytes2 .ensures)
 
 returns-2 : tie.Need-returns-2
-returns-2 c = laws.put-later (c .before .before .before .before .before .before .before .args .join .now) (c .before .before .before .before .before .before .before .args .len) (c .before .before .before .before .before .before .before .args .core .now) (c .before .before .before .before .if1 .left) (c .before .before .put-bytes2 .ensures)
+returns-2 c = let at4 = c .before .before .before .before in let at7 = at4 .before .before .before in laws.put-later (at7 .args .join .now) (at7 .args .len) (at7 .args .core .now) (at4 .if1 .left) (c .before .before .put-bytes2 .ensures)
 
 pub put-line-spec : {M : Type 1} → statement M
 put-line-spec =

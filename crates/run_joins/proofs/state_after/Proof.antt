@@ -13,7 +13,9 @@ hold-line-requires : tie.Need-hold-line-requires
 hold-line-requires c κs = search needs
 
 returns : tie.Need-returns
-returns c = laws.state-is _ ((c .before .before .before .before .before .before .args .st)) ((c .before .before .before .before .before .before .args .pad)) ((c .before .before .before .before .before .before .args .line .now)) ((c .before .before .before .before .before .before .pre)) ((c .before .before .before .brace-after .ensures)) ((c .before .before .open-quote-at-end .ensures)) ((c .hold-line .ensures))
+returns c =
+    let at6 = c .before .before .before .before .before .before in
+    laws.state-is _ (at6 .args .st) (at6 .args .pad) (at6 .args .line .now) (at6 .pre) (c .before .before .before .brace-after .ensures) (c .before .before .open-quote-at-end .ensures) (c .hold-line .ensures)
 
 pub state-after-spec : {M : Type 1} → statement M
 state-after-spec =

@@ -53,13 +53,15 @@ enum-known-v : tie.Need-enum-known-v Inv-lines μ-lines
 enum-known-v c = search needs
 
 add-closed : tie.Need-add-closed Inv-lines μ-lines
-add-closed c = omega (arith, (c .before .before .before .before .before .before .before .before .before .before .lines .inv .has .few), (c .before .before .before .before .before .before .before .before .before .if1 .left))
+add-closed c = let at9 = c .before .before .before .before .before .before .before .before .before in let at10 = at9 .before in omega (arith, (at10 .lines .inv .has .few), (at9 .if1 .left))
 
 sub-closed : tie.Need-sub-closed Inv-lines μ-lines
-sub-closed c = laws.to-in ((c .before .before .before .before .before .before .before .before .before .before .lines .inv .has)) ((c .before .before .before .before .before .before .before .before .before .if1 .left)) ((c .before .before .before .before .before .before .before .before .line-from .ensures)) .0
+sub-closed c = let at8 = c .before .before .before .before .before .before .before .before in let at9 = at8 .before in let at10 = at9 .before in laws.to-in (at10 .lines .inv .has) (at9 .if1 .left) (at8 .line-from .ensures) .0
 
 add-closed-2 : tie.Need-add-closed-2 Inv-lines μ-lines
-add-closed-2 c = omega (arith, laws.to-in ((c .before .before .before .before .before .before .before .before .before .before .lines .inv .has)) ((c .before .before .before .before .before .before .before .before .before .if1 .left)) ((c .before .before .before .before .before .before .before .before .line-from .ensures)), (c .before .before .before .before .before .before .before .before .before .before .lines .inv .has .short))
+add-closed-2 c =
+    let at8 = c .before .before .before .before .before .before .before .before in let at9 = at8 .before in let at10 = at9 .before in
+    omega (arith, laws.to-in (at10 .lines .inv .has) (at9 .if1 .left) (at8 .line-from .ensures), (at10 .lines .inv .has .short))
 
 closed-requires : tie.Need-closed-requires Inv-lines μ-lines
 closed-requires c κs = search needs
@@ -68,19 +70,23 @@ enum-known-v-2 : tie.Need-enum-known-v-2 Inv-lines μ-lines
 enum-known-v-2 c = search needs
 
 add-count : tie.Need-add-count Inv-lines μ-lines
-add-count c = omega (arith, (c .before .before .before .before .before .before .before .before .before .before .lines .inv .has .few), (c .before .before .before .before .before .before .before .before .before .if1 .left))
+add-count c = let at9 = c .before .before .before .before .before .before .before .before .before in let at10 = at9 .before in omega (arith, (at10 .lines .inv .has .few), (at9 .if1 .left))
 
 sub-lookahead : tie.Need-sub-lookahead Inv-lines μ-lines
-sub-lookahead c = omega (arith, laws.to-in ((c .before .before .before .before .before .before .before .before .before .before .lines .inv .has)) ((c .before .before .before .before .before .before .before .before .before .if1 .left)) ((c .before .before .before .before .before .before .before .before .line-from .ensures)))
+sub-lookahead c = let at8 = c .before .before .before .before .before .before .before .before in let at9 = at8 .before in let at10 = at9 .before in omega (arith, laws.to-in (at10 .lines .inv .has) (at9 .if1 .left) (at8 .line-from .ensures))
 
 add-lookahead : tie.Need-add-lookahead Inv-lines μ-lines
-add-lookahead c = omega (arith, laws.to-in ((c .before .before .before .before .before .before .before .before .before .before .lines .inv .has)) ((c .before .before .before .before .before .before .before .before .before .if1 .left)) ((c .before .before .before .before .before .before .before .before .line-from .ensures)), (c .before .before .before .before .before .before .before .before .before .before .lines .inv .has .short))
+add-lookahead c =
+    let at8 = c .before .before .before .before .before .before .before .before in let at9 = at8 .before in let at10 = at9 .before in
+    omega (arith, laws.to-in (at10 .lines .inv .has) (at9 .if1 .left) (at8 .line-from .ensures), (at10 .lines .inv .has .short))
 
 lines-less : tie.Need-lines-less Inv-lines μ-lines
-lines-less c = omega (arith, laws.next-in ((c .before .before .before .before .before .before .before .before .before .before .lines .inv .has)) ((c .before .before .before .before .before .before .before .before .before .if1 .left)) ((c .before .before .before .before .before .before .before .before .line-from .ensures)))
+lines-less c = let at8 = c .before .before .before .before .before .before .before .before in let at9 = at8 .before in let at10 = at9 .before in omega (arith, laws.next-in (at10 .lines .inv .has) (at9 .if1 .left) (at8 .line-from .ensures))
 
 lines-again : tie.Need-lines-again Inv-lines μ-lines
-lines-again c = laws.joins-go ((c .before .before .before .before .before .before .before .before .before .before .lines .inv)) ((c .before .before .before .before .before .before .before .before .before .if1 .left)) ((c .before .before .before .before .before .before .before .before .line-from .ensures)) ((c .before .before .before .before .before .join-line .ensures)) ((c .before .v2 .given) .1)
+lines-again c =
+    let at5 = c .before .before .before .before .before in let at8 = at5 .before .before .before in let at9 = at8 .before in let at10 = at9 .before in
+    laws.joins-go (at10 .lines .inv) (at9 .if1 .left) (at8 .line-from .ensures) (at5 .join-line .ensures) ((c .before .v2 .given) .1)
 
 same-length : tie.Need-same-length Inv-lines μ-lines
 same-length c = laws.has-long ((c .before .before .lines .inv .has))
@@ -89,22 +95,34 @@ returns : tie.Need-returns Inv-lines μ-lines
 returns c = laws.joins-end ((c .before .before .lines .inv)) ((c .before .if1 .taken)) ((c .refused .ensures))
 
 same-length-2 : tie.Need-same-length-2 Inv-lines μ-lines
-same-length-2 c = laws.joins-long ((c .before .before .before .before .before .before .before .before .before .before .lines .inv)) ((c .before .before .before .before .before .before .before .before .before .if1 .left)) ((c .before .before .before .before .before .before .before .before .line-from .ensures)) ((c .before .before .before .before .before .join-line .ensures))
+same-length-2 c =
+    let at5 = c .before .before .before .before .before in let at8 = at5 .before .before .before in let at9 = at8 .before in let at10 = at9 .before in
+    laws.joins-long (at10 .lines .inv) (at9 .if1 .left) (at8 .line-from .ensures) (at5 .join-line .ensures)
 
 returns-2 : tie.Need-returns-2 Inv-lines μ-lines
-returns-2 c = laws.joins-broken ((c .before .before .before .before .before .before .before .before .before .before .lines .inv)) ((c .before .before .before .before .before .before .before .before .before .if1 .left)) ((c .before .before .before .before .before .before .before .before .line-from .ensures)) ((c .before .before .before .before .before .join-line .ensures)) ((c .before .enum-told .given) .1) ((c .refused2 .ensures))
+returns-2 c =
+    let at5 = c .before .before .before .before .before in let at8 = at5 .before .before .before in let at9 = at8 .before in let at10 = at9 .before in
+    laws.joins-broken (at10 .lines .inv) (at9 .if1 .left) (at8 .line-from .ensures) (at5 .join-line .ensures) ((c .before .enum-told .given) .1) (c .refused2 .ensures)
 
 same-length-3 : tie.Need-same-length-3 Inv-lines μ-lines
-same-length-3 c = laws.joins-long ((c .before .before .before .before .before .before .before .before .before .before .lines .inv)) ((c .before .before .before .before .before .before .before .before .before .if1 .left)) ((c .before .before .before .before .before .before .before .before .line-from .ensures)) ((c .before .before .before .before .before .join-line .ensures))
+same-length-3 c =
+    let at5 = c .before .before .before .before .before in let at8 = at5 .before .before .before in let at9 = at8 .before in let at10 = at9 .before in
+    laws.joins-long (at10 .lines .inv) (at9 .if1 .left) (at8 .line-from .ensures) (at5 .join-line .ensures)
 
 returns-3 : tie.Need-returns-3 Inv-lines μ-lines
-returns-3 c = laws.joins-full ((c .before .before .before .before .before .before .before .before .before .before .lines .inv)) ((c .before .before .before .before .before .before .before .before .before .if1 .left)) ((c .before .before .before .before .before .before .before .before .line-from .ensures)) ((c .before .before .before .before .before .join-line .ensures)) ((c .before .enum-told2 .given) .1) ((c .refused3 .ensures))
+returns-3 c =
+    let at5 = c .before .before .before .before .before in let at8 = at5 .before .before .before in let at9 = at8 .before in let at10 = at9 .before in
+    laws.joins-full (at10 .lines .inv) (at9 .if1 .left) (at8 .line-from .ensures) (at5 .join-line .ensures) ((c .before .enum-told2 .given) .1) (c .refused3 .ensures)
 
 same-length-4 : tie.Need-same-length-4 Inv-lines μ-lines
-same-length-4 c = laws.joins-long ((c .before .before .before .before .before .before .before .before .before .before .before .lines .inv)) ((c .before .before .before .before .before .before .before .before .before .before .if1 .left)) ((c .before .before .before .before .before .before .before .before .before .line-from .ensures)) ((c .before .before .before .before .before .before .join-line .ensures))
+same-length-4 c =
+    let at6 = c .before .before .before .before .before .before in let at9 = at6 .before .before .before in let at10 = at9 .before in let at11 = at10 .before in
+    laws.joins-long (at11 .lines .inv) (at10 .if1 .left) (at9 .line-from .ensures) (at6 .join-line .ensures)
 
 returns-4 : tie.Need-returns-4 Inv-lines μ-lines
-returns-4 c = laws.joins-closed ((c .before .before .before .before .before .before .before .before .before .before .before .lines .inv)) ((c .before .before .before .before .before .before .before .before .before .before .if1 .left)) ((c .before .before .before .before .before .before .before .before .before .line-from .ensures)) ((c .before .before .before .before .before .before .join-line .ensures)) ((c .before .before .v .given) .1) ((c .closed .ensures))
+returns-4 c =
+    let at6 = c .before .before .before .before .before .before in let at9 = at6 .before .before .before in let at10 = at9 .before in let at11 = at10 .before in
+    laws.joins-closed (at11 .lines .inv) (at10 .if1 .left) (at9 .line-from .ensures) (at6 .join-line .ensures) ((c .before .before .v .given) .1) (c .closed .ensures)
 
 pub join-run-spec : {M : Type 1} → statement M
 join-run-spec =

@@ -8,22 +8,28 @@ is-blank-line-requires : tie.Need-is-blank-line-requires
 is-blank-line-requires c κs = search needs
 
 returns : tie.Need-returns
-returns c = laws.halts-blank (c .before .before .before .args .n) (c .before .before .before .args .brace) (c .before .before .before .args .opener) (c .before .before .before .args .line .now) (sym ((c .if1 .taken)) ∙ ((c .before .is-blank-line .ensures)))
+returns c =
+    let start = c .before .before .before in
+    laws.halts-blank (start .args .n) (start .args .brace) (start .args .opener) (start .args .line .now) (sym ((c .if1 .taken)) ∙ ((c .before .is-blank-line .ensures)))
 
 returns-2 : tie.Need-returns-2
-returns-2 c = laws.halts-first (c .before .before .before .before .args .n) (c .before .before .before .before .args .brace) (c .before .before .before .before .args .opener) (c .before .before .before .before .args .line .now) (sym ((c .before .if1 .left)) ∙ ((c .before .before .is-blank-line .ensures))) ((c .if2 .taken))
+returns-2 c = let at4 = c .before .before .before .before in laws.halts-first (at4 .args .n) (at4 .args .brace) (at4 .args .opener) (at4 .args .line .now) (sym (c .before .if1 .left) ∙ (c .before .before .is-blank-line .ensures)) (c .if2 .taken)
 
 add-if3 : tie.Need-add-if3
 add-if3 c = search needs
 
 returns-3 : tie.Need-returns-3
-returns-3 c = laws.halts-below (c .before .before .before .before .before .args .n) (c .before .before .before .before .before .args .brace) (c .before .before .before .before .before .args .opener) (c .before .before .before .before .before .args .line .now) (sym ((c .before .before .if1 .left)) ∙ ((c .before .before .before .is-blank-line .ensures))) ((c .before .if2 .left)) ((c .if3 .taken))
+returns-3 c =
+    let at5 = c .before .before .before .before .before in
+    laws.halts-below (at5 .args .n) (at5 .args .brace) (at5 .args .opener) (at5 .args .line .now) (sym (c .before .before .if1 .left) ∙ (c .before .before .before .is-blank-line .ensures)) (c .before .if2 .left) (c .if3 .taken)
 
 opens-brace-requires : tie.Need-opens-brace-requires
 opens-brace-requires c κs = search needs
 
 returns-4 : tie.Need-returns-4
-returns-4 c = laws.halts-opens (c .before .before .before .before .before .before .args .n) (c .before .before .before .before .before .before .args .brace) (c .before .before .before .before .before .before .args .opener) (c .before .before .before .before .before .before .args .line .now) (sym ((c .before .before .before .if1 .left)) ∙ ((c .before .before .before .before .is-blank-line .ensures))) ((c .before .before .if2 .left)) ((c .before .if3 .left)) ((c .opens-brace .ensures))
+returns-4 c =
+    let at4 = c .before .before .before .before in let at6 = at4 .before .before in
+    laws.halts-opens (at6 .args .n) (at6 .args .brace) (at6 .args .opener) (at6 .args .line .now) (sym (c .before .before .before .if1 .left) ∙ (at4 .is-blank-line .ensures)) (c .before .before .if2 .left) (c .before .if3 .left) (c .opens-brace .ensures)
 
 pub halts-at-spec : {M : Type 1} → statement M
 halts-at-spec =

@@ -2,7 +2,7 @@ use mathlib.Core.Path.{refl}
 use Prim.Native.Nat.{_-_}
 use native.Mathlib.Omega.{arith}
 use lib.ListN.{length}
-use Rattle.run_refused.specs.Shown.{spotsFrom}
+use Rattle.run_refused.specs.Inner.{spotsFrom}
 use Rattle.run_refused.proofs.Leaves as laws
 use Rattle.run_refused.proofs.pass_over.Statement.{statement}
 use Rattle.run_refused.proofs.pass_over.Tie as tie

@@ -13,7 +13,7 @@ same-length : tie.Need-same-length
 same-length c = search needs
 
 returns : tie.Need-returns
-returns c = laws.block-told _ _ (c .before .before .before .before .before .before .before .before .args .join .now) ((c .before .before .before .before .join-padded .ensures)) ((c .answer-of .ensures))
+returns c = let at4 = c .before .before .before .before in let at8 = at4 .before .before .before .before in laws.block-told _ _ (at8 .args .join .now) (at4 .join-padded .ensures) (c .answer-of .ensures)
 
 pub refused-block-spec : {M : Type 1} → statement M
 refused-block-spec =

@@ -4,7 +4,7 @@ use Prim.Native.Nat.{_+_, _-_}
 use native.Mathlib.Omega.{arith}
 use borrow.Author.Tests.{not-true, not-false}
 use lib.ListN.{length}
-use Rattle.run_refused.specs.Shown.{walkAt, shownWalk}
+use Rattle.run_refused.specs.Inner.{walkAt, shownWalk}
 use Rattle.run_refused.proofs.Walking as laws
 use Rattle.run_refused.proofs.walk_run.Statement.{statement}
 use Rattle.run_refused.proofs.walk_run.Tie as tie
@@ -55,29 +55,36 @@ part-spot-at-end : tie.Need-part-spot-at-end Inv-loop μ-loop Inv-lines μ-lines
 part-spot-at-end c = omega (arith, laws.line-in _ _ ((c .before .before .before .before .if1 .left)) ((c .before .before .before .line-from .ensures)))
 
 spot-at-requires : tie.Need-spot-at-requires Inv-loop μ-loop Inv-lines μ-lines
-spot-at-requires c κs = omega (arith, (c .before .before .before .before .before .before .before .before .pre .0), laws.line-long _ _ ((c .before .before .before .before .before .if1 .left)) ((c .before .before .before .before .line-from .ensures)), laws.line-in _ _ ((c .before .before .before .before .before .if1 .left)) ((c .before .before .before .before .line-from .ensures)))
+spot-at-requires c κs =
+    let at4 = c .before .before .before .before in let at5 = at4 .before in let at8 = at5 .before .before .before in
+    omega (arith, (at8 .pre .0), laws.line-long _ _ (at5 .if1 .left) (at4 .line-from .ensures), laws.line-in _ _ (at5 .if1 .left) (at4 .line-from .ensures))
 
 shallow-or-requires : tie.Need-shallow-or-requires Inv-loop μ-loop Inv-lines μ-lines
 shallow-or-requires c κs = search needs
 
 sub-trim-ascii-start : tie.Need-sub-trim-ascii-start Inv-loop μ-loop Inv-lines μ-lines
-sub-trim-ascii-start c = omega (arith, laws.line-in _ _ ((c .before .before .before .before .before .before .before .if1 .left)) ((c .before .before .before .before .before .before .line-from .ensures)))
+sub-trim-ascii-start c = let at6 = c .before .before .before .before .before .before in let at7 = at6 .before in omega (arith, laws.line-in _ _ (at7 .if1 .left) (at6 .line-from .ensures))
 
 part-trim-ascii-start-start :
     tie.Need-part-trim-ascii-start-start Inv-loop μ-loop Inv-lines μ-lines
-part-trim-ascii-start-start c = omega (arith, laws.line-in _ _ ((c .before .before .before .before .before .before .before .if1 .left)) ((c .before .before .before .before .before .before .line-from .ensures)))
+part-trim-ascii-start-start c = let at6 = c .before .before .before .before .before .before in let at7 = at6 .before in omega (arith, laws.line-in _ _ (at7 .if1 .left) (at6 .line-from .ensures))
 
 part-trim-ascii-start-end : tie.Need-part-trim-ascii-start-end Inv-loop μ-loop Inv-lines μ-lines
-part-trim-ascii-start-end c = omega (arith, laws.line-in _ _ ((c .before .before .before .before .before .before .before .if1 .left)) ((c .before .before .before .before .before .before .line-from .ensures)))
+part-trim-ascii-start-end c = let at6 = c .before .before .before .before .before .before in let at7 = at6 .before in omega (arith, laws.line-in _ _ (at7 .if1 .left) (at6 .line-from .ensures))
 
 trim-ascii-start-requires : tie.Need-trim-ascii-start-requires Inv-loop μ-loop Inv-lines μ-lines
 trim-ascii-start-requires c κs = search needs
 
 add-i : tie.Need-add-i Inv-loop μ-loop Inv-lines μ-lines
-add-i c = omega (arith, laws.rest-in _ _ ((c .before .before .before .before .before .before .before .before .before .if1 .left)) ((c .before .before .before .before .before .before .before .before .line-from .ensures)) (ap (λ z. (c .before .before .before .before .before .before .before .before .before .before .lines .at) + z) ((c .trim-ascii-start .ensures))), laws.line-in _ _ ((c .before .before .before .before .before .before .before .before .before .if1 .left)) ((c .before .before .before .before .before .before .before .before .line-from .ensures)))
+add-i c =
+    let at8 = c .before .before .before .before .before .before .before .before in let at9 = at8 .before in let at10 = at9 .before in
+    omega (arith, laws.rest-in _ _ (at9 .if1 .left) (at8 .line-from .ensures) (ap (λ z. (at10 .lines .at) + z) (c .trim-ascii-start .ensures)), laws.line-in _ _ (at9 .if1 .left) (at8 .line-from .ensures))
 
 loop-holds : tie.Need-loop-holds Inv-loop μ-loop Inv-lines μ-lines
-loop-holds c = laws.into ((c .before .before .before .before .before .before .before .before .before .before .lines .inv)) ((c .before .before .before .before .before .before .before .before .before .if1 .left)) ((c .before .before .before .before .before .before .before .before .line-from .ensures)) ((c .before .before .before .before .before .before .before .before .before .before .before .before .pre .0)) (sym ((c .before .before .before .before .before .if2 .left)) ∙ ((c .before .before .before .before .before .before .halts-at .ensures))) ((c .before .before .before .spot-at .ensures)) ((c .before .before .shallow-or .ensures)) (ap (λ z. (c .before .before .before .before .before .before .before .before .before .before .lines .at) + z) ((c .trim-ascii-start .ensures)))
+loop-holds c =
+    let at5 = c .before .before .before .before .before in let at6 = at5 .before in let at8 = at6 .before .before in let at9 = at8 .before in let at10 = at9 .before in
+    let at12 = at10 .before .before in
+    laws.into (at10 .lines .inv) (at9 .if1 .left) (at8 .line-from .ensures) (at12 .pre .0) (sym (at5 .if2 .left) ∙ (at6 .halts-at .ensures)) (c .before .before .before .spot-at .ensures) (c .before .before .shallow-or .ensures) (ap (λ z. (at10 .lines .at) + z) (c .trim-ascii-start .ensures))
 
 shared-slice-read-is-stray : tie.Need-shared-slice-read-is-stray Inv-loop μ-loop Inv-lines μ-lines
 shared-slice-read-is-stray c = omega (arith, (c .before .before .loop .inv .within))
@@ -93,28 +100,38 @@ spot-after-requires : tie.Need-spot-after-requires Inv-loop μ-loop Inv-lines μ
 spot-after-requires c κs = omega (arith, (c .before .before .before .before .before .loop .inv .column))
 
 add-i-2 : tie.Need-add-i-2 Inv-loop μ-loop Inv-lines μ-lines
-add-i-2 c = omega (arith, (c .before .before .before .before .before .before .loop .inv .within), (c .before .before .before .before .before .before .before .before .before .before .before .before .before .before .before .before .before .before .before .pre .0))
+add-i-2 c =
+    let at6 = c .before .before .before .before .before .before in
+    let at19 = at6 .before .before .before .before .before .before .before .before .before .before .before .before .before in
+    omega (arith, (at6 .loop .inv .within), (at19 .pre .0))
 
 loop-less : tie.Need-loop-less Inv-loop μ-loop Inv-lines μ-lines
 loop-less c = omega arith
 
 loop-again : tie.Need-loop-again Inv-loop μ-loop Inv-lines μ-lines
-loop-again c = laws.go ((c .before .before .before .before .before .before .loop .inv)) ((c .before .before .before .before .before .loop-test .taken)) ((c .before .before .before .before .before .before .before .before .before .before .before .before .before .before .before .before .before .before .before .pre .0)) (sym ((c .before .before .if3 .left)) ∙ ((c .before .before .before .is-stray .ensures))) ((c .spot-after .ensures))
+loop-again c =
+    let at5 = c .before .before .before .before .before in let at6 = at5 .before in
+    let at19 = at6 .before .before .before .before .before .before .before .before .before .before .before .before .before in
+    laws.go (at6 .loop .inv) (at5 .loop-test .taken) (at19 .pre .0) (sym (c .before .before .if3 .left) ∙ (c .before .before .before .is-stray .ensures)) (c .spot-after .ensures)
 
 add-n : tie.Need-add-n Inv-loop μ-loop Inv-lines μ-lines
-add-n c = omega (arith, (c .before .before .before .before .before .before .before .before .before .before .before .before .lines .inv .few), (c .before .before .before .before .before .before .before .before .before .before .before .if1 .left))
+add-n c = let at11 = c .before .before .before .before .before .before .before .before .before .before .before in let at12 = at11 .before in omega (arith, (at12 .lines .inv .few), (at11 .if1 .left))
 
 lines-less : tie.Need-lines-less Inv-loop μ-loop Inv-lines μ-lines
-lines-less c = omega (arith, laws.line-in _ _ ((c .before .before .before .before .before .before .before .before .before .before .before .before .before .if1 .left)) ((c .before .before .before .before .before .before .before .before .before .before .before .before .line-from .ensures)))
+lines-less c = let at12 = c .before .before .before .before .before .before .before .before .before .before .before .before in let at13 = at12 .before in omega (arith, laws.line-in _ _ (at13 .if1 .left) (at12 .line-from .ensures))
 
 lines-again : tie.Need-lines-again Inv-loop μ-loop Inv-lines μ-lines
-lines-again c = laws.onward ((c .before .before .before .loop .inv)) ((c .before .before .loop-test .left)) ((c .before .before .before .before .before .before .before .before .before .before .before .before .before .before .lines .inv .few)) (omega (arith, laws.line-in _ _ ((c .before .before .before .before .before .before .before .before .before .before .before .before .before .if1 .left)) ((c .before .before .before .before .before .before .before .before .before .before .before .before .line-from .ensures)))) (not-false _ ((c .if4 .left)))
+lines-again c =
+    let at12 = c .before .before .before .before .before .before .before .before .before .before .before .before in let at13 = at12 .before in let at14 = at13 .before in
+    laws.onward (c .before .before .before .loop .inv) (c .before .before .loop-test .left) (at14 .lines .inv .few) (omega (arith, laws.line-in _ _ (at13 .if1 .left) (at12 .line-from .ensures))) (not-false _ (c .if4 .left))
 
 returns : tie.Need-returns Inv-loop μ-loop Inv-lines μ-lines
 returns c = ((c .no-block .ensures)) ∙ laws.end ((c .before .before .lines .inv)) ((c .before .if1 .taken))
 
 returns-2 : tie.Need-returns-2 Inv-loop μ-loop Inv-lines μ-lines
-returns-2 c = ((c .no-block2 .ensures)) ∙ laws.halt ((c .before .before .before .before .before .before .lines .inv)) ((c .before .before .before .before .before .if1 .left)) ((c .before .before .before .before .line-from .ensures)) (sym ((c .before .if2 .taken)) ∙ ((c .before .before .halts-at .ensures)))
+returns-2 c =
+    let at4 = c .before .before .before .before in let at5 = at4 .before in let at6 = at5 .before in
+    (c .no-block2 .ensures) ∙ laws.halt (at6 .lines .inv) (at5 .if1 .left) (at4 .line-from .ensures) (sym (c .before .if2 .taken) ∙ (c .before .before .halts-at .ensures))
 
 returns-3 : tie.Need-returns-3 Inv-loop μ-loop Inv-lines μ-lines
 returns-3 c = laws.stray ((c .before .before .before .before .loop .inv)) ((c .before .before .before .loop-test .taken)) (sym ((c .if3 .taken)) ∙ ((c .before .is-stray .ensures)))

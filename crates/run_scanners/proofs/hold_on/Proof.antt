@@ -37,7 +37,7 @@ enum-told-2 : tie.Need-enum-told-2 Inv-loop μ-loop
 enum-told-2 c = search needs
 
 returns-2 : tie.Need-returns-2 Inv-loop μ-loop
-returns-2 c = rw (c .before .before .before .before .before .before .before .from .given .1) (laws.holds-dead (c .before .before .before .before .before .loop .inv) (omega arith) (sym (c .enum-told2 .given .1) ∙ (c .before .before .held-step .ensures)))
+returns-2 c = let at5 = c .before .before .before .before .before in let at7 = at5 .before .before in rw (at7 .from .given .1) (laws.holds-dead (at5 .loop .inv) (omega arith) (sym (c .enum-told2 .given .1) ∙ (c .before .before .held-step .ensures)))
 
 enum-known-v : tie.Need-enum-known-v Inv-loop μ-loop
 enum-known-v c = search needs

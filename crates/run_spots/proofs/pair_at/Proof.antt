@@ -14,7 +14,9 @@ shared-slice-read-if2 : tie.Need-shared-slice-read-if2
 shared-slice-read-if2 c = search needs
 
 returns-2 : tie.Need-returns-2
-returns-2 c = laws.pair-not (c .before .before .before .args .s .now) (c .before .before .before .args .i) (c .before .before .before .args .b) (c .before .before .before .args .c) (omega arith) ((c .if2 .taken))
+returns-2 c =
+    let start = c .before .before .before in
+    laws.pair-not (start .args .s .now) (start .args .i) (start .args .b) (start .args .c) (omega arith) ((c .if2 .taken))
 
 add-result : tie.Need-add-result
 add-result c = search needs
@@ -23,7 +25,7 @@ shared-slice-read-result : tie.Need-shared-slice-read-result
 shared-slice-read-result c = search needs
 
 returns-3 : tie.Need-returns-3
-returns-3 c = laws.pair-is (c .before .before .before .before .args .s .now) (c .before .before .before .before .args .i) (c .before .before .before .before .args .b) (c .before .before .before .before .args .c) (omega arith) ((c .before .if2 .left))
+returns-3 c = let at4 = c .before .before .before .before in laws.pair-is (at4 .args .s .now) (at4 .args .i) (at4 .args .b) (at4 .args .c) (omega arith) (c .before .if2 .left)
 
 pub pair-at-spec : {M : Type 1} → statement M
 pair-at-spec =

@@ -44,19 +44,26 @@ empty-requires c κs = search needs
 
 fill-unless-requires : tie.Need-fill-unless-requires
 fill-unless-requires c κs =
-    let z = chains.goes (c .before .before .before .before .next-block .ensures) (c .before .before .e .given .1) in
-    let a = (c .before .before .before .before .before .before .before .before .before .args) in
-    let short = whole.line-short (a .text .now) (a .from) (a .to) (c .before .before .before .before .before .before .before .too-long .ensures) (c .before .before .before .before .before .before .if1 .left) (c .before .before .before .before .before .bytes-of .ensures) in
+    let at4 = c .before .before .before .before in let at5 = at4 .before in let at6 = at5 .before in let at7 = at6 .before in let at9 = at7 .before .before in
+    let z = chains.goes (at4 .next-block .ensures) (c .before .before .e .given .1) in
+    let a = (at9 .args) in
+    let short = whole.line-short (a .text .now) (a .from) (a .to) (at7 .too-long .ensures) (at6 .if1 .left) (at5 .bytes-of .ensures) in
     (omega (arith, z .ahead), omega (arith, z .within), omega (arith, short), (c .empty .ensures))
 
 returns-2 : tie.Need-returns-2
-returns-2 c = let a = (c .before .before .before .before .before .before .before .before .args) in whole.no-block (a .text .now) (a .from) (a .to) (c .before .before .before .before .before .before .too-long .ensures) (c .before .before .before .before .before .if1 .left) (c .before .before .before .before .bytes-of .ensures) (c .before .before .before .next-block .ensures) (c .before .enum-told .given .1) (c .refusing2 .ensures)
+returns-2 c =
+    let at4 = c .before .before .before .before in let at5 = at4 .before in let at6 = at5 .before in let at8 = at6 .before .before in
+    let a = (at8 .args) in whole.no-block (a .text .now) (a .from) (a .to) (at6 .too-long .ensures) (at5 .if1 .left) (at4 .bytes-of .ensures) (c .before .before .before .next-block .ensures) (c .before .enum-told .given .1) (c .refusing2 .ensures)
 
 returns-3 : tie.Need-returns-3
-returns-3 c = let a = (c .before .before .before .before .before .before .before .before .args) in whole.unread (a .text .now) (a .from) (a .to) (c .before .before .before .before .before .before .too-long .ensures) (c .before .before .before .before .before .if1 .left) (c .before .before .before .before .bytes-of .ensures) (c .before .before .before .next-block .ensures) (c .before .enum-told2 .given .1) (c .refusing3 .ensures)
+returns-3 c =
+    let at4 = c .before .before .before .before in let at5 = at4 .before in let at6 = at5 .before in let at8 = at6 .before .before in
+    let a = (at8 .args) in whole.unread (a .text .now) (a .from) (a .to) (at6 .too-long .ensures) (at5 .if1 .left) (at4 .bytes-of .ensures) (c .before .before .before .next-block .ensures) (c .before .enum-told2 .given .1) (c .refusing3 .ensures)
 
 returns-4 : tie.Need-returns-4
-returns-4 c = let a = (c .before .before .before .before .before .before .before .before .before .before .args) in whole.blocks (a .text .now) (a .from) (a .to) (c .before .before .before .before .before .before .before .before .too-long .ensures) (c .before .before .before .before .before .before .before .if1 .left) (c .before .before .before .before .before .before .bytes-of .ensures) (c .before .before .before .before .before .next-block .ensures) (c .before .before .before .e .given .1) (c .fill-unless .ensures)
+returns-4 c =
+    let at5 = c .before .before .before .before .before in let at6 = at5 .before in let at7 = at6 .before in let at8 = at7 .before in let at10 = at8 .before .before in
+    let a = (at10 .args) in whole.blocks (a .text .now) (a .from) (a .to) (at8 .too-long .ensures) (at7 .if1 .left) (at6 .bytes-of .ensures) (at5 .next-block .ensures) (c .before .before .before .e .given .1) (c .fill-unless .ensures)
 
 pub fill-chain-spec : {M : Type 1} → statement M
 fill-chain-spec =

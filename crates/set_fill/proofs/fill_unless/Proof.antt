@@ -8,7 +8,7 @@ is-refused-requires : tie.Need-is-refused-requires
 is-refused-requires c κs = search needs
 
 returns : tie.Need-returns
-returns c = fills.refused-first (c .before .before .before .before .args .no) _ (sym (c .before .is-refused .ensures) ∙ (c .if1 .taken)) (c .before .before .before .before .pre .3)
+returns c = let at4 = c .before .before .before .before in fills.refused-first (at4 .args .no) _ (sym (c .before .is-refused .ensures) ∙ (c .if1 .taken)) (at4 .pre .3)
 
 fill-part-requires : tie.Need-fill-part-requires
 fill-part-requires c κs = (c .before .before .before .before .pre)

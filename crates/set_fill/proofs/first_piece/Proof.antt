@@ -2,7 +2,7 @@ use mathlib.Core.Path.{sym}
 use native.Mathlib.Omega.{arith}
 use lib.ListN.{take, length-take}
 use lib.Seq.{length-take-le}
-use Rattle.block_tokens.proofs.Runs as runs
+use Rattle.base_lists.proofs.Runs as runs
 use Rattle.set_fill.proofs.Walk as walk
 use borrow.Author.Needs.{needs}
 use Rattle.set_fill.proofs.first_piece.Statement.{statement}
@@ -21,10 +21,14 @@ before-tokens-requires : tie.Need-before-tokens-requires
 before-tokens-requires c κs = search needs
 
 returns : tie.Need-returns
-returns c = λ m. walk.whole-class ((c .before .before .before .before .before .before .pre .0)) (c .before .before .before .space-end .ensures) m ((c .before .before .before .before .before .before .pre .1)) (c .before .before .if1 .taken) (c .before .value-of .ensures) (c .before-tokens .ensures)
+returns c =
+    let at6 = c .before .before .before .before .before .before in
+    λ m. walk.whole-class (at6 .pre .0) (c .before .before .before .space-end .ensures) m (at6 .pre .1) (c .before .before .if1 .taken) (c .before .value-of .ensures) (c .before-tokens .ensures)
 
 piece-requires : tie.Need-piece-requires
-piece-requires c κs = let a = c .before .before .before .before .args in omega (arith, (c .before .before .before .before .pre), length-take (a .c .to) (a .s .now), runs.inside _ (take (a .c .to) (a .s .now)) (c .before .space-end .ensures) (omega (arith, (c .before .before .before .before .pre), length-take (a .c .to) (a .s .now))))
+piece-requires c κs =
+    let at4 = c .before .before .before .before in
+    let a = at4 .args in omega (arith, (at4 .pre), length-take (a .c .to) (a .s .now), runs.inside _ (take (a .c .to) (a .s .now)) (c .before .space-end .ensures) (omega (arith, (at4 .pre), length-take (a .c .to) (a .s .now))))
 
 returns-2 : tie.Need-returns-2
 returns-2 c = λ m. walk.class-next ((c .before .before .before .before .before .pre .0)) (c .before .before .space-end .ensures) m (c .before .if1 .left) (c .piece .ensures)

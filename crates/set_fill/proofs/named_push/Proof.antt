@@ -26,7 +26,9 @@ before-tokens-requires : tie.Need-before-tokens-requires
 before-tokens-requires c κs = search needs
 
 returns : tie.Need-returns
-returns c = λ m. walk.named-id m ((c .before .before .before .before .before .before .before .pre .0)) ((c .before .before .before .before .before .before .before .pre .1)) ((c .before .before .before .before .before .before .before .pre .2)) ((c .before .before .before .before .before .before .before .pre .3)) (sym (c .before .before .before .same-bytes .ensures) ∙ (c .before .before .if1 .taken)) (c .before .value-of .ensures) (c .before-tokens .ensures)
+returns c =
+    let at7 = c .before .before .before .before .before .before .before in
+    λ m. walk.named-id m (at7 .pre .0) (at7 .pre .1) (at7 .pre .2) (at7 .pre .3) (sym (c .before .before .before .same-bytes .ensures) ∙ (c .before .before .if1 .taken)) (c .before .value-of .ensures) (c .before-tokens .ensures)
 
 slice-aggregate-same-bytes-2 : tie.Need-slice-aggregate-same-bytes-2
 slice-aggregate-same-bytes-2 c = search needs
@@ -38,7 +40,9 @@ first-piece-requires : tie.Need-first-piece-requires
 first-piece-requires c κs = search needs
 
 returns-2 : tie.Need-returns-2
-returns-2 c = λ m. walk.named-class m ((c .before .before .before .before .before .before .before .before .before .pre .0)) ((c .before .before .before .before .before .before .before .before .before .pre .1)) ((c .before .before .before .before .before .before .before .before .before .pre .2)) ((c .before .before .before .before .before .before .before .before .before .pre .3)) (sym (c .before .before .before .before .before .same-bytes .ensures) ∙ (c .before .before .before .before .if1 .left)) (sym (c .before .before .same-bytes2 .ensures) ∙ (c .before .if2 .taken)) (c .first-piece .ensures m)
+returns-2 c =
+    let at4 = c .before .before .before .before in let at5 = at4 .before in let at9 = at5 .before .before .before .before in
+    λ m. walk.named-class m (at9 .pre .0) (at9 .pre .1) (at9 .pre .2) (at9 .pre .3) (sym (at5 .same-bytes .ensures) ∙ (at4 .if1 .left)) (sym (c .before .before .same-bytes2 .ensures) ∙ (c .before .if2 .taken)) (c .first-piece .ensures m)
 
 cast-t20 : tie.Need-cast-t20
 cast-t20 c = search needs
@@ -53,7 +57,9 @@ before-tokens-requires-2 : tie.Need-before-tokens-requires-2
 before-tokens-requires-2 c κs = search needs
 
 returns-3 : tie.Need-returns-3
-returns-3 c = λ m. walk.named-key m ((c .before .before .before .before .before .before .before .before .before .before .pre .0)) ((c .before .before .before .before .before .before .before .before .before .before .pre .1)) ((c .before .before .before .before .before .before .before .before .before .before .pre .2)) ((c .before .before .before .before .before .before .before .before .before .before .pre .3)) (sym (c .before .before .before .before .before .before .same-bytes .ensures) ∙ (c .before .before .before .before .before .if1 .left)) (sym (c .before .before .before .same-bytes2 .ensures) ∙ (c .before .before .if2 .left)) (c .before .value-of2 .ensures) (c .before-tokens2 .ensures)
+returns-3 c =
+    let at5 = c .before .before .before .before .before in let at6 = at5 .before in let at10 = at6 .before .before .before .before in
+    λ m. walk.named-key m (at10 .pre .0) (at10 .pre .1) (at10 .pre .2) (at10 .pre .3) (sym (at6 .same-bytes .ensures) ∙ (at5 .if1 .left)) (sym (c .before .before .before .same-bytes2 .ensures) ∙ (c .before .before .if2 .left)) (c .before .value-of2 .ensures) (c .before-tokens2 .ensures)
 
 pub named-push-spec : {M : Type 1} → statement M
 named-push-spec =

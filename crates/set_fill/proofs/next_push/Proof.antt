@@ -2,7 +2,7 @@ use mathlib.Core.Path.{sym}
 use native.Mathlib.Omega.{arith}
 use lib.ListN.{take, length-take}
 use lib.Seq.{length-take-le}
-use Rattle.block_tokens.proofs.Runs as runs
+use Rattle.base_lists.proofs.Runs as runs
 use Rattle.set_fill.proofs.Walk as walk
 use borrow.Author.Needs.{needs}
 use Rattle.set_fill.proofs.next_push.Statement.{statement}
@@ -21,7 +21,9 @@ returns : tie.Need-returns
 returns c = walk.token-next ((c .before .before .before .before .before .pre .0)) (c .before .before .space-end .ensures) (c .before .if1 .taken) (c .token-push .ensures)
 
 piece-requires : tie.Need-piece-requires
-piece-requires c κs = let a = c .before .before .before .before .args in omega (arith, (c .before .before .before .before .pre), length-take (a .c .to) (a .s .now), runs.inside _ (take (a .c .to) (a .s .now)) (c .before .space-end .ensures) (omega (arith, (c .before .before .before .before .pre), length-take (a .c .to) (a .s .now))))
+piece-requires c κs =
+    let at4 = c .before .before .before .before in
+    let a = at4 .args in omega (arith, (at4 .pre), length-take (a .c .to) (a .s .now), runs.inside _ (take (a .c .to) (a .s .now)) (c .before .space-end .ensures) (omega (arith, (at4 .pre), length-take (a .c .to) (a .s .now))))
 
 returns-2 : tie.Need-returns-2
 returns-2 c = walk.piece-next ((c .before .before .before .before .before .pre .0)) (c .before .before .space-end .ensures) _ (c .before .if1 .left) (c .piece .ensures)

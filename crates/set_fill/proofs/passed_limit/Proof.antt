@@ -3,7 +3,7 @@ use mathlib.Core.Path.{sym, _∙_}
 use Prim.Native.Nat.{_-_}
 use lib.ListN.{length}
 use borrow.Author.Needs.{needs}
-use Rattle.set_fill.specs.Walk.{chainRest, overOf}
+use Rattle.set_fill.specs.Inner.{chainRest, overOf}
 use Rattle.set_fill.proofs.Walk as walk
 use Rattle.set_fill.proofs.Chains as chains
 use Rattle.set_fill.proofs.Limits as limits
@@ -29,7 +29,7 @@ enum-told : tie.Need-enum-told Inv-walk μ-walk
 enum-told c = search needs
 
 block-behind-requires : tie.Need-block-behind-requires Inv-walk μ-walk
-block-behind-requires c κs = let i = (c .before .before .before .before .walk .inv) in (i .stands .fits, (c .before .before .before .before .before .before .pre .2))
+block-behind-requires c κs = let at4 = c .before .before .before .before in let at6 = at4 .before .before in let i = (at4 .walk .inv) in (i .stands .fits, (at6 .pre .2))
 
 enum-told-2 : tie.Need-enum-told-2 Inv-walk μ-walk
 enum-told-2 c = search needs
@@ -44,16 +44,20 @@ enum-known-e : tie.Need-enum-known-e Inv-walk μ-walk
 enum-known-e c = search needs
 
 add-before-tokens : tie.Need-add-before-tokens Inv-walk μ-walk
-add-before-tokens c = let i = (c .before .before .before .before .before .before .before .before .walk .inv) in omega (arith, i .stands .fits, (c .before .before .before .before .before .before .before .before .before .before .pre .2))
+add-before-tokens c = let at8 = c .before .before .before .before .before .before .before .before in let at10 = at8 .before .before in let i = (at8 .walk .inv) in omega (arith, i .stands .fits, (at10 .pre .2))
 
 before-tokens-requires : tie.Need-before-tokens-requires Inv-walk μ-walk
 before-tokens-requires c κs = search needs
 
 walk-less : tie.Need-walk-less Inv-walk μ-walk
-walk-less c = chains.less-into ((c .before .before .before .before .before .before .before .before .before .walk .inv) .stands) (c .before .before .before .before .block-behind .ensures) (c .before .before .e .given .1) (c .before-tokens .ensures)
+walk-less c =
+    let at4 = c .before .before .before .before in let at9 = at4 .before .before .before .before .before in
+    chains.less-into ((at9 .walk .inv) .stands) (at4 .block-behind .ensures) (c .before .before .e .given .1) (c .before-tokens .ensures)
 
 walk-again : tie.Need-walk-again Inv-walk μ-walk
-walk-again c = limits.into (c .before .before .before .before .before .before .before .before .before .walk .inv) (c .before .before .before .before .before .before .before .next-push .ensures) (c .before .before .before .before .block-behind .ensures) (c .before .before .before .before .before .enum-told .given .1) (c .before .before .e .given .1) (c .before-tokens .ensures)
+walk-again c =
+    let at4 = c .before .before .before .before in let at5 = at4 .before in let at7 = at5 .before .before in let at9 = at7 .before .before in
+    limits.into (at9 .walk .inv) (at7 .next-push .ensures) (at4 .block-behind .ensures) (at5 .enum-told .given .1) (c .before .before .e .given .1) (c .before-tokens .ensures)
 
 enum-told-4 : tie.Need-enum-told-4 Inv-walk μ-walk
 enum-told-4 c = search needs
@@ -71,7 +75,7 @@ enum-known-next-2 : tie.Need-enum-known-next-2 Inv-walk μ-walk
 enum-known-next-2 c = search needs
 
 add-count : tie.Need-add-count Inv-walk μ-walk
-add-count c = let i = (c .before .before .before .before .before .walk .inv) in omega (arith, (c .before .before .before .before .before .before .before .pre), i .bound, i .stands .inside, chains.front (i .stands), i .stands .fits)
+add-count c = let at5 = c .before .before .before .before .before in let at7 = at5 .before .before in let i = (at5 .walk .inv) in omega (arith, (at7 .pre), i .bound, i .stands .inside, chains.front (i .stands), i .stands .fits)
 
 walk-less-3 : tie.Need-walk-less-3 Inv-walk μ-walk
 walk-less-3 c = chains.less ((c .before .before .before .before .before .walk .inv) .stands) (walk.class-gives (c .before .before .before .next-push .ensures) (c .before .next2 .given .1))
@@ -89,10 +93,14 @@ walk-again-4 : tie.Need-walk-again-4 Inv-walk μ-walk
 walk-again-4 c = limits.next (c .before .before .before .before .before .walk .inv) (walk.key-gives (c .before .before .before .next-push .ensures) (c .before .next3 .given .1))
 
 returns : tie.Need-returns Inv-walk μ-walk
-returns c = (c .over .ensures) ∙ limits.last (c .before .before .before .before .before .before .before .before .walk .inv) (c .before .before .before .before .before .before .next-push .ensures) (c .before .before .before .block-behind .ensures) (c .before .before .before .before .enum-told .given .1) (c .before .enum-told2 .given .1)
+returns c =
+    let at4 = c .before .before .before .before in let at6 = at4 .before .before in let at8 = at6 .before .before in
+    (c .over .ensures) ∙ limits.last (at8 .walk .inv) (at6 .next-push .ensures) (c .before .before .before .block-behind .ensures) (at4 .enum-told .given .1) (c .before .enum-told2 .given .1)
 
 returns-2 : tie.Need-returns-2 Inv-walk μ-walk
-returns-2 c = limits.unread (c .before .before .before .before .before .before .before .walk .inv) (c .before .before .before .before .before .next-push .ensures) (c .before .before .block-behind .ensures) (c .before .before .before .enum-told .given .1) (c .enum-told3 .given .1)
+returns-2 c =
+    let at5 = c .before .before .before .before .before in let at7 = at5 .before .before in
+    limits.unread (at7 .walk .inv) (at5 .next-push .ensures) (c .before .before .block-behind .ensures) (c .before .before .before .enum-told .given .1) (c .enum-told3 .given .1)
 
 returns-3 : tie.Need-returns-3 Inv-walk μ-walk
 returns-3 c = limits.bad (c .before .before .before .before .walk .inv) (c .before .before .next-push .ensures) (c .enum-told4 .given .1)

@@ -2,7 +2,7 @@ use mathlib.Core.Path.{sym}
 use native.Mathlib.Omega.{arith}
 use lib.ListN.{take, length-take}
 use lib.Seq.{length-take-le}
-use Rattle.block_tokens.proofs.Runs as runs
+use Rattle.base_lists.proofs.Runs as runs
 use borrow.Author.Needs.{needs}
 use Rattle.set_fill.proofs.piece.Statement.{statement}
 use Rattle.set_fill.proofs.piece.Tie as tie
@@ -14,7 +14,9 @@ piece-end-requires : tie.Need-piece-end-requires
 piece-end-requires c κs = search needs
 
 value-of-requires : tie.Need-value-of-requires
-value-of-requires c κs = let a = c .before .before .before .args in omega (arith, (c .before .before .before .pre), length-take (a .c .to) (a .s .now), runs.inside _ (take (a .c .to) (a .s .now)) (c .piece-end .ensures) (omega (arith, (c .before .before .before .pre), length-take (a .c .to) (a .s .now))))
+value-of-requires c κs =
+    let start = c .before .before .before in
+    let a = start .args in omega (arith, (start .pre), length-take (a .c .to) (a .s .now), runs.inside _ (take (a .c .to) (a .s .now)) (c .piece-end .ensures) (omega (arith, (start .pre), length-take (a .c .to) (a .s .now))))
 
 value-at-requires : tie.Need-value-at-requires
 value-at-requires c κs = search needs

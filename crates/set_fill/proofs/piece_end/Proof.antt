@@ -6,7 +6,7 @@ use borrow.Author.Needs.{needs}
 use lib.ListN.{length, drop}
 use Rattle.base_lists.specs.Lists.{run}
 use Rattle.base_bytes.specs.Bytes.{isSpace}
-use Rattle.block_tokens.proofs.Runs as runs
+use Rattle.base_lists.proofs.Runs as runs
 use Rattle.set_fill.proofs.piece_end.Statement.{statement}
 use Rattle.set_fill.proofs.piece_end.Tie as tie
 

@@ -39,10 +39,10 @@ use denote.Exit.{yes}
 use Rattle.set_table.specs.declared.Attrs.{Attrs}
 use Rattle.set_table.proofs.Attrs as T
 use Rattle.set_table.proofs.Attrs.Laws as T′
-use Rattle.set_fill.specs.declared.Outcome.{Outcome}
-use Rattle.set_fill.specs.declared.Filled.{Filled}
-use Rattle.set_fill.proofs.Outcome as O
-use Rattle.set_fill.proofs.Outcome.Laws as O′
+use Rattle.base_refusals.specs.declared.Outcome.{Outcome}
+use Rattle.set_table.specs.declared.Filled.{Filled}
+use Rattle.base_refusals.proofs.Outcome as O
+use Rattle.base_refusals.proofs.Outcome.Laws as O′
 use Rattle.set_merge.specs.Merge.{mergeOf}
 use Rattle.set_lent.specs.declared.Both.{Both}
 use Rattle.set_lent.proofs.Both as B

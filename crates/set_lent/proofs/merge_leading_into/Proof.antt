@@ -6,7 +6,7 @@ use contract.Running.{givenOf, tables, tablesOf}
 use denote.Triple.Spec.{tripleOf}
 use denote.Triple.Table.{entered, cited}
 use Rattle.set_table.specs.declared.Attrs.{Attrs}
-use Rattle.set_fill.specs.declared.Filled.{Filled}
+use Rattle.set_table.specs.declared.Filled.{Filled}
 use Rattle.set_merge.specs.Merge.{mergeOf}
 use Rattle.set_merge.proofs.merge_leading_attrs.Symbol as mrg-def
 use Rattle.set_merge.proofs.merge_leading_attrs.Symbol.{name as #merge}

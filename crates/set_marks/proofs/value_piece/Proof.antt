@@ -25,7 +25,7 @@ add-t5 c = search needs
 
 returns-3 : tie.Need-returns-3
 unfolding pieceIn
-returns-3 c = rw ((c .before .before .if1 .left), lt-leb (length ((c .before .before .before .before .args .s .now))) ((c .before .before .before .before .args .i)) (omega (arith, (c .before .if2 .left))))
+returns-3 c = let at4 = c .before .before .before .before in rw ((c .before .before .if1 .left), lt-leb (length (at4 .args .s .now)) (at4 .args .i) (omega (arith, (c .before .if2 .left))))
 
 pub value-piece-spec : {M : Type 1} → statement M
 value-piece-spec =

@@ -23,7 +23,9 @@ first-slots-requires : tie.Need-first-slots-requires
 first-slots-requires c κs = search needs
 
 returns : tie.Need-returns
-returns c = rw ((c .before .before .before .before .first-classes .ensures), (c .before .before .first-keys .ensures), (c .first-slots .ensures)) (fronts.cleaned-is _ (simp length-map at (c .before .before .before .before .before .before .before .before .before .before .good .0 .1 .1 .1 .0 .1 .0 .1)) (simp length-map at (c .before .before .before .before .before .before .before .before .before .before .good .0 .1 .1 .1 .1 .1 .0 .1 .0 .1)) (simp length-map at (c .before .before .before .before .before .before .before .before .before .before .good .0 .1 .1 .1 .1 .1 .1 .1 .0 .1 .0 .1)) (c .before .before .before .before .before .before .before .before .before .before .pre))
+returns c =
+    let at4 = c .before .before .before .before in let at10 = at4 .before .before .before .before .before .before in
+    rw ((at4 .first-classes .ensures), (c .before .before .first-keys .ensures), (c .first-slots .ensures)) (fronts.cleaned-is _ (simp length-map at (at10 .good .0 .1 .1 .1 .0 .1 .0 .1)) (simp length-map at (at10 .good .0 .1 .1 .1 .1 .1 .0 .1 .0 .1)) (simp length-map at (at10 .good .0 .1 .1 .1 .1 .1 .1 .1 .0 .1 .0 .1)) (at10 .pre))
 
 pub cleaned-spec : {M : Type 1} → statement M
 cleaned-spec =

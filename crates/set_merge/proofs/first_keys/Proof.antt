@@ -34,7 +34,9 @@ loop-less : tie.Need-loop-less Inv-loop μ-loop
 loop-less c = search needs
 
 loop-again : tie.Need-loop-again Inv-loop μ-loop
-loop-again c = fronts.go (c .before .before .loop .inv) ((c .before .before .before .good) .0 .1 .0 .1) (c .before .before .before .pre) (c .before .loop-test .taken)
+loop-again c =
+    let start = c .before .before .before in
+    fronts.go (c .before .before .loop .inv) ((start .good) .0 .1 .0 .1) (start .pre) (c .before .loop-test .taken)
 
 returns : tie.Need-returns Inv-loop μ-loop
 returns c = fronts.end (c .before .loop .inv) (omega arith)

@@ -34,19 +34,25 @@ refusing-requires-3 : tie.Need-refusing-requires-3
 refusing-requires-3 c κs = search needs
 
 returns-2 : tie.Need-returns-2
-returns-2 c = whole.second-bad _ _ _ (c .before .before .before .before .before .before .before .check-text .ensures) ((c .before .before .before .before .before .enum-told .given) .1) (sym (c .before .before .before .before .table-ok .ensures) ∙ not-false _ (c .before .before .before .if1 .left)) (sym (c .before .before .table-ok2 .ensures) ∙ not-true _ (c .before .if2 .taken)) (c .refusing3 .ensures)
+returns-2 c =
+    let at4 = c .before .before .before .before in let at5 = at4 .before in let at7 = at5 .before .before in
+    whole.second-bad _ _ _ (at7 .check-text .ensures) ((at5 .enum-told .given) .1) (sym (at4 .table-ok .ensures) ∙ not-false _ (c .before .before .before .if1 .left)) (sym (c .before .before .table-ok2 .ensures) ∙ not-true _ (c .before .if2 .taken)) (c .refusing3 .ensures)
 
 cleaned-requires : tie.Need-cleaned-requires
 cleaned-requires c κs = whole.counts (one ((c .before .before .before .before .before .before .before .before .args .text .now))) _ (sym (c .before .before .before .table-ok .ensures) ∙ not-false _ (c .before .before .if1 .left))
 
 merge-rows-requires : tie.Need-merge-rows-requires
-merge-rows-requires c κs = (whole.held-clean (one ((c .before .before .before .before .before .before .before .before .before .args .text .now))) _ (sym (c .before .before .before .before .table-ok .ensures) ∙ not-false _ (c .before .before .before .if1 .left)) (c .cleaned .ensures), whole.sound (one ((c .before .before .before .before .before .before .before .before .before .args .text .now))) _ (sym (c .before .before .table-ok2 .ensures) ∙ not-false _ (c .before .if2 .left)))
+merge-rows-requires c κs =
+    let at4 = c .before .before .before .before in let at9 = at4 .before .before .before .before .before in
+    (whole.held-clean (one (at9 .args .text .now)) _ (sym (at4 .table-ok .ensures) ∙ not-false _ (c .before .before .before .if1 .left)) (c .cleaned .ensures), whole.sound (one (at9 .args .text .now)) _ (sym (c .before .before .table-ok2 .ensures) ∙ not-false _ (c .before .if2 .left)))
 
 returns-3 : tie.Need-returns-3
 returns-3 c = whole.by-check _ _ _ (c .before .before .before .before .check-text .ensures) ((c .before .before .r .given) .1) (c .refusing .ensures)
 
 returns-4 : tie.Need-returns-4
-returns-4 c = whole.both-good _ _ _ (c .before .before .before .before .before .before .before .before .check-text .ensures) ((c .before .before .before .before .before .before .enum-told .given) .1) (sym (c .before .before .before .before .before .table-ok .ensures) ∙ not-false _ (c .before .before .before .before .if1 .left)) (sym (c .before .before .before .table-ok2 .ensures) ∙ not-false _ (c .before .before .if2 .left)) (c .before .cleaned .ensures) (c .merge-rows .ensures)
+returns-4 c =
+    let at4 = c .before .before .before .before in let at5 = at4 .before in let at6 = at5 .before in let at8 = at6 .before .before in
+    whole.both-good _ _ _ (at8 .check-text .ensures) ((at6 .enum-told .given) .1) (sym (at5 .table-ok .ensures) ∙ not-false _ (at4 .if1 .left)) (sym (c .before .before .before .table-ok2 .ensures) ∙ not-false _ (c .before .before .if2 .left)) (c .before .cleaned .ensures) (c .merge-rows .ensures)
 
 pub merge-attrs-spec : {M : Type 1} → statement M
 merge-attrs-spec =

@@ -27,13 +27,15 @@ refusing-requires : tie.Need-refusing-requires Inv-loop μ-loop
 refusing-requires c κs = search needs
 
 returns : tie.Need-returns Inv-loop μ-loop
-returns c = rest.over-classes _ ((c .before .before .before .before .pre) .0) ((c .before .before .before .before .pre) .1) (simp length-map at ((c .before .before .before .before .good) .1 .1 .0 .1 .1 .1 .0 .1 .0 .1)) (c .before .if1 .taken) (c .refusing .ensures)
+returns c = let at4 = c .before .before .before .before in rest.over-classes _ ((at4 .pre) .0) ((at4 .pre) .1) (simp length-map at ((at4 .good) .1 .1 .0 .1 .1 .1 .0 .1 .0 .1)) (c .before .if1 .taken) (c .refusing .ensures)
 
 cast-n : tie.Need-cast-n Inv-loop μ-loop
 cast-n c = search needs
 
 loop-holds : tie.Need-loop-holds Inv-loop μ-loop
-loop-holds c = rest.start _ ((c .before .before .before .pre) .0) ((c .before .before .before .pre) .1) (simp length-map at ((c .before .before .before .good) .1 .1 .0 .1 .1 .1 .0 .1 .0 .1)) (c .if1 .left)
+loop-holds c =
+    let p = c .before .before .before in
+    rest.start _ ((p .pre) .0) ((p .pre) .1) (simp length-map at ((p .good) .1 .1 .0 .1 .1 .1 .0 .1 .0 .1)) (c .if1 .left)
 
 mul-place : tie.Need-mul-place Inv-loop μ-loop
 mul-place c = omega (arith, (c .before .before .before .before .before .pre) .1 .norder)
@@ -42,13 +44,17 @@ element-copy-out-place : tie.Need-element-copy-out-place Inv-loop μ-loop
 element-copy-out-place c = omega (arith, (c .before .before .before .before .before .pre) .1 .norder)
 
 put-slot-requires : tie.Need-put-slot-requires Inv-loop μ-loop
-put-slot-requires c κs = ((c .before .before .loop .inv .held), rest.present (c .before .before .loop .inv) ((c .before .before .before .before .before .before .pre) .1) (simp length-map at ((c .before .before .before .before .before .before .good) .1 .1 .0 .1 .1 .1 .1 .1 .1 .1 .0 .1 .0 .1)) (c .before .loop-test .taken) (simp length-map at ((c .before .before .before .before .before .before .good) .1 .1 .0 .1 .1 .1 .0 .1 .0 .1)) (simp length-map at ((c .before .before .before .before .before .before .good) .1 .1 .0 .1 .1 .1 .1 .1 .0 .1 .0 .1)))
+put-slot-requires c κs =
+    let at6 = c .before .before .before .before .before .before in
+    ((c .before .before .loop .inv .held), rest.present (c .before .before .loop .inv) ((at6 .pre) .1) (simp length-map at ((at6 .good) .1 .1 .0 .1 .1 .1 .1 .1 .1 .1 .0 .1 .0 .1)) (c .before .loop-test .taken) (simp length-map at ((at6 .good) .1 .1 .0 .1 .1 .1 .0 .1 .0 .1)) (simp length-map at ((at6 .good) .1 .1 .0 .1 .1 .1 .1 .1 .0 .1 .0 .1)))
 
 refusing-requires-2 : tie.Need-refusing-requires-2 Inv-loop μ-loop
 refusing-requires-2 c κs = search needs
 
 returns-2 : tie.Need-returns-2 Inv-loop μ-loop
-returns-2 c = rest.over-keys (c .before .before .before .before .before .before .loop .inv) ((c .before .before .before .before .before .before .before .before .before .before .pre) .1) (simp length-map at ((c .before .before .before .before .before .before .before .before .before .before .good) .1 .1 .0 .1 .1 .1 .1 .1 .1 .1 .0 .1 .0 .1)) (c .before .before .before .before .before .loop-test .taken) (c .before .before .before .put-slot .ensures) (not-true _ (c .before .if2 .taken)) (c .refusing2 .ensures)
+returns-2 c =
+    let at5 = c .before .before .before .before .before in let at6 = at5 .before in let at10 = at6 .before .before .before .before in
+    rest.over-keys (at6 .loop .inv) ((at10 .pre) .1) (simp length-map at ((at10 .good) .1 .1 .0 .1 .1 .1 .1 .1 .1 .1 .0 .1 .0 .1)) (at5 .loop-test .taken) (c .before .before .before .put-slot .ensures) (not-true _ (c .before .if2 .taken)) (c .refusing2 .ensures)
 
 add-i : tie.Need-add-i Inv-loop μ-loop
 add-i c = omega (arith, (c .before .before .before .before .before .before .before .before .before .before .pre) .1 .norder)
@@ -57,10 +63,12 @@ loop-less : tie.Need-loop-less Inv-loop μ-loop
 loop-less c = search needs
 
 loop-again : tie.Need-loop-again Inv-loop μ-loop
-loop-again c = rest.next (c .before .before .before .before .before .before .loop .inv) ((c .before .before .before .before .before .before .before .before .before .before .pre) .1) (simp length-map at ((c .before .before .before .before .before .before .before .before .before .before .good) .1 .1 .0 .1 .1 .1 .1 .1 .1 .1 .0 .1 .0 .1)) (c .before .before .before .before .before .loop-test .taken) (c .before .before .before .put-slot .ensures) (not-false _ (c .before .if2 .left))
+loop-again c =
+    let at5 = c .before .before .before .before .before in let at6 = at5 .before in let at10 = at6 .before .before .before .before in
+    rest.next (at6 .loop .inv) ((at10 .pre) .1) (simp length-map at ((at10 .good) .1 .1 .0 .1 .1 .1 .1 .1 .1 .1 .0 .1 .0 .1)) (at5 .loop-test .taken) (c .before .before .before .put-slot .ensures) (not-false _ (c .before .if2 .left))
 
 returns-3 : tie.Need-returns-3 Inv-loop μ-loop
-returns-3 c = rest.end (c .before .loop .inv) (simp length-map at ((c .before .before .before .before .before .good) .1 .1 .0 .1 .1 .1 .1 .1 .1 .1 .0 .1 .0 .1)) ((c .before .before .before .before .before .pre) .1 .norder) (omega arith)
+returns-3 c = let at5 = c .before .before .before .before .before in rest.end (c .before .loop .inv) (simp length-map at ((at5 .good) .1 .1 .0 .1 .1 .1 .1 .1 .1 .1 .0 .1 .0 .1)) ((at5 .pre) .1 .norder) (omega arith)
 
 pub merge-rows-spec : {M : Type 1} → statement M
 merge-rows-spec =

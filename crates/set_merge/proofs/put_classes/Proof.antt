@@ -1,8 +1,10 @@
 use borrow.Author.Needs.{needs}
 use native.Mathlib.Omega.{arith}
 use mathlib.Core.Path.{refl}
+use mathlib.Core.List.{[]}
 use Prim.Native.Nat.{_-_}
-use Rattle.set_fill.proofs.Fills as fills
+use Rattle.set_table.specs.Types.{one}
+use Rattle.set_table.proofs.Holding as holding
 use Rattle.set_merge.proofs.Tables as tables
 use Rattle.set_merge.proofs.put_classes.Statement.{statement}
 use Rattle.set_merge.proofs.put_classes.Tie as tie
@@ -41,25 +43,31 @@ loop-less : tie.Need-loop-less Inv-loop μ-loop
 loop-less c = search needs
 
 loop-again : tie.Need-loop-again Inv-loop μ-loop
-loop-again c = tables.joins-go (c .before .before .before .loop .inv) (c .before .before .loop-test .taken) (omega (arith, (c .before .before .before .before .pre), (c .before .before .before .before .good) .1 .0 .1 .0 .1)) refl (λ t. fills.class-again (tables.holds (tables.joins-held (c .before .before .before .loop .inv))) t _ (omega (arith, (c .before .before .before .before .pre), (c .before .before .before .loop .inv .count))) (c .if1 .taken))
+loop-again c =
+    let start = c .before .before .before in
+    let p = start .before in
+    tables.joins-go (start .loop .inv) (c .before .before .loop-test .taken) (omega (arith, (p .pre), (p .good) .1 .0 .1 .0 .1)) refl (λ t. holding.class-again (start .loop .inv .after t) t _ (omega (arith, (p .pre), (start .loop .inv .count))) (c .if1 .taken))
 
 cast-p : tie.Need-cast-p Inv-loop μ-loop
-cast-p c = omega (arith, fills.few (tables.holds (tables.joins-held (c .before .before .before .loop .inv))))
+cast-p c = omega (arith, holding.few (c .before .before .before .loop .inv .after (one [])))
 
 mul-t15-2 : tie.Need-mul-t15-2 Inv-loop μ-loop
-mul-t15-2 c = omega (arith, fills.few (tables.holds (tables.joins-held (c .before .before .before .loop .inv))))
+mul-t15-2 c = omega (arith, holding.few (c .before .before .before .loop .inv .after (one [])))
 
 element-set-from-set-2 : tie.Need-element-set-from-set-2 Inv-loop μ-loop
-element-set-from-set-2 c = omega (arith, fills.room-class (tables.holds (tables.joins-held (c .before .before .before .loop .inv))) (c .if1 .left))
+element-set-from-set-2 c = omega (arith, holding.room-class (c .before .before .before .loop .inv .after (one [])) (c .if1 .left))
 
 add-set-2 : tie.Need-add-set-2 Inv-loop μ-loop
-add-set-2 c = omega (arith, fills.few (tables.holds (tables.joins-held (c .before .before .before .loop .inv))))
+add-set-2 c = omega (arith, holding.few (c .before .before .before .loop .inv .after (one [])))
 
 loop-less-2 : tie.Need-loop-less-2 Inv-loop μ-loop
 loop-less-2 c = search needs
 
 loop-again-2 : tie.Need-loop-again-2 Inv-loop μ-loop
-loop-again-2 c = tables.joins-go (c .before .before .before .loop .inv) (c .before .before .loop-test .taken) (omega (arith, (c .before .before .before .before .pre), (c .before .before .before .before .good) .1 .0 .1 .0 .1)) refl (λ t. fills.class-first (tables.holds (tables.joins-held (c .before .before .before .loop .inv))) t _ (omega (arith, (c .before .before .before .before .pre), (c .before .before .before .loop .inv .count))) (c .if1 .left))
+loop-again-2 c =
+    let start = c .before .before .before in
+    let p = start .before in
+    tables.joins-go (start .loop .inv) (c .before .before .loop-test .taken) (omega (arith, (p .pre), (p .good) .1 .0 .1 .0 .1)) refl (λ t. holding.class-first (start .loop .inv .after t) t _ (omega (arith, (p .pre), (start .loop .inv .count))) (c .if1 .left))
 
 returns : tie.Need-returns Inv-loop μ-loop
 returns c = tables.joins-end (c .before .loop .inv) (omega arith)

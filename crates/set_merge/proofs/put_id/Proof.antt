@@ -1,8 +1,7 @@
 use mathlib.Core.Path.{ap}
 use native.Mathlib.Omega.{arith}
 use Rattle.set_table.specs.Rows.{isThere}
-use Rattle.set_fill.proofs.Fills as fills
-use Rattle.set_merge.proofs.Tables as tables
+use Rattle.set_table.proofs.Holding as holding
 use borrow.Author.Needs.{needs}
 use Rattle.set_merge.proofs.put_id.Statement.{statement}
 use Rattle.set_merge.proofs.put_id.Tie as tie
@@ -20,16 +19,16 @@ mul-t13 : tie.Need-mul-t13
 mul-t13 c = search needs
 
 element-set-from-set : tie.Need-element-set-from-set
-element-set-from-set c = omega (arith, fills.room-id (tables.holds (c .before .before .before .pre)) (ap isThere ((c .enum-told2 .given) .1)))
+element-set-from-set c = omega (arith, holding.room-id (c .before .before .before .pre) (ap isThere ((c .enum-told2 .given) .1)))
 
 add-set : tie.Need-add-set
-add-set c = omega (arith, fills.few (tables.holds (c .before .before .before .pre)))
+add-set c = omega (arith, holding.few (c .before .before .before .pre))
 
 returns : tie.Need-returns
-returns c = λ t. tables.after (fills.id-again (tables.holds (c .before .before .before .pre)) t _ (ap isThere ((c .enum-told .given) .1)))
+returns c = λ t. holding.id-again (c .before .before .before .pre) t _ (ap isThere ((c .enum-told .given) .1))
 
 returns-2 : tie.Need-returns-2
-returns-2 c = λ t. tables.after (fills.id-first (tables.holds (c .before .before .before .pre)) t _ (ap isThere ((c .enum-told2 .given) .1)))
+returns-2 c = λ t. holding.id-first (c .before .before .before .pre) t _ (ap isThere ((c .enum-told2 .given) .1))
 
 pub put-id-spec : {M : Type 1} → statement M
 put-id-spec =

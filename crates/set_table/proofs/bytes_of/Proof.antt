@@ -11,7 +11,9 @@ part-result-end : tie.Need-part-result-end
 part-result-end c = search needs
 
 returns : tie.Need-returns
-returns c = ranges.whole (c .before .before .before .args .text .now) (c .before .before .before .args .from) (c .before .before .before .args .to)
+returns c =
+    let start = c .before .before .before in
+    ranges.whole (start .args .text .now) (start .args .from) (start .args .to)
 
 sub-result : tie.Need-sub-result
 sub-result c = search needs
@@ -23,7 +25,9 @@ part-result-end-2 : tie.Need-part-result-end-2
 part-result-end-2 c = search needs
 
 returns-2 : tie.Need-returns-2
-returns-2 c = ranges.back (c .before .before .before .args .text .now) (c .before .before .before .args .from) (c .before .before .before .args .to) (omega arith)
+returns-2 c =
+    let start = c .before .before .before in
+    ranges.back (start .args .text .now) (start .args .from) (start .args .to) (omega arith)
 
 sub-result-2 : tie.Need-sub-result-2
 sub-result-2 c = search needs
@@ -35,7 +39,9 @@ part-result-end-3 : tie.Need-part-result-end-3
 part-result-end-3 c = search needs
 
 returns-3 : tie.Need-returns-3
-returns-3 c = ranges.over (c .before .before .before .args .text .now) (c .before .before .before .args .from) (c .before .before .before .args .to) (omega arith)
+returns-3 c =
+    let start = c .before .before .before in
+    ranges.over (start .args .text .now) (start .args .from) (start .args .to) (omega arith)
 
 sub-result-3 : tie.Need-sub-result-3
 sub-result-3 c = search needs
@@ -47,7 +53,9 @@ part-result-end-4 : tie.Need-part-result-end-4
 part-result-end-4 c = search needs
 
 returns-4 : tie.Need-returns-4
-returns-4 c = ranges.past (c .before .before .before .args .text .now) (c .before .before .before .args .from) (c .before .before .before .args .to) (omega arith)
+returns-4 c =
+    let start = c .before .before .before in
+    ranges.past (start .args .text .now) (start .args .from) (start .args .to) (omega arith)
 
 pub bytes-of-spec : {M : Type 1} → statement M
 bytes-of-spec =

@@ -77,7 +77,7 @@ enum-told-3 c = search needs
 
 returns : tie.Need-returns
 unfolding nameBytes
-returns c = rw (c .before .before .before .before .before .before .before .a .given .1, c .before .before .before .before .b .given .1, ← c .before .before .bytes-of .ensures, ← c .before .bytes-of2 .ensures) (c .same-bytes .ensures)
+returns c = let at4 = c .before .before .before .before in let at7 = at4 .before .before .before in rw (at7 .a .given .1, at4 .b .given .1, ← c .before .before .bytes-of .ensures, ← c .before .bytes-of2 .ensures) (c .same-bytes .ensures)
 
 returns-2 : tie.Need-returns-2
 unfolding nameBytes
@@ -85,7 +85,7 @@ returns-2 c = rw (c .before .before .before .before .before .before .a .given .1
 
 returns-3 : tie.Need-returns-3
 unfolding nameBytes
-returns-3 c = rw (c .before .before .before .before .before .before .enum-told2 .given .1, c .before .before .before .before .b2 .given .1, ← c .before .bytes-of4 .ensures) (c .same-bytes3 .ensures)
+returns-3 c = let at4 = c .before .before .before .before in let at6 = at4 .before .before in rw (at6 .enum-told2 .given .1, at4 .b2 .given .1, ← c .before .bytes-of4 .ensures) (c .same-bytes3 .ensures)
 
 returns-4 : tie.Need-returns-4
 unfolding nameBytes

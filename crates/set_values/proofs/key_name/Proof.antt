@@ -29,7 +29,9 @@ same-bytes-requires-2 c κs = search needs
 
 returns-3 : tie.Need-returns-3
 unfolding isFree
-returns-3 c = rw (sym (c .before .before .before .before .before .before .is-identifier .ensures) ∙ not-false _ (c .before .before .before .before .before .if1 .left), sym (c .before .before .before .same-bytes .ensures) ∙ (c .before .before .if2 .left), ← (c .same-bytes2 .ensures))
+returns-3 c =
+    let at5 = c .before .before .before .before .before in let at6 = at5 .before in
+    rw (sym (at6 .is-identifier .ensures) ∙ not-false _ (at5 .if1 .left), sym (c .before .before .before .same-bytes .ensures) ∙ (c .before .before .if2 .left), ← (c .same-bytes2 .ensures))
 
 pub key-name-spec : {M : Type 1} → statement M
 key-name-spec =

@@ -7,18 +7,18 @@ use lib.ListN.{take}
 use Rattle.base_lists.specs.Lists.{all}
 use Rattle.set_table.specs.Types.{one, zeroValue}
 use Rattle.set_values.specs.Values.{classOk}
-use Rattle.set_wellformed.proofs.Decide as laws
+use Rattle.base_lists.proofs.Each as each
 use Rattle.set_wellformed.proofs.classes_ok.Statement.{statement}
 use Rattle.set_wellformed.proofs.classes_ok.Tie as tie
 
 abbrev Inv-loop : tie.InvT-loop
-Inv-loop text n classes k₀ k = laws.Each (classOk (one text)) classes n (all (classOk (one text)) (take n classes)) k
+Inv-loop text n classes k₀ k = each.Each (classOk (one text)) classes n (all (classOk (one text)) (take n classes)) k
 
 abbrev μ-loop : tie.MeasureT-loop
 μ-loop text n classes k₀ k = n - k
 
 loop-holds : tie.Need-loop-holds Inv-loop μ-loop
-loop-holds c = laws.each-start (classOk (one _)) _ _ (omega (arith, (c .before .pre), (c .before .good) .1 .0 .1))
+loop-holds c = each.each-start (classOk (one _)) _ _ (omega (arith, (c .before .pre), (c .before .good) .1 .0 .1))
 
 mul-v : tie.Need-mul-v Inv-loop μ-loop
 mul-v c = search needs
@@ -30,7 +30,7 @@ class-ok-requires : tie.Need-class-ok-requires Inv-loop μ-loop
 class-ok-requires c κs = search needs
 
 returns : tie.Need-returns Inv-loop μ-loop
-returns c = laws.each-stop (c .before .before .before .before .loop .inv) zeroValue (omega arith) (sym (c .before .class-ok .ensures) ∙ not-true _ (c .if1 .taken))
+returns c = each.each-stop (c .before .before .before .before .loop .inv) zeroValue (omega arith) (sym (c .before .class-ok .ensures) ∙ not-true _ (c .if1 .taken))
 
 add-k : tie.Need-add-k Inv-loop μ-loop
 add-k c = omega arith
@@ -39,10 +39,10 @@ loop-less : tie.Need-loop-less Inv-loop μ-loop
 loop-less c = omega arith
 
 loop-again : tie.Need-loop-again Inv-loop μ-loop
-loop-again c = laws.each-go (c .before .before .before .before .loop .inv) zeroValue (omega arith) (sym (c .before .class-ok .ensures) ∙ not-false _ (c .if1 .left))
+loop-again c = each.each-go (c .before .before .before .before .loop .inv) zeroValue (omega arith) (sym (c .before .class-ok .ensures) ∙ not-false _ (c .if1 .left))
 
 returns-2 : tie.Need-returns-2 Inv-loop μ-loop
-returns-2 c = laws.each-end (c .before .loop .inv) (omega arith)
+returns-2 c = each.each-end (c .before .loop .inv) (omega arith)
 
 pub classes-ok-spec : {M : Type 1} → statement M
 classes-ok-spec =

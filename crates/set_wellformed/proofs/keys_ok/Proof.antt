@@ -7,18 +7,18 @@ use lib.ListN.{take}
 use Rattle.base_lists.specs.Lists.{all}
 use Rattle.set_table.specs.Types.{one, zeroRow}
 use Rattle.set_values.specs.Values.{keyOk}
-use Rattle.set_wellformed.proofs.Decide as laws
+use Rattle.base_lists.proofs.Each as each
 use Rattle.set_wellformed.proofs.keys_ok.Statement.{statement}
 use Rattle.set_wellformed.proofs.keys_ok.Tie as tie
 
 abbrev Inv-loop : tie.InvT-loop
-Inv-loop text n keys k₀ k = laws.Each (keyOk (one text)) keys n (all (keyOk (one text)) (take n keys)) k
+Inv-loop text n keys k₀ k = each.Each (keyOk (one text)) keys n (all (keyOk (one text)) (take n keys)) k
 
 abbrev μ-loop : tie.MeasureT-loop
 μ-loop text n keys k₀ k = n - k
 
 loop-holds : tie.Need-loop-holds Inv-loop μ-loop
-loop-holds c = laws.each-start (keyOk (one _)) _ _ (omega (arith, (c .before .pre), (c .before .good) .1 .0 .1))
+loop-holds c = each.each-start (keyOk (one _)) _ _ (omega (arith, (c .before .pre), (c .before .good) .1 .0 .1))
 
 mul-row : tie.Need-mul-row Inv-loop μ-loop
 mul-row c = search needs
@@ -30,7 +30,7 @@ key-ok-requires : tie.Need-key-ok-requires Inv-loop μ-loop
 key-ok-requires c κs = search needs
 
 returns : tie.Need-returns Inv-loop μ-loop
-returns c = laws.each-stop (c .before .before .before .before .loop .inv) zeroRow (omega arith) (sym (c .before .key-ok .ensures) ∙ not-true _ (c .if1 .taken))
+returns c = each.each-stop (c .before .before .before .before .loop .inv) zeroRow (omega arith) (sym (c .before .key-ok .ensures) ∙ not-true _ (c .if1 .taken))
 
 add-k : tie.Need-add-k Inv-loop μ-loop
 add-k c = omega arith
@@ -39,10 +39,10 @@ loop-less : tie.Need-loop-less Inv-loop μ-loop
 loop-less c = omega arith
 
 loop-again : tie.Need-loop-again Inv-loop μ-loop
-loop-again c = laws.each-go (c .before .before .before .before .loop .inv) zeroRow (omega arith) (sym (c .before .key-ok .ensures) ∙ not-false _ (c .if1 .left))
+loop-again c = each.each-go (c .before .before .before .before .loop .inv) zeroRow (omega arith) (sym (c .before .key-ok .ensures) ∙ not-false _ (c .if1 .left))
 
 returns-2 : tie.Need-returns-2 Inv-loop μ-loop
-returns-2 c = laws.each-end (c .before .loop .inv) (omega arith)
+returns-2 c = each.each-end (c .before .loop .inv) (omega arith)
 
 pub keys-ok-spec : {M : Type 1} → statement M
 keys-ok-spec =

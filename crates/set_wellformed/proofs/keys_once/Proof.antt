@@ -3,7 +3,7 @@ use mathlib.Core.List.{map}
 use borrow.Author.Needs.{needs}
 use lib.ListN.{take}
 use Rattle.set_table.specs.Rows.{slotIn}
-use Rattle.set_wellformed.specs.Decide.{keysIn}
+use Rattle.set_wellformed.specs.Inner.{keysIn}
 use Rattle.set_wellformed.proofs.Decide as laws
 use Rattle.set_wellformed.proofs.keys_once.Statement.{statement}
 use Rattle.set_wellformed.proofs.keys_once.Tie as tie

@@ -1,6 +1,6 @@
 use mathlib.Core.Path.{sym, _∙_}
 use borrow.Author.Tests.{not-true, not-false, eq-eqb, ne-eqb}
-use Rattle.set_wellformed.specs.Decide.{slotsIn}
+use Rattle.set_wellformed.specs.Inner.{slotsIn}
 use borrow.Author.Needs.{needs}
 use Rattle.set_wellformed.proofs.slots_ok.Statement.{statement}
 use Rattle.set_wellformed.proofs.slots_ok.Tie as tie
@@ -30,14 +30,18 @@ one-if-requires-2 c κs = search needs
 
 returns-3 : tie.Need-returns-3
 unfolding slotsIn
-returns-3 c = rw (sym (c .before .before .before .before .before .before .before .all-there .ensures) ∙ not-false _ (c .before .before .before .before .before .before .if1 .left), ← (c .before .before .before .before .before .times-in .ensures), ← (c .before .before .before .before .one-if .ensures), eq-eqb _ _ (c .before .before .before .if2 .left), ← (c .before .before .times-in2 .ensures), ← (c .before .one-if2 .ensures), ne-eqb _ _ (c .if3 .taken))
+returns-3 c =
+    let at4 = c .before .before .before .before in let at5 = at4 .before in let at6 = at5 .before in let at7 = at6 .before in
+    rw (sym (at7 .all-there .ensures) ∙ not-false _ (at6 .if1 .left), ← (at5 .times-in .ensures), ← (at4 .one-if .ensures), eq-eqb _ _ (c .before .before .before .if2 .left), ← (c .before .before .times-in2 .ensures), ← (c .before .one-if2 .ensures), ne-eqb _ _ (c .if3 .taken))
 
 keys-once-requires : tie.Need-keys-once-requires
 keys-once-requires c κs = search needs
 
 returns-4 : tie.Need-returns-4
 unfolding slotsIn
-returns-4 c = rw (sym (c .before .before .before .before .before .before .before .before .all-there .ensures) ∙ not-false _ (c .before .before .before .before .before .before .before .if1 .left), ← (c .before .before .before .before .before .before .times-in .ensures), ← (c .before .before .before .before .before .one-if .ensures), eq-eqb _ _ (c .before .before .before .before .if2 .left), ← (c .before .before .before .times-in2 .ensures), ← (c .before .before .one-if2 .ensures), eq-eqb _ _ (c .before .if3 .left)) (c .keys-once .ensures)
+returns-4 c =
+    let at4 = c .before .before .before .before in let at5 = at4 .before in let at6 = at5 .before in let at7 = at6 .before in let at8 = at7 .before in
+    rw (sym (at8 .all-there .ensures) ∙ not-false _ (at7 .if1 .left), ← (at6 .times-in .ensures), ← (at5 .one-if .ensures), eq-eqb _ _ (at4 .if2 .left), ← (c .before .before .before .times-in2 .ensures), ← (c .before .before .one-if2 .ensures), eq-eqb _ _ (c .before .if3 .left)) (c .keys-once .ensures)
 
 pub slots-ok-spec : {M : Type 1} → statement M
 slots-ok-spec =

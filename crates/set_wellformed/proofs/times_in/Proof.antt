@@ -2,6 +2,7 @@ use lib.Dec.{eqb}
 use Prim.Native.Nat.{_-_}
 use native.Mathlib.Omega.{arith}
 use borrow.Author.Needs.{needs}
+use Rattle.set_table.proofs.Puts.{one-le}
 use Rattle.set_wellformed.proofs.Decide as laws
 use Rattle.set_wellformed.proofs.times_in.Statement.{statement}
 use Rattle.set_wellformed.proofs.times_in.Tie as tie
@@ -31,7 +32,7 @@ one-if-requires : tie.Need-one-if-requires Inv-loop μ-loop
 one-if-requires c κs = search needs
 
 add-c : tie.Need-add-c Inv-loop μ-loop
-add-c c = omega (arith, (c .before .before .before .before .loop .inv .few), laws.one-le (eqb (c .before .before .before .before .before .slot-number .result) (c .before .slot-number2 .result)) (c .one-if .ensures))
+add-c c = let at4 = c .before .before .before .before in let at5 = at4 .before in omega (arith, (at4 .loop .inv .few), one-le (eqb (at5 .slot-number .result) (c .before .slot-number2 .result)), (c .one-if .ensures))
 
 add-k : tie.Need-add-k Inv-loop μ-loop
 add-k c = omega arith

@@ -16,7 +16,9 @@ least-requires : tie.Need-least-requires Inv-loop μ-loop
 least-requires c κs = search needs
 
 loop-holds : tie.Need-loop-holds Inv-loop μ-loop
-loop-holds c = walks.classes-start _ _ _ _ _ _ ((c .before .before .before .good .1 .1 .1 .0 .1 .0 .1)) ((c .before .before .before .pre .0)) ((c .before .before .before .pre .1))
+loop-holds c =
+    let p = c .before .before .before in
+    walks.classes-start _ _ _ _ _ _ ((p .good .1 .1 .1 .0 .1 .0 .1)) ((p .pre .0)) ((p .pre .1))
 
 mul-value : tie.Need-mul-value Inv-loop μ-loop
 mul-value c = omega (arith, (c .before .before .least .ensures), (c .loop-test .taken))
@@ -28,16 +30,22 @@ slice-aggregate-item : tie.Need-slice-aggregate-item Inv-loop μ-loop
 slice-aggregate-item c = search needs
 
 item-requires : tie.Need-item-requires Inv-loop μ-loop
-item-requires c κs = ((omega (arith, (c .before .before .before .before .loop .inv), (c .before .before .before .before .before .least .ensures), (c .before .before .before .loop-test .taken)), omega arith), walks.classes-room ((c .before .before .before .before .loop .inv)) (omega (arith, (c .before .before .before .before .before .least .ensures), (c .before .before .before .loop-test .taken))))
+item-requires c κs =
+    let start = c .before .before .before in
+    let p = start .before in
+    let q = p .before in
+    ((omega (arith, (p .loop .inv), (q .least .ensures), (start .loop-test .taken)), omega arith), walks.classes-room ((p .loop .inv)) (omega (arith, (q .least .ensures), (start .loop-test .taken))))
 
 add-i : tie.Need-add-i Inv-loop μ-loop
-add-i c = omega (arith, (c .before .before .before .before .before .before .before .before .least .ensures), (c .before .before .before .before .before .before .loop-test .taken))
+add-i c = let at6 = c .before .before .before .before .before .before in let at8 = at6 .before .before in omega (arith, (at8 .least .ensures), (at6 .loop-test .taken))
 
 loop-less : tie.Need-loop-less Inv-loop μ-loop
-loop-less c = omega (arith, (c .before .before .before .before .before .before .before .before .least .ensures), (c .before .before .before .before .before .before .loop-test .taken))
+loop-less c = let at6 = c .before .before .before .before .before .before in let at8 = at6 .before .before in omega (arith, (at8 .least .ensures), (at6 .loop-test .taken))
 
 loop-again : tie.Need-loop-again Inv-loop μ-loop
-loop-again c = walks.classes-go ((c .before .before .before .before .before .before .before .loop .inv)) (omega (arith, (c .before .before .before .before .before .before .before .before .least .ensures), (c .before .before .before .before .before .before .loop-test .taken))) ((c .before .before .item .ensures .0)) ((c .before .before .item .ensures .1))
+loop-again c =
+    let at6 = c .before .before .before .before .before .before in let at7 = at6 .before in let at8 = at7 .before in
+    walks.classes-go (at7 .loop .inv) (omega (arith, (at8 .least .ensures), (at6 .loop-test .taken))) (c .before .before .item .ensures .0) (c .before .before .item .ensures .1)
 
 same-length : tie.Need-same-length Inv-loop μ-loop
 same-length c = (c .before .loop .inv .fills .long)

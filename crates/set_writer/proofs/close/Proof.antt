@@ -11,16 +11,18 @@ same-length : tie.Need-same-length
 same-length c = search needs
 
 returns : tie.Need-returns
-returns c = items.close-written ((c .before .before .before .before .before .before .args .out .now)) ((c .before .before .before .before .before .before .args .at)) ((c .before .before .before .before .if1 .taken)) ((c .before .before .before .before .before .before .pre .1) ((c .before .before .before .before .if1 .taken)) .1) ((c .before .before .put-close .ensures .0)) ((c .before .before .put-close .ensures .1))
+returns c =
+    let at4 = c .before .before .before .before in let at6 = at4 .before .before in
+    items.close-written (at6 .args .out .now) (at6 .args .at) (at4 .if1 .taken) ((at6 .pre .1) (at4 .if1 .taken) .1) (c .before .before .put-close .ensures .0) (c .before .before .put-close .ensures .1)
 
 close-end-requires : tie.Need-close-end-requires
 close-end-requires c κs = search needs
 
 returns-2 : tie.Need-returns-2
-returns-2 c = items.close-over ((c .before .before .before .before .args .out .now)) ((c .before .before .before .before .args .at)) ((c .before .before .if1 .left)) ((c .before .close-end .ensures)) (omega (arith, (c .if2 .taken)))
+returns-2 c = let at4 = c .before .before .before .before in items.close-over (at4 .args .out .now) (at4 .args .at) (c .before .before .if1 .left) (c .before .close-end .ensures) (omega (arith, (c .if2 .taken)))
 
 returns-3 : tie.Need-returns-3
-returns-3 c = items.close-measured ((c .before .before .before .before .args .out .now)) ((c .before .before .before .before .args .at)) ((c .before .before .if1 .left)) ((c .before .close-end .ensures)) (omega (arith, (c .if2 .left)))
+returns-3 c = let at4 = c .before .before .before .before in items.close-measured (at4 .args .out .now) (at4 .args .at) (c .before .before .if1 .left) (c .before .close-end .ensures) (omega (arith, (c .if2 .left)))
 
 pub close-spec : {M : Type 1} → statement M
 close-spec =

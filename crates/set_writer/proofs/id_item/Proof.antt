@@ -20,17 +20,22 @@ slice-aggregate-item c = search needs
 
 item-requires : tie.Need-item-requires
 unfolding pairsOf
-item-requires c κs = ((omega (arith, (c .before .before .before .before .before .before .before .pre .0)), omega arith), walks.one-room ((c .before .before .before .before .before .before .before .args .really)) ((c .before .before .before .before .before .before .before .args .out .now)) ((c .before .before .before .before .before .before .before .args .at)) idName (valueBytes (one ((c .before .before .before .before .before .before .before .args .text .now))) ((c .before .before .before .id .given .0 .0))) (ap (λ i. pairsOf idName (idValues (one ((c .before .before .before .before .before .before .before .args .text .now))) i)) ((c .before .before .before .id .given .1))) ((c .before .before .before .before .before .before .before .pre .1)))
+item-requires c κs =
+    let start = c .before .before .before in
+    let p = start .before .before .before .before in
+    ((omega (arith, (p .pre .0)), omega arith), walks.one-room ((p .args .really)) ((p .args .out .now)) ((p .args .at)) idName (valueBytes (one ((p .args .text .now))) ((start .id .given .0 .0))) (ap (λ i. pairsOf idName (idValues (one ((p .args .text .now))) i)) ((start .id .given .1))) ((p .pre .1)))
 
 returns : tie.Need-returns
 unfolding pairsOf
-returns c = walks.no-item ((c .before .before .before .before .args .really)) ((c .before .before .before .before .args .out .now)) ((c .before .before .before .before .args .at)) (ap (λ i. pairsOf idName (idValues (one ((c .before .before .before .before .args .text .now))) i)) ((c .enum-told .given .1)))
+returns c = let at4 = c .before .before .before .before in walks.no-item (at4 .args .really) (at4 .args .out .now) (at4 .args .at) (ap (λ i. pairsOf idName (idValues (one (at4 .args .text .now)) i)) (c .enum-told .given .1))
 
 same-length : tie.Need-same-length
 same-length c = search needs
 
 returns-2 : tie.Need-returns-2
-returns-2 c = walks.one-item ((c .before .before .before .before .before .before .before .before .before .before .args .really)) ((c .before .before .before .before .before .before .before .before .before .before .args .out .now)) ((c .before .before .before .before .before .before .before .before .before .before .args .at)) idName (valueBytes (one ((c .before .before .before .before .before .before .before .before .before .before .args .text .now))) ((c .before .before .before .before .before .before .id .given .0 .0))) (ap (λ i. pairsOf idName (idValues (one ((c .before .before .before .before .before .before .before .before .before .before .args .text .now))) i)) ((c .before .before .before .before .before .before .id .given .1))) ((c .before .before .item .ensures .0 .0)) ((c .before .before .item .ensures .1))
+returns-2 c =
+    let at6 = c .before .before .before .before .before .before in let at10 = at6 .before .before .before .before in
+    walks.one-item (at10 .args .really) (at10 .args .out .now) (at10 .args .at) idName (valueBytes (one (at10 .args .text .now)) (at6 .id .given .0 .0)) (ap (λ i. pairsOf idName (idValues (one (at10 .args .text .now)) i)) (at6 .id .given .1)) (c .before .before .item .ensures .0 .0) (c .before .before .item .ensures .1)
 
 pub id-item-spec : {M : Type 1} → statement M
 id-item-spec =

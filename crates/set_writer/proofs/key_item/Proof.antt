@@ -21,8 +21,10 @@ bytes-of-requires : tie.Need-bytes-of-requires
 bytes-of-requires c κs = search needs
 
 item-requires : tie.Need-item-requires
-item-requires c κs = let t = one ((c .before .before .before .before .before .before .before .args .text .now)) in let v = valueBytes t ((c .before .before .before .before .before .before .before .args .row .value)) in
-    ((omega (arith, (c .before .before .before .before .before .before .before .pre .0)), values.range-fits t _ _ ((c .bytes-of .ensures)) (omega (arith, (c .before .before .known-told .given)))), walks.one-room ((c .before .before .before .before .before .before .before .args .really)) ((c .before .before .before .before .before .before .before .args .out .now)) ((c .before .before .before .before .before .before .before .args .at)) _ v (walks.range-pairs t (v ∷ []) _ _ ((c .before .before .before .name .given .1)) ((c .bytes-of .ensures))) ((c .before .before .before .before .before .before .before .pre .1)))
+item-requires c κs =
+    let at7 = c .before .before .before .before .before .before .before in
+    let t = one (at7 .args .text .now) in let v = valueBytes t (at7 .args .row .value) in
+    ((omega (arith, (at7 .pre .0)), values.range-fits t _ _ (c .bytes-of .ensures) (omega (arith, (c .before .before .known-told .given)))), walks.one-room (at7 .args .really) (at7 .args .out .now) (at7 .args .at) _ v (walks.range-pairs t (v ∷ []) _ _ (c .before .before .before .name .given .1) (c .bytes-of .ensures)) (at7 .pre .1))
 
 enum-told : tie.Need-enum-told
 enum-told c = search needs
@@ -31,22 +33,28 @@ slice-aggregate-item : tie.Need-slice-aggregate-item
 slice-aggregate-item c = search needs
 
 item-requires-2 : tie.Need-item-requires-2
-item-requires-2 c κs = let t = one ((c .before .before .before .before .before .before .args .text .now)) in let v = valueBytes t ((c .before .before .before .before .before .before .args .row .value)) in
-    ((omega (arith, (c .before .before .before .before .before .before .pre .0)), omega arith), walks.one-room ((c .before .before .before .before .before .before .args .really)) ((c .before .before .before .before .before .before .args .out .now)) ((c .before .before .before .before .before .before .args .at)) langName v (walks.lang-pairs t (v ∷ []) ((c .before .before .enum-told .given .1))) ((c .before .before .before .before .before .before .pre .1)))
+item-requires-2 c κs =
+    let at6 = c .before .before .before .before .before .before in
+    let t = one (at6 .args .text .now) in let v = valueBytes t (at6 .args .row .value) in
+    ((omega (arith, (at6 .pre .0)), omega arith), walks.one-room (at6 .args .really) (at6 .args .out .now) (at6 .args .at) langName v (walks.lang-pairs t (v ∷ []) (c .before .before .enum-told .given .1)) (at6 .pre .1))
 
 same-length : tie.Need-same-length
 same-length c = search needs
 
 returns : tie.Need-returns
-returns c = let t = one ((c .before .before .before .before .before .before .before .before .before .before .args .text .now)) in let v = valueBytes t ((c .before .before .before .before .before .before .before .before .before .before .args .row .value)) in
-    walks.one-item ((c .before .before .before .before .before .before .before .before .before .before .args .really)) ((c .before .before .before .before .before .before .before .before .before .before .args .out .now)) ((c .before .before .before .before .before .before .before .before .before .before .args .at)) _ v (walks.range-pairs t (v ∷ []) _ _ ((c .before .before .before .before .before .before .name .given .1)) ((c .before .before .before .bytes-of .ensures))) ((c .before .before .item .ensures .0 .0)) ((c .before .before .item .ensures .1))
+returns c =
+    let at6 = c .before .before .before .before .before .before in let at10 = at6 .before .before .before .before in
+    let t = one (at10 .args .text .now) in let v = valueBytes t (at10 .args .row .value) in
+    walks.one-item (at10 .args .really) (at10 .args .out .now) (at10 .args .at) _ v (walks.range-pairs t (v ∷ []) _ _ (at6 .name .given .1) (c .before .before .before .bytes-of .ensures)) (c .before .before .item .ensures .0 .0) (c .before .before .item .ensures .1)
 
 same-length-2 : tie.Need-same-length-2
 same-length-2 c = search needs
 
 returns-2 : tie.Need-returns-2
-returns-2 c = let t = one ((c .before .before .before .before .before .before .before .before .before .args .text .now)) in let v = valueBytes t ((c .before .before .before .before .before .before .before .before .before .args .row .value)) in
-    walks.one-item ((c .before .before .before .before .before .before .before .before .before .args .really)) ((c .before .before .before .before .before .before .before .before .before .args .out .now)) ((c .before .before .before .before .before .before .before .before .before .args .at)) langName v (walks.lang-pairs t (v ∷ []) ((c .before .before .before .before .before .enum-told .given .1))) ((c .before .before .item2 .ensures .0 .0)) ((c .before .before .item2 .ensures .1))
+returns-2 c =
+    let at5 = c .before .before .before .before .before in let at9 = at5 .before .before .before .before in
+    let t = one (at9 .args .text .now) in let v = valueBytes t (at9 .args .row .value) in
+    walks.one-item (at9 .args .really) (at9 .args .out .now) (at9 .args .at) langName v (walks.lang-pairs t (v ∷ []) (at5 .enum-told .given .1)) (c .before .before .item2 .ensures .0 .0) (c .before .before .item2 .ensures .1)
 
 pub key-item-spec : {M : Type 1} → statement M
 key-item-spec =

@@ -2,17 +2,17 @@ use lib.ListN.{length-set}
 use Rattle.set_writer.proofs.Items as items
 use native.Mathlib.Omega.{arith}
 use borrow.Author.Tests.{eq-eqb, ne-eqb}
-use Rattle.set_writer.specs.Steps.{closing}
+use Rattle.set_writer.specs.Inner.{closingBytes}
 use borrow.Author.Needs.{needs}
 use Rattle.set_writer.proofs.put_close.Statement.{statement}
 use Rattle.set_writer.proofs.put_close.Tie as tie
 
 slice-write-out : tie.Need-slice-write-out
-unfolding closing
+unfolding closingBytes
 slice-write-out c = omega (arith, rw (eq-eqb _ 0 ((c .if1 .taken))) at ((c .before .pre)))
 
 slice-write-out-2 : tie.Need-slice-write-out-2
-unfolding closing
+unfolding closingBytes
 slice-write-out-2 c = omega (arith, rw (eq-eqb _ 0 ((c .if1 .taken))) at ((c .before .pre)), length-set ((c .before .args .out .now)) 0 123)
 
 same-length : tie.Need-same-length
@@ -22,7 +22,7 @@ returns : tie.Need-returns
 returns c = items.close-none _ _ ((c .if1 .taken))
 
 slice-write-out-3 : tie.Need-slice-write-out-3
-unfolding closing
+unfolding closingBytes
 slice-write-out-3 c = omega (arith, rw (ne-eqb _ 0 ((c .if1 .left))) at ((c .before .pre)))
 
 add-result : tie.Need-add-result

@@ -17,7 +17,9 @@ add-out : tie.Need-add-out
 add-out c = search needs
 
 slice-write-out-2 : tie.Need-slice-write-out-2
-slice-write-out-2 c = omega (arith, rw (values.marked-yes _ (sym ((c .before .is-marked .ensures)) ∙ ((c .if1 .taken)))) at ((c .before .before .before .pre)), length-set ((c .before .before .before .args .out .now)) ((c .before .before .before .args .at)) 92)
+slice-write-out-2 c =
+    let start = c .before .before .before in
+    omega (arith, rw (values.marked-yes _ (sym ((c .before .is-marked .ensures)) ∙ ((c .if1 .taken)))) at ((start .pre)), length-set ((start .args .out .now)) ((start .args .at)) 92)
 
 add-result : tie.Need-add-result
 add-result c = search needs

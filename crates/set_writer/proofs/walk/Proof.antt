@@ -27,8 +27,7 @@ least-requires-2 : tie.Need-least-requires-2 Inv-slots μ-slots
 least-requires-2 c κs = search needs
 
 slots-holds : tie.Need-slots-holds Inv-slots μ-slots
-slots-holds c = let e : length ((c .before .before .before .before .args .t2 .order)) ≡ maxSlots = simp length-map at ((c .before .before .before .before .good .1 .0 .1 .1 .1 .1 .1 .1 .1 .0 .1 .0 .1)) in
-    walks.walks-start _ _ _ _ _ e ((c .before .before .before .before .pre .0 .1)) ((c .before .before .before .before .pre .1))
+slots-holds c = let at4 = c .before .before .before .before in let e : length (at4 .args .t2 .order) ≡ maxSlots = simp length-map at (at4 .good .1 .0 .1 .1 .1 .1 .1 .1 .1 .0 .1 .0 .1) in walks.walks-start _ _ _ _ _ e (at4 .pre .0 .1) (at4 .pre .1)
 
 same-length : tie.Need-same-length Inv-slots μ-slots
 same-length c = (c .before .slots .inv .fills .long)
@@ -37,13 +36,17 @@ returns : tie.Need-returns Inv-slots μ-slots
 returns c = walks.walks-over ((c .before .slots .inv)) (omega (arith, (c .if1 .taken)))
 
 close-requires : tie.Need-close-requires Inv-slots μ-slots
-close-requires c κs = (omega (arith, (c .before .before .if1 .left), (c .before .before .before .before .before .before .before .before .pre .0)), walks.close-room ((c .before .before .before .slots .inv)) (omega (arith, (c .before .before .before .before .before .least .ensures), (c .before .if2 .taken))) ((c .before .before .before .before .before .before .before .before .pre .0 .1)))
+close-requires c κs =
+    let at5 = c .before .before .before .before .before in let at8 = at5 .before .before .before in
+    (omega (arith, (c .before .before .if1 .left), (at8 .pre .0)), walks.close-room (c .before .before .before .slots .inv) (omega (arith, (at5 .least .ensures), (c .before .if2 .taken))) (at8 .pre .0 .1))
 
 same-length-2 : tie.Need-same-length-2 Inv-slots μ-slots
 same-length-2 c = omega (arith, (c .before .before .before .before .before .before .slots .inv .fills .long), (c .before .before .close .kept .0))
 
 returns-2 : tie.Need-returns-2 Inv-slots μ-slots
-returns-2 c = walks.walks-end ((c .before .before .before .before .before .before .slots .inv)) (omega (arith, (c .before .before .before .before .before .before .before .before .least .ensures), (c .before .before .before .before .if2 .taken))) ((c .before .before .close .ensures .0)) ((c .before .before .close .ensures .1))
+returns-2 c =
+    let at4 = c .before .before .before .before in let at6 = at4 .before .before in let at8 = at6 .before .before in
+    walks.walks-end (at6 .slots .inv) (omega (arith, (at8 .least .ensures), (at4 .if2 .taken))) (c .before .before .close .ensures .0) (c .before .before .close .ensures .1)
 
 mul-place : tie.Need-mul-place Inv-slots μ-slots
 mul-place c = omega (arith, (c .before .before .before .before .least .ensures), (c .if2 .left))
@@ -58,13 +61,19 @@ enum-told : tie.Need-enum-told Inv-slots μ-slots
 enum-told c = search needs
 
 id-item-requires : tie.Need-id-item-requires Inv-slots μ-slots
-id-item-requires c κs = (omega (arith, (c .before .before .before .before .before .before .if1 .left), (c .before .before .before .before .before .before .before .before .before .before .before .before .pre .0)), walks.walks-room ((c .before .before .before .before .before .before .before .slots .inv)) (omega (arith, (c .before .before .before .before .before .before .before .before .before .least .ensures), (c .before .before .before .before .before .if2 .left))) (walks.id-pairs (one ((c .before .before .before .before .before .before .before .before .before .before .before .before .args .text .now))) ((c .before .before .before .before .before .before .before .before .before .before .before .before .args .t2)) ((c .before .before .enum-told .given .1))))
+id-item-requires c κs =
+    let at5 = c .before .before .before .before .before in let at6 = at5 .before in let at7 = at6 .before in let at9 = at7 .before .before in
+    let at12 = at9 .before .before .before in
+    (omega (arith, (at6 .if1 .left), (at12 .pre .0)), walks.walks-room (at7 .slots .inv) (omega (arith, (at9 .least .ensures), (at5 .if2 .left))) (walks.id-pairs (one (at12 .args .text .now)) (at12 .args .t2) (c .before .before .enum-told .given .1)))
 
 slots-less : tie.Need-slots-less Inv-slots μ-slots
-slots-less c = omega (arith, (c .before .before .before .before .before .before .before .before .before .before .before .before .least .ensures), (c .before .before .before .before .before .before .before .before .if2 .left))
+slots-less c = let at8 = c .before .before .before .before .before .before .before .before in let at12 = at8 .before .before .before .before in omega (arith, (at12 .least .ensures), (at8 .if2 .left))
 
 slots-again : tie.Need-slots-again Inv-slots μ-slots
-slots-again c = walks.walks-go ((c .before .before .before .before .before .before .before .before .before .before .slots .inv)) (omega (arith, (c .before .before .before .before .before .before .before .before .before .before .before .before .least .ensures), (c .before .before .before .before .before .before .before .before .if2 .left))) (walks.id-pairs (one ((c .before .before .before .before .before .before .before .before .before .before .before .before .before .before .before .args .text .now))) ((c .before .before .before .before .before .before .before .before .before .before .before .before .before .before .before .args .t2)) ((c .before .before .before .before .before .enum-told .given .1))) ((c .before .before .id-item .ensures .0)) ((c .before .before .id-item .ensures .1))
+slots-again c =
+    let at5 = c .before .before .before .before .before in let at8 = at5 .before .before .before in let at10 = at8 .before .before in let at12 = at10 .before .before in
+    let at15 = at12 .before .before .before in
+    walks.walks-go (at10 .slots .inv) (omega (arith, (at12 .least .ensures), (at8 .if2 .left))) (walks.id-pairs (one (at15 .args .text .now)) (at15 .args .t2) (at5 .enum-told .given .1)) (c .before .before .id-item .ensures .0) (c .before .before .id-item .ensures .1)
 
 enum-told-2 : tie.Need-enum-told-2 Inv-slots μ-slots
 enum-told-2 c = search needs
@@ -73,13 +82,19 @@ cast-class-items : tie.Need-cast-class-items Inv-slots μ-slots
 cast-class-items c = search needs
 
 class-items-requires : tie.Need-class-items-requires Inv-slots μ-slots
-class-items-requires c κs = (omega (arith, (c .before .before .before .before .before .before .if1 .left), (c .before .before .before .before .before .before .before .before .before .before .before .before .pre .0)), walks.walks-room ((c .before .before .before .before .before .before .before .slots .inv)) (omega (arith, (c .before .before .before .before .before .before .before .before .before .least .ensures), (c .before .before .before .before .before .if2 .left))) (walks.class-pairs (one ((c .before .before .before .before .before .before .before .before .before .before .before .before .args .text .now))) ((c .before .before .before .before .before .before .before .before .before .before .before .before .args .t2)) ((c .before .before .enum-told2 .given .1))))
+class-items-requires c κs =
+    let at5 = c .before .before .before .before .before in let at6 = at5 .before in let at7 = at6 .before in let at9 = at7 .before .before in
+    let at12 = at9 .before .before .before in
+    (omega (arith, (at6 .if1 .left), (at12 .pre .0)), walks.walks-room (at7 .slots .inv) (omega (arith, (at9 .least .ensures), (at5 .if2 .left))) (walks.class-pairs (one (at12 .args .text .now)) (at12 .args .t2) (c .before .before .enum-told2 .given .1)))
 
 slots-less-2 : tie.Need-slots-less-2 Inv-slots μ-slots
-slots-less-2 c = omega (arith, (c .before .before .before .before .before .before .before .before .before .before .before .before .least .ensures), (c .before .before .before .before .before .before .before .before .if2 .left))
+slots-less-2 c = let at8 = c .before .before .before .before .before .before .before .before in let at12 = at8 .before .before .before .before in omega (arith, (at12 .least .ensures), (at8 .if2 .left))
 
 slots-again-2 : tie.Need-slots-again-2 Inv-slots μ-slots
-slots-again-2 c = walks.walks-go ((c .before .before .before .before .before .before .before .before .before .before .slots .inv)) (omega (arith, (c .before .before .before .before .before .before .before .before .before .before .before .before .least .ensures), (c .before .before .before .before .before .before .before .before .if2 .left))) (walks.class-pairs (one ((c .before .before .before .before .before .before .before .before .before .before .before .before .before .before .before .args .text .now))) ((c .before .before .before .before .before .before .before .before .before .before .before .before .before .before .before .args .t2)) ((c .before .before .before .before .before .enum-told2 .given .1))) ((c .before .before .class-items .ensures .0)) ((c .before .before .class-items .ensures .1))
+slots-again-2 c =
+    let at5 = c .before .before .before .before .before in let at8 = at5 .before .before .before in let at10 = at8 .before .before in let at12 = at10 .before .before in
+    let at15 = at12 .before .before .before in
+    walks.walks-go (at10 .slots .inv) (omega (arith, (at12 .least .ensures), (at8 .if2 .left))) (walks.class-pairs (one (at15 .args .text .now)) (at15 .args .t2) (at5 .enum-told2 .given .1)) (c .before .before .class-items .ensures .0) (c .before .before .class-items .ensures .1)
 
 enum-known-slot : tie.Need-enum-known-slot Inv-slots μ-slots
 enum-known-slot c = search needs
@@ -94,27 +109,39 @@ element-copy-out-key-item : tie.Need-element-copy-out-key-item Inv-slots μ-slot
 element-copy-out-key-item c = omega (arith, (c .before .before .before .before .before .before .before .before .before .least2 .ensures), (c .before .if3 .taken))
 
 key-item-requires : tie.Need-key-item-requires Inv-slots μ-slots
-key-item-requires c κs = (omega (arith, (c .before .before .before .before .before .before .before .before .if1 .left), (c .before .before .before .before .before .before .before .before .before .before .before .before .before .before .pre .0)), walks.walks-room ((c .before .before .before .before .before .before .before .before .before .slots .inv)) (omega (arith, (c .before .before .before .before .before .before .before .before .before .before .before .least .ensures), (c .before .before .before .before .before .before .before .if2 .left))) (walks.key-pairs (one ((c .before .before .before .before .before .before .before .before .before .before .before .before .before .before .args .text .now))) ((c .before .before .before .before .before .before .before .before .before .before .before .before .before .before .args .t2)) _ ((c .before .before .before .before .slot .given .1)) (omega (arith, (c .before .before .before .before .before .before .before .before .before .before .least2 .ensures), (c .before .before .if3 .taken)))))
+key-item-requires c κs =
+    let at4 = c .before .before .before .before in let at7 = at4 .before .before .before in let at8 = at7 .before in let at9 = at8 .before in let at10 = at9 .before in
+    let at11 = at10 .before in let at14 = at11 .before .before .before in
+    (omega (arith, (at8 .if1 .left), (at14 .pre .0)), walks.walks-room (at9 .slots .inv) (omega (arith, (at11 .least .ensures), (at7 .if2 .left))) (walks.key-pairs (one (at14 .args .text .now)) (at14 .args .t2) _ (at4 .slot .given .1) (omega (arith, (at10 .least2 .ensures), (c .before .before .if3 .taken)))))
 
 slots-less-3 : tie.Need-slots-less-3 Inv-slots μ-slots
-slots-less-3 c = omega (arith, (c .before .before .before .before .before .before .before .before .before .before .before .before .before .before .least .ensures), (c .before .before .before .before .before .before .before .before .before .before .if2 .left))
+slots-less-3 c = let at10 = c .before .before .before .before .before .before .before .before .before .before in let at14 = at10 .before .before .before .before in omega (arith, (at14 .least .ensures), (at10 .if2 .left))
 
 slots-again-3 : tie.Need-slots-again-3 Inv-slots μ-slots
-slots-again-3 c = walks.walks-go ((c .before .before .before .before .before .before .before .before .before .before .before .before .slots .inv)) (omega (arith, (c .before .before .before .before .before .before .before .before .before .before .before .before .before .before .least .ensures), (c .before .before .before .before .before .before .before .before .before .before .if2 .left))) (walks.key-pairs (one ((c .before .before .before .before .before .before .before .before .before .before .before .before .before .before .before .before .before .args .text .now))) ((c .before .before .before .before .before .before .before .before .before .before .before .before .before .before .before .before .before .args .t2)) _ ((c .before .before .before .before .before .before .before .slot .given .1)) (omega (arith, (c .before .before .before .before .before .before .before .before .before .before .before .before .before .least2 .ensures), (c .before .before .before .before .before .if3 .taken)))) ((c .before .before .key-item .ensures .0)) ((c .before .before .key-item .ensures .1))
+slots-again-3 c =
+    let at5 = c .before .before .before .before .before in let at7 = at5 .before .before in let at10 = at7 .before .before .before in let at12 = at10 .before .before in
+    let at13 = at12 .before in let at14 = at13 .before in let at17 = at14 .before .before .before in
+    walks.walks-go (at12 .slots .inv) (omega (arith, (at14 .least .ensures), (at10 .if2 .left))) (walks.key-pairs (one (at17 .args .text .now)) (at17 .args .t2) _ (at7 .slot .given .1) (omega (arith, (at13 .least2 .ensures), (at5 .if3 .taken)))) (c .before .before .key-item .ensures .0) (c .before .before .key-item .ensures .1)
 
 no-row-requires : tie.Need-no-row-requires Inv-slots μ-slots
 no-row-requires c κs = search needs
 
 key-item-requires-2 : tie.Need-key-item-requires-2 Inv-slots μ-slots
-key-item-requires-2 c κs = let e : length ((c .before .before .before .before .before .before .before .before .before .before .before .before .before .before .args .t2 .keys)) ≡ maxKeys = simp length-map at ((c .before .before .before .before .before .before .before .before .before .before .before .before .before .before .good .1 .0 .1 .1 .1 .1 .1 .0 .1 .0 .1)) in
-    (omega (arith, (c .before .before .before .before .before .before .before .before .if1 .left), (c .before .before .before .before .before .before .before .before .before .before .before .before .before .before .pre .0)), walks.walks-room ((c .before .before .before .before .before .before .before .before .before .slots .inv)) (omega (arith, (c .before .before .before .before .before .before .before .before .before .before .before .least .ensures), (c .before .before .before .before .before .before .before .if2 .left))) (walks.no-pairs (one ((c .before .before .before .before .before .before .before .before .before .before .before .before .before .before .args .text .now))) ((c .before .before .before .before .before .before .before .before .before .before .before .before .before .before .args .t2)) ((c .no-row .ensures)) _ ((c .before .before .before .before .slot .given .1)) e (omega (arith, (c .before .before .before .before .before .before .before .before .before .before .least2 .ensures), (c .before .before .if3 .left)))))
+key-item-requires-2 c κs =
+    let at4 = c .before .before .before .before in let at7 = at4 .before .before .before in let at8 = at7 .before in let at9 = at8 .before in let at10 = at9 .before in
+    let at11 = at10 .before in let at14 = at11 .before .before .before in
+    let e : length (at14 .args .t2 .keys) ≡ maxKeys = simp length-map at (at14 .good .1 .0 .1 .1 .1 .1 .1 .0 .1 .0 .1) in
+    (omega (arith, (at8 .if1 .left), (at14 .pre .0)), walks.walks-room (at9 .slots .inv) (omega (arith, (at11 .least .ensures), (at7 .if2 .left))) (walks.no-pairs (one (at14 .args .text .now)) (at14 .args .t2) (c .no-row .ensures) _ (at4 .slot .given .1) e (omega (arith, (at10 .least2 .ensures), (c .before .before .if3 .left)))))
 
 slots-less-4 : tie.Need-slots-less-4 Inv-slots μ-slots
-slots-less-4 c = omega (arith, (c .before .before .before .before .before .before .before .before .before .before .before .before .before .before .least .ensures), (c .before .before .before .before .before .before .before .before .before .before .if2 .left))
+slots-less-4 c = let at10 = c .before .before .before .before .before .before .before .before .before .before in let at14 = at10 .before .before .before .before in omega (arith, (at14 .least .ensures), (at10 .if2 .left))
 
 slots-again-4 : tie.Need-slots-again-4 Inv-slots μ-slots
-slots-again-4 c = let e : length ((c .before .before .before .before .before .before .before .before .before .before .before .before .before .before .before .before .before .args .t2 .keys)) ≡ maxKeys = simp length-map at ((c .before .before .before .before .before .before .before .before .before .before .before .before .before .before .before .before .before .good .1 .0 .1 .1 .1 .1 .1 .0 .1 .0 .1)) in
-    walks.walks-go ((c .before .before .before .before .before .before .before .before .before .before .before .before .slots .inv)) (omega (arith, (c .before .before .before .before .before .before .before .before .before .before .before .before .before .before .least .ensures), (c .before .before .before .before .before .before .before .before .before .before .if2 .left))) (walks.no-pairs (one ((c .before .before .before .before .before .before .before .before .before .before .before .before .before .before .before .before .before .args .text .now))) ((c .before .before .before .before .before .before .before .before .before .before .before .before .before .before .before .before .before .args .t2)) ((c .before .before .before .no-row .ensures)) _ ((c .before .before .before .before .before .before .before .slot .given .1)) e (omega (arith, (c .before .before .before .before .before .before .before .before .before .before .before .before .before .least2 .ensures), (c .before .before .before .before .before .if3 .left)))) ((c .before .before .key-item2 .ensures .0)) ((c .before .before .key-item2 .ensures .1))
+slots-again-4 c =
+    let at5 = c .before .before .before .before .before in let at7 = at5 .before .before in let at10 = at7 .before .before .before in let at12 = at10 .before .before in
+    let at13 = at12 .before in let at14 = at13 .before in let at17 = at14 .before .before .before in
+    let e : length (at17 .args .t2 .keys) ≡ maxKeys = simp length-map at (at17 .good .1 .0 .1 .1 .1 .1 .1 .0 .1 .0 .1) in
+    walks.walks-go (at12 .slots .inv) (omega (arith, (at14 .least .ensures), (at10 .if2 .left))) (walks.no-pairs (one (at17 .args .text .now)) (at17 .args .t2) (c .before .before .before .no-row .ensures) _ (at7 .slot .given .1) e (omega (arith, (at13 .least2 .ensures), (at5 .if3 .left)))) (c .before .before .key-item2 .ensures .0) (c .before .before .key-item2 .ensures .1)
 
 pub walk-spec : {M : Type 1} → statement M
 walk-spec =

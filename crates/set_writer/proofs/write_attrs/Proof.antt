@@ -20,23 +20,30 @@ table-ok-requires : tie.Need-table-ok-requires
 table-ok-requires c κs = search needs
 
 returns : tie.Need-returns
-returns c = given.by-table ((c .before .before .before .before .before .before .before .args .text .now)) ((c .before .before .before .before .before .before .before .args .set)) ((c .before .before .before .before .before .before .before .args .out .now)) ((c .before .before .before .before .check-text .ensures)) ((c .before .before .enum-told .given .1)) (sym ((c .before .table-ok .ensures)) ∙ not-true _ ((c .if1 .taken)))
+returns c =
+    let at4 = c .before .before .before .before in let at7 = at4 .before .before .before in
+    given.by-table (at7 .args .text .now) (at7 .args .set) (at7 .args .out .now) (at4 .check-text .ensures) (c .before .before .enum-told .given .1) (sym (c .before .table-ok .ensures) ∙ not-true _ (c .if1 .taken))
 
 returns-2 : tie.Need-returns-2
-returns-2 c = given.by-none ((c .before .before .before .before .before .before .before .before .before .args .text .now)) ((c .before .before .before .before .before .before .before .before .before .args .set)) ((c .before .before .before .before .before .before .before .before .before .args .out .now)) ((c .before .before .before .before .before .before .check-text .ensures)) ((c .before .before .before .before .enum-told .given .1)) (sym ((c .before .before .before .table-ok .ensures)) ∙ not-false _ ((c .before .before .if1 .left))) ((c .if2 .taken))
+returns-2 c =
+    let at4 = c .before .before .before .before in let at6 = at4 .before .before in let at9 = at6 .before .before .before in
+    given.by-none (at9 .args .text .now) (at9 .args .set) (at9 .args .out .now) (at6 .check-text .ensures) (at4 .enum-told .given .1) (sym (c .before .before .before .table-ok .ensures) ∙ not-false _ (c .before .before .if1 .left)) (c .if2 .taken)
 
 write-set-requires : tie.Need-write-set-requires
 write-set-requires c κs = search needs
 
 returns-3 : tie.Need-returns-3
-returns-3 c = given.by-text ((c .before .before .before .before .before .before .args .text .now)) ((c .before .before .before .before .before .before .args .set)) ((c .before .before .before .before .before .before .args .out .now)) ((c .before .before .before .check-text .ensures)) ((c .before .why .given .1))
+returns-3 c = let at6 = c .before .before .before .before .before .before in given.by-text (at6 .args .text .now) (at6 .args .set) (at6 .args .out .now) (c .before .before .before .check-text .ensures) (c .before .why .given .1)
 
 same-length : tie.Need-same-length
 same-length c = search needs
 
 returns-4 : tie.Need-returns-4
-returns-4 c = let e : length ((c .before .before .before .before .before .before .before .before .before .before .before .before .before .args .set .order)) ≡ maxSlots = simp length-map at ((c .before .before .before .before .before .before .before .before .before .before .before .before .before .good .1 .0 .1 .1 .1 .1 .1 .1 .1 .0 .1 .0 .1)) in
-    given.passed ((c .before .before .before .before .before .before .before .before .before .before .before .before .before .args .text .now)) ((c .before .before .before .before .before .before .before .before .before .before .before .before .before .args .set)) ((c .before .before .before .before .before .before .before .before .before .before .before .before .before .args .out .now)) ((c .before .before .before .before .before .before .before .before .before .before .check-text .ensures)) ((c .before .before .before .before .before .before .before .before .enum-told .given .1)) (sym ((c .before .before .before .before .before .before .before .table-ok .ensures)) ∙ not-false _ ((c .before .before .before .before .before .before .if1 .left))) e ((c .before .before .before .before .if2 .left)) ((c .before .before .write-set .ensures .0)) ((c .before .before .write-set .ensures .1))
+returns-4 c =
+    let at4 = c .before .before .before .before in let at6 = at4 .before .before in let at7 = at6 .before in let at8 = at7 .before in let at10 = at8 .before .before in
+    let at13 = at10 .before .before .before in
+    let e : length (at13 .args .set .order) ≡ maxSlots = simp length-map at (at13 .good .1 .0 .1 .1 .1 .1 .1 .1 .1 .0 .1 .0 .1) in
+    given.passed (at13 .args .text .now) (at13 .args .set) (at13 .args .out .now) (at10 .check-text .ensures) (at8 .enum-told .given .1) (sym (at7 .table-ok .ensures) ∙ not-false _ (at6 .if1 .left)) e (at4 .if2 .left) (c .before .before .write-set .ensures .0) (c .before .before .write-set .ensures .1)
 
 pub write-attrs-spec : {M : Type 1} → statement M
 write-attrs-spec =

@@ -23,22 +23,29 @@ enum-told : tie.Need-enum-told
 enum-told c = search needs
 
 walk-requires-2 : tie.Need-walk-requires-2
-walk-requires-2 c κs = let xs = canon (meaningOf (one ((c .before .before .before .before .before .before .before .before .before .before .args .text .now))) ((c .before .before .before .before .before .before .before .before .before .before .args .set))) in
-    ((omega (arith, (c .before .before .before .before .before .before .before .least .ensures)), omega (arith, (c .before .before .before .before .before .before .before .least .ensures), (c .before .before .before .before .before .walk .kept .1 .1 .0))), λ e. room.fits xs ((c .before .before .before .before .before .before .before .before .before .before .args .out .now)) ((c .before .before .before .before .before .before .before .least .ensures)) ((c .before .before .before .before .before .walk .ensures .0)) ((c .before .before .before .before .before .walk .ensures .1)) ((c .before .enum-told .given .1)))
+walk-requires-2 c κs =
+    let at5 = c .before .before .before .before .before in let at7 = at5 .before .before in let at10 = at7 .before .before .before in
+    let xs = canon (meaningOf (one (at10 .args .text .now)) (at10 .args .set)) in
+    ((omega (arith, (at7 .least .ensures)), omega (arith, (at7 .least .ensures), (at5 .walk .kept .1 .1 .0))), λ e. room.fits xs (at10 .args .out .now) (at7 .least .ensures) (at5 .walk .ensures .0) (at5 .walk .ensures .1) (c .before .enum-told .given .1))
 
 same-length : tie.Need-same-length
 same-length c = search needs
 
 returns : tie.Need-returns
-returns c = let xs = canon (meaningOf (one ((c .before .before .before .before .before .before .before .before .before .before .args .text .now))) ((c .before .before .before .before .before .before .before .before .before .before .args .set))) in
-    room.refused xs ((c .before .before .before .before .before .before .before .before .before .before .args .out .now)) ((c .before .before .before .before .before .before .before .least .ensures)) ((c .before .before .before .before .before .walk .ensures .0)) ((c .before .before .before .before .before .walk .ensures .1)) ((c .before .why .given .1))
+returns c =
+    let at5 = c .before .before .before .before .before in let at7 = at5 .before .before in let at10 = at7 .before .before .before in
+    let xs = canon (meaningOf (one (at10 .args .text .now)) (at10 .args .set)) in
+    room.refused xs (at10 .args .out .now) (at7 .least .ensures) (at5 .walk .ensures .0) (at5 .walk .ensures .1) (c .before .why .given .1)
 
 same-length-2 : tie.Need-same-length-2
 same-length-2 c = search needs
 
 returns-2 : tie.Need-returns-2
-returns-2 c = let xs = canon (meaningOf (one ((c .before .before .before .before .before .before .before .before .before .before .before .before .before .args .text .now))) ((c .before .before .before .before .before .before .before .before .before .before .before .before .before .args .set))) in
-    room.written xs ((c .before .before .before .before .before .before .before .before .before .before .before .before .before .args .out .now)) ((c .before .before .before .before .before .before .before .before .before .before .least .ensures)) ((c .before .before .before .before .before .before .before .before .walk .ensures .0)) ((c .before .before .before .before .before .before .before .before .walk .ensures .1)) (room.fits xs ((c .before .before .before .before .before .before .before .before .before .before .before .before .before .args .out .now)) ((c .before .before .before .before .before .before .before .before .before .before .least .ensures)) ((c .before .before .before .before .before .before .before .before .walk .ensures .0)) ((c .before .before .before .before .before .before .before .before .walk .ensures .1)) ((c .before .before .before .before .enum-told .given .1))) ((c .before .before .walk2 .ensures .0)) ((c .before .before .walk2 .ensures .1))
+returns-2 c =
+    let at4 = c .before .before .before .before in let at8 = at4 .before .before .before .before in let at10 = at8 .before .before in
+    let at13 = at10 .before .before .before in
+    let xs = canon (meaningOf (one (at13 .args .text .now)) (at13 .args .set)) in
+    room.written xs (at13 .args .out .now) (at10 .least .ensures) (at8 .walk .ensures .0) (at8 .walk .ensures .1) (room.fits xs (at13 .args .out .now) (at10 .least .ensures) (at8 .walk .ensures .0) (at8 .walk .ensures .1) (at4 .enum-told .given .1)) (c .before .before .walk2 .ensures .0) (c .before .before .walk2 .ensures .1)
 
 pub write-set-spec : {M : Type 1} → statement M
 write-set-spec =

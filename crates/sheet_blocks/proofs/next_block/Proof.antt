@@ -35,7 +35,7 @@ same-length-2 : tie.Need-same-length-2 Inv-lines μ-lines
 same-length-2 c = search needs
 
 returns-2 : tie.Need-returns-2 Inv-lines μ-lines
-returns-2 c = laws.too-short _ _ _ (c .before .before .before .before .before .before .if1 .left) (c .before .before .before .before .before .if2 .taken) (c .before .before .before .read-at2 .ensures) (c .short-join .ensures)
+returns-2 c = let at5 = c .before .before .before .before .before in let at6 = at5 .before in laws.too-short _ _ _ (at6 .if1 .left) (at5 .if2 .taken) (c .before .before .before .read-at2 .ensures) (c .short-join .ensures)
 
 lines-holds : tie.Need-lines-holds Inv-lines μ-lines
 lines-holds c = laws.seeks-start _ _ _ (c .before .if1 .left) (c .if2 .left)
@@ -50,7 +50,7 @@ same-length-3 : tie.Need-same-length-3 Inv-lines μ-lines
 same-length-3 c = search needs
 
 returns-3 : tie.Need-returns-3 Inv-lines μ-lines
-returns-3 c = rw (c .at-once2 .ensures) (laws.seeks-end (c .before .before .before .before .before .before .lines .inv) (c .before .before .before .before .before .if3 .taken) (c .before .before .before .read-at3 .ensures))
+returns-3 c = let at5 = c .before .before .before .before .before in let at6 = at5 .before in rw (c .at-once2 .ensures) (laws.seeks-end (at6 .lines .inv) (at5 .if3 .taken) (c .before .before .before .read-at3 .ensures))
 
 may-open-requires : tie.Need-may-open-requires Inv-lines μ-lines
 may-open-requires c κs = search needs
@@ -62,19 +62,23 @@ same-length-4 : tie.Need-same-length-4 Inv-lines μ-lines
 same-length-4 c = search needs
 
 returns-4 : tie.Need-returns-4 Inv-lines μ-lines
-returns-4 c = laws.seeks-block (c .before .before .before .before .before .before .before .before .before .lines .inv) (c .before .before .before .before .before .before .before .before .if3 .left) (sym (c .before .before .before .before .before .before .before .may-open .ensures) ∙ (c .before .before .before .before .before .before .if4 .taken)) (c .before .before .before .before .read-at4 .ensures) (λ z. omega (arith, z, (c .if5 .taken)))
+returns-4 c =
+    let at4 = c .before .before .before .before in let at6 = at4 .before .before in let at7 = at6 .before in let at8 = at7 .before in let at9 = at8 .before in
+    laws.seeks-block (at9 .lines .inv) (at8 .if3 .left) (sym (at7 .may-open .ensures) ∙ (at6 .if4 .taken)) (at4 .read-at4 .ensures) (λ z. omega (arith, z, (c .if5 .taken)))
 
 line-from-requires : tie.Need-line-from-requires Inv-lines μ-lines
 line-from-requires c κs = search needs
 
 add-skipped : tie.Need-add-skipped Inv-lines μ-lines
-add-skipped c = omega (arith, (c .before .before .before .before .before .before .before .before .before .before .lines .inv .few), (c .before .before .before .before .before .before .before .before .before .if3 .left))
+add-skipped c = let at9 = c .before .before .before .before .before .before .before .before .before in let at10 = at9 .before in omega (arith, (at10 .lines .inv .few), (at9 .if3 .left))
 
 lines-less : tie.Need-lines-less Inv-lines μ-lines
-lines-less c = laws.seeks-less (c .before .before .before .before .before .before .before .before .before .before .lines .inv) (c .before .before .before .before .before .before .before .before .before .if3 .left) (c .line-from .ensures)
+lines-less c = let at9 = c .before .before .before .before .before .before .before .before .before in let at10 = at9 .before in laws.seeks-less (at10 .lines .inv) (at9 .if3 .left) (c .line-from .ensures)
 
 lines-again : tie.Need-lines-again Inv-lines μ-lines
-lines-again c = laws.seeks-past (c .before .before .before .before .before .before .before .before .before .before .lines .inv) (c .before .before .before .before .before .before .before .before .before .if3 .left) (sym (c .before .before .before .before .before .before .before .before .may-open .ensures) ∙ (c .before .before .before .before .before .before .before .if4 .taken)) (c .before .before .before .before .before .read-at4 .ensures) (omega (arith, (c .before .if5 .left))) (c .line-from .ensures)
+lines-again c =
+    let at5 = c .before .before .before .before .before in let at7 = at5 .before .before in let at8 = at7 .before in let at9 = at8 .before in let at10 = at9 .before in
+    laws.seeks-past (at10 .lines .inv) (at9 .if3 .left) (sym (at8 .may-open .ensures) ∙ (at7 .if4 .taken)) (at5 .read-at4 .ensures) (omega (arith, (c .before .if5 .left))) (c .line-from .ensures)
 
 line-from-requires-2 : tie.Need-line-from-requires-2 Inv-lines μ-lines
 line-from-requires-2 c κs = search needs

@@ -22,13 +22,17 @@ same-length : tie.Need-same-length
 same-length c = search needs
 
 returns : tie.Need-returns
-returns c = lays.of-refused (c .before .before .before .before .before .before .before .before .before .before .args .n) (c .before .before .before .before .before .before .before .before .before .before .args .block .lines) (c .before .before .before .before .before .before .before .before .before .before .args .text .now) (c .before .before .before .before .before .before .before .before .before .before .args .join .now) (c .before .before .before .before .before .before .before .before .before .before .args .block .joined) (c .before .before .before .before .before .before .before .before .before .before .args .block .set) (c .before .before .before .before .before .outcome .given .1) (c .before .before .lay-refused .ensures)
+returns c =
+    let at5 = c .before .before .before .before .before in let at10 = at5 .before .before .before .before .before in
+    lays.of-refused (at10 .args .n) (at10 .args .block .lines) (at10 .args .text .now) (at10 .args .join .now) (at10 .args .block .joined) (at10 .args .block .set) (at5 .outcome .given .1) (c .before .before .lay-refused .ensures)
 
 same-length-2 : tie.Need-same-length-2
 same-length-2 c = search needs
 
 returns-2 : tie.Need-returns-2
-returns-2 c = lays.of-done (c .before .before .before .before .before .before .before .before .before .before .args .n) (c .before .before .before .before .before .before .before .before .before .before .args .block .lines) (c .before .before .before .before .before .before .before .before .before .before .args .text .now) (c .before .before .before .before .before .before .before .before .before .before .args .join .now) (c .before .before .before .before .before .before .before .before .before .before .args .block .joined) (c .before .before .before .before .before .before .before .before .before .before .args .block .set) (c .before .before .before .before .before .enum-told .given .1) (c .before .before .before .before .text-over .ensures) (c .before .before .lay-set .ensures)
+returns-2 c =
+    let at4 = c .before .before .before .before in let at5 = at4 .before in let at10 = at5 .before .before .before .before .before in
+    lays.of-done (at10 .args .n) (at10 .args .block .lines) (at10 .args .text .now) (at10 .args .join .now) (at10 .args .block .joined) (at10 .args .block .set) (at5 .enum-told .given .1) (at4 .text-over .ensures) (c .before .before .lay-set .ensures)
 
 pub lay-block-spec : {M : Type 1} → statement M
 lay-block-spec =

@@ -16,7 +16,9 @@ abbrev μ-sheet : tie.MeasureT-sheet
 μ-sheet text from first join₀ out₀ at₀ line₀ k₀ join out at line k = length text - at
 
 sheet-holds : tie.Need-sheet-holds Inv-sheet μ-sheet
-sheet-holds c = lays.lays-start _ _ _ _ _ (omega (arith, (c .before .before .before .pre))) (omega (arith, (c .before .before .before .pre))) (omega (arith, (c .before .before .before .pre))) (omega (arith, (c .before .before .before .pre)))
+sheet-holds c =
+    let p = c .before .before .before in
+    lays.lays-start _ _ _ _ _ (omega (arith, (p .pre))) (omega (arith, (p .pre))) (omega (arith, (p .pre))) (omega (arith, (p .pre)))
 
 done-requires : tie.Need-done-requires Inv-sheet μ-sheet
 done-requires c κs = search needs
@@ -52,28 +54,57 @@ done-requires-2 : tie.Need-done-requires-2 Inv-sheet μ-sheet
 done-requires-2 c κs = search needs
 
 same-length-5 : tie.Need-same-length-5 Inv-sheet μ-sheet
-same-length-5 c = lays.join-same (c .before .before .before .before .before .before .before .before .before .before .sheet .inv) (omega (arith, (c .before .before .before .before .before .before .before .before .before .if1 .left))) (omega (arith, (c .before .before .before .before .before .before .before .before .if2 .left))) (c .before .before .before .before .before .before .next-block .ensures .0) (c .before .before .before .before .before .before .next-block .ensures .1)
+same-length-5 c =
+    let at6 = c .before .before .before .before .before .before in let at8 = at6 .before .before in let at9 = at8 .before in let at10 = at9 .before in
+    lays.join-same (at10 .sheet .inv) (omega (arith, (at9 .if1 .left))) (omega (arith, (at8 .if2 .left))) (at6 .next-block .ensures .0) (at6 .next-block .ensures .1)
 
 same-length-6 : tie.Need-same-length-6 Inv-sheet μ-sheet
 same-length-6 c = lays.lays-long (c .before .before .before .before .before .before .before .before .before .before .sheet .inv)
 
 returns-3 : tie.Need-returns-3 Inv-sheet μ-sheet
-returns-3 c = lays.lays-none (c .before .before .before .before .before .before .before .before .before .before .sheet .inv) (omega (arith, (c .before .before .before .before .before .before .before .before .before .if1 .left))) (omega (arith, (c .before .before .before .before .before .before .before .before .if2 .left))) (c .before .before .before .before .before .before .next-block .ensures .0) (c .before .before .before .before .before .before .next-block .ensures .1) (c .before .if3 .taken) (c .done2 .ensures)
+returns-3 c =
+    let at6 = c .before .before .before .before .before .before in let at8 = at6 .before .before in let at9 = at8 .before in let at10 = at9 .before in
+    lays.lays-none (at10 .sheet .inv) (omega (arith, (at9 .if1 .left))) (omega (arith, (at8 .if2 .left))) (at6 .next-block .ensures .0) (at6 .next-block .ensures .1) (c .before .if3 .taken) (c .done2 .ensures)
 
 add-n : tie.Need-add-n Inv-sheet μ-sheet
-add-n c = omega (arith, lays.sum-le (c .before .before .before .before .before .before .before .before .before .before .sheet .inv) (omega (arith, (c .before .before .before .before .before .before .before .before .before .if1 .left))) (omega (arith, (c .before .before .before .before .before .before .before .before .if2 .left))) (c .before .before .before .before .before .before .next-block .ensures .0) (c .before .before .before .before .before .before .next-block .ensures .1) (c .before .if3 .left), lays.next-within (c .before .before .before .before .before .before .before .before .before .before .sheet .inv) (omega (arith, (c .before .before .before .before .before .before .before .before .before .if1 .left))) (omega (arith, (c .before .before .before .before .before .before .before .before .if2 .left))) (c .before .before .before .before .before .before .next-block .ensures .0) (c .before .before .before .before .before .before .next-block .ensures .1) (c .before .if3 .left), (c .before .before .before .before .before .before .before .before .before .before .sheet .inv .fits))
+add-n c =
+    let at6 = c .before .before .before .before .before .before in let at8 = at6 .before .before in let at9 = at8 .before in let at10 = at9 .before in
+    omega (
+      arith,
+      lays.sum-le (at10 .sheet .inv) (omega (arith, (at9 .if1 .left))) (omega (arith, (at8 .if2 .left))) (at6 .next-block .ensures .0) (at6 .next-block .ensures .1)
+          (c .before .if3 .left),
+      lays.next-within (at10 .sheet .inv) (omega (arith, (at9 .if1 .left))) (omega (arith, (at8 .if2 .left))) (at6 .next-block .ensures .0) (at6 .next-block .ensures .1)
+          (c .before .if3 .left),
+      (at10 .sheet .inv .fits),
+    )
 
 lay-block-requires : tie.Need-lay-block-requires Inv-sheet μ-sheet
-lay-block-requires c κs = omega (arith, (c .before .before .before .before .before .before .before .before .before .before .if2 .left), (c .before .before .before .before .before .before .before .before .before .before .before .before .sheet .inv .room), lays.lays-long (c .before .before .before .before .before .before .before .before .before .before .before .before .sheet .inv))
+lay-block-requires c κs = let at10 = c .before .before .before .before .before .before .before .before .before .before in let at12 = at10 .before .before in omega (arith, (at10 .if2 .left), (at12 .sheet .inv .room), lays.lays-long (at12 .sheet .inv))
 
 add-line : tie.Need-add-line Inv-sheet μ-sheet
-add-line c = omega (arith, lays.sum-le (c .before .before .before .before .before .before .before .before .before .before .before .before .before .before .before .before .sheet .inv) (omega (arith, (c .before .before .before .before .before .before .before .before .before .before .before .before .before .before .before .if1 .left))) (omega (arith, (c .before .before .before .before .before .before .before .before .before .before .before .before .before .before .if2 .left))) (c .before .before .before .before .before .before .before .before .before .before .before .before .next-block .ensures .0) (c .before .before .before .before .before .before .before .before .before .before .before .before .next-block .ensures .1) (c .before .before .before .before .before .before .before .if3 .left), lays.next-within (c .before .before .before .before .before .before .before .before .before .before .before .before .before .before .before .before .sheet .inv) (omega (arith, (c .before .before .before .before .before .before .before .before .before .before .before .before .before .before .before .if1 .left))) (omega (arith, (c .before .before .before .before .before .before .before .before .before .before .before .before .before .before .if2 .left))) (c .before .before .before .before .before .before .before .before .before .before .before .before .next-block .ensures .0) (c .before .before .before .before .before .before .before .before .before .before .before .before .next-block .ensures .1) (c .before .before .before .before .before .before .before .if3 .left), (c .before .before .before .before .before .before .before .before .before .before .before .before .before .before .before .before .sheet .inv .fits))
+add-line c =
+    let at7 = c .before .before .before .before .before .before .before in let at12 = at7 .before .before .before .before .before in let at14 = at12 .before .before in
+    let at15 = at14 .before in let at16 = at15 .before in
+    omega (
+      arith,
+      lays.sum-le (at16 .sheet .inv) (omega (arith, (at15 .if1 .left))) (omega (arith, (at14 .if2 .left))) (at12 .next-block .ensures .0) (at12 .next-block .ensures .1)
+          (at7 .if3 .left),
+      lays.next-within (at16 .sheet .inv) (omega (arith, (at15 .if1 .left))) (omega (arith, (at14 .if2 .left))) (at12 .next-block .ensures .0) (at12 .next-block .ensures .1)
+          (at7 .if3 .left),
+      (at16 .sheet .inv .fits),
+    )
 
 sheet-less : tie.Need-sheet-less Inv-sheet μ-sheet
-sheet-less c = lays.lays-less (c .before .before .before .before .before .before .before .before .before .before .before .before .before .before .before .before .sheet .inv) (omega (arith, (c .before .before .before .before .before .before .before .before .before .before .before .before .before .before .before .if1 .left))) (omega (arith, (c .before .before .before .before .before .before .before .before .before .before .before .before .before .before .if2 .left))) (c .before .before .before .before .before .before .before .before .before .before .before .before .next-block .ensures .0) (c .before .before .before .before .before .before .before .before .before .before .before .before .next-block .ensures .1) (c .before .before .before .before .before .before .before .if3 .left)
+sheet-less c =
+    let at7 = c .before .before .before .before .before .before .before in let at12 = at7 .before .before .before .before .before in let at14 = at12 .before .before in
+    let at15 = at14 .before in let at16 = at15 .before in
+    lays.lays-less (at16 .sheet .inv) (omega (arith, (at15 .if1 .left))) (omega (arith, (at14 .if2 .left))) (at12 .next-block .ensures .0) (at12 .next-block .ensures .1) (at7 .if3 .left)
 
 sheet-again : tie.Need-sheet-again Inv-sheet μ-sheet
-sheet-again c = lays.lays-go (c .before .before .before .before .before .before .before .before .before .before .before .before .before .before .before .before .sheet .inv) (omega (arith, (c .before .before .before .before .before .before .before .before .before .before .before .before .before .before .before .if1 .left))) (omega (arith, (c .before .before .before .before .before .before .before .before .before .before .before .before .before .before .if2 .left))) (c .before .before .before .before .before .before .before .before .before .before .before .before .next-block .ensures .0) (c .before .before .before .before .before .before .before .before .before .before .before .before .next-block .ensures .1) (c .before .before .before .before .before .before .before .if3 .left) (c .before .before .before .lay-block .ensures)
+sheet-again c =
+    let at7 = c .before .before .before .before .before .before .before in let at12 = at7 .before .before .before .before .before in let at14 = at12 .before .before in
+    let at15 = at14 .before in let at16 = at15 .before in
+    lays.lays-go (at16 .sheet .inv) (omega (arith, (at15 .if1 .left))) (omega (arith, (at14 .if2 .left))) (at12 .next-block .ensures .0) (at12 .next-block .ensures .1) (at7 .if3 .left) (c .before .before .before .lay-block .ensures)
 
 pub lay-from-spec : {M : Type 1} → statement M
 lay-from-spec =

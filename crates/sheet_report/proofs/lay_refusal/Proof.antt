@@ -8,7 +8,9 @@ refused-requires : tie.Need-refused-requires
 refused-requires c κs = search needs
 
 returns : tie.Need-returns
-returns c = entries.refusal-none (c .before .before .before .args .out .now) (c .before .before .before .args .why) (omega (arith, (c .before .if1 .taken))) (c .refused .ensures)
+returns c =
+    let start = c .before .before .before in
+    entries.refusal-none (start .args .out .now) (start .args .why) (omega (arith, (c .before .if1 .taken))) (c .refused .ensures)
 
 lay-refused-requires : tie.Need-lay-refused-requires
 lay-refused-requires c κs = search needs
@@ -20,7 +22,9 @@ same-length : tie.Need-same-length
 same-length c = search needs
 
 returns-2 : tie.Need-returns-2
-returns-2 c = entries.refusal-laid (c .before .before .before .before .before .before .before .args .out .now) (c .before .before .before .before .before .before .before .args .why) (omega (arith, (c .before .before .before .before .before .if1 .left))) (c .before .before .before .lay-refused .ensures) (c .done .ensures)
+returns-2 c =
+    let at5 = c .before .before .before .before .before in let at7 = at5 .before .before in
+    entries.refusal-laid (at7 .args .out .now) (at7 .args .why) (omega (arith, (at5 .if1 .left))) (c .before .before .before .lay-refused .ensures) (c .done .ensures)
 
 pub lay-refusal-spec : {M : Type 1} → statement M
 lay-refusal-spec =

@@ -26,13 +26,19 @@ add-result : tie.Need-add-result
 add-result c = search needs
 
 add-result-2 : tie.Need-add-result-2
-add-result-2 c = omega (arith, laying.field-room (c .before .before .before .before .before .before .before .before .args .out .now) (c .before .before .before .before .before .before .before .before .args .at) (c .before .before .before .before .before .before .before .before .args .n) (c .before .before .before .before .before .decimal .ensures .1 .0) (c .before .before .before .before .before .decimal .ensures .1 .1) (c .before .before .before .before .before .before .before .before .pre))
+add-result-2 c =
+    let at5 = c .before .before .before .before .before in let at8 = at5 .before .before .before in
+    omega (arith, laying.field-room (at8 .args .out .now) (at8 .args .at) (at8 .args .n) (at5 .decimal .ensures .1 .0) (at5 .decimal .ensures .1 .1) (at8 .pre))
 
 same-length : tie.Need-same-length
-same-length c = laying.put-long (laying.field-put (c .before .before .before .before .before .before .before .before .args .out .now) (c .before .before .before .before .before .before .before .before .args .at) (c .before .before .before .before .before .before .before .before .args .n) (c .before .before .before .before .before .decimal .ensures .1 .0) (c .before .before .before .before .before .decimal .ensures .1 .1) (c .before .before .put-bytes .ensures))
+same-length c =
+    let at5 = c .before .before .before .before .before in let at8 = at5 .before .before .before in
+    laying.put-long (laying.field-put (at8 .args .out .now) (at8 .args .at) (at8 .args .n) (at5 .decimal .ensures .1 .0) (at5 .decimal .ensures .1 .1) (c .before .before .put-bytes .ensures))
 
 returns : tie.Need-returns
-returns c = laying.field-put (c .before .before .before .before .before .before .before .before .args .out .now) (c .before .before .before .before .before .before .before .before .args .at) (c .before .before .before .before .before .before .before .before .args .n) (c .before .before .before .before .before .decimal .ensures .1 .0) (c .before .before .before .before .before .decimal .ensures .1 .1) (c .before .before .put-bytes .ensures)
+returns c =
+    let at5 = c .before .before .before .before .before in let at8 = at5 .before .before .before in
+    laying.field-put (at8 .args .out .now) (at8 .args .at) (at8 .args .n) (at5 .decimal .ensures .1 .0) (at5 .decimal .ensures .1 .1) (c .before .before .put-bytes .ensures)
 
 pub put-field-spec : {M : Type 1} → statement M
 put-field-spec =

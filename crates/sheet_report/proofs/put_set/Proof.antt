@@ -22,7 +22,9 @@ same-length : tie.Need-same-length
 same-length c = search needs
 
 returns : tie.Need-returns
-returns c = laying.set-put (canon (meaningOf (one (c .before .before .before .before .before .before .args .text .now)) (c .before .before .before .before .before .before .args .set))) (c .before .before .before .before .before .before .args .out .now) (c .before .before .before .before .before .before .args .at) (c .before .before .before .before .before .before .pre) (c .before .before .write-set .ensures .0) (c .before .before .write-set .ensures .1)
+returns c =
+    let at6 = c .before .before .before .before .before .before in
+    laying.set-put (canon (meaningOf (one (at6 .args .text .now)) (at6 .args .set))) (at6 .args .out .now) (at6 .args .at) (at6 .pre) (c .before .before .write-set .ensures .0) (c .before .before .write-set .ensures .1)
 
 pub put-set-spec : {M : Type 1} → statement M
 put-set-spec =

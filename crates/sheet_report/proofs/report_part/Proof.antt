@@ -31,10 +31,14 @@ refused-requires-4 : tie.Need-refused-requires-4
 refused-requires-4 c κs = search needs
 
 returns-4 : tie.Need-returns-4
-returns-4 c = entries.told-nothing _ _ (entries.part-full _ _ _ _ _ (omega (arith, (c .before .before .before .before .before .if1 .left))) (omega (arith, (c .before .before .before .before .if2 .left))) (sym (c .before .before .before .may-begin .ensures) ∙ not-false _ (c .before .before .if3 .left)) (omega (arith, (c .before .if4 .taken)))) (c .refused4 .ensures)
+returns-4 c =
+    let at4 = c .before .before .before .before in let at5 = at4 .before in
+    entries.told-nothing _ _ (entries.part-full _ _ _ _ _ (omega (arith, (at5 .if1 .left))) (omega (arith, (at4 .if2 .left))) (sym (c .before .before .before .may-begin .ensures) ∙ not-false _ (c .before .before .if3 .left)) (omega (arith, (c .before .if4 .taken)))) (c .refused4 .ensures)
 
 lay-from-requires : tie.Need-lay-from-requires
-lay-from-requires c κs = let b = entries.begins-so (c .before .before .before .before .before .before .before .before .before .before .args .text .now) (c .before .before .before .before .before .before .before .before .before .before .args .at) (c .before .before .before .before .before .before .before .before .before .before .args .line) (sym (c .before .before .before .before .may-begin .ensures) ∙ not-false _ (c .before .before .before .if3 .left)) in ((omega (arith, (c .before .before .before .before .before .before .if1 .left)), (b .0, b .1 .1)), (omega (arith, (c .before .before .before .before .before .if2 .left)), omega (arith, (c .before .before .if4 .left))))
+lay-from-requires c κs =
+    let at4 = c .before .before .before .before in let at5 = at4 .before in let at6 = at5 .before in let at10 = at6 .before .before .before .before in
+    let b = entries.begins-so (at10 .args .text .now) (at10 .args .at) (at10 .args .line) (sym (at4 .may-begin .ensures) ∙ not-false _ (c .before .before .before .if3 .left)) in ((omega (arith, (at6 .if1 .left)), (b .0, b .1 .1)), (omega (arith, (at5 .if2 .left)), omega (arith, (c .before .before .if4 .left))))
 
 same-length : tie.Need-same-length
 same-length c = search needs
@@ -43,7 +47,10 @@ same-length-2 : tie.Need-same-length-2
 same-length-2 c = search needs
 
 returns-5 : tie.Need-returns-5
-returns-5 c = entries.told-by (c .before .before .before .before .before .before .before .before .before .before .before .before .before .before .before .args .join .now) (c .before .before .before .before .before .before .before .before .before .before .before .before .before .before .before .args .out .now) (entries.part-lays _ _ _ _ _ (omega (arith, (c .before .before .before .before .before .before .before .before .before .before .before .if1 .left))) (omega (arith, (c .before .before .before .before .before .before .before .before .before .before .if2 .left))) (sym (c .before .before .before .before .before .before .before .before .before .may-begin .ensures) ∙ not-false _ (c .before .before .before .before .before .before .before .before .if3 .left)) (omega (arith, (c .before .before .before .before .before .before .before .if4 .left)))) (c .before .before .before .before .lay-from .ensures)
+returns-5 c =
+    let at4 = c .before .before .before .before in let at7 = at4 .before .before .before in let at8 = at7 .before in let at9 = at8 .before in let at10 = at9 .before in
+    let at11 = at10 .before in let at15 = at11 .before .before .before .before in
+    entries.told-by (at15 .args .join .now) (at15 .args .out .now) (entries.part-lays _ _ _ _ _ (omega (arith, (at11 .if1 .left))) (omega (arith, (at10 .if2 .left))) (sym (at9 .may-begin .ensures) ∙ not-false _ (at8 .if3 .left)) (omega (arith, (at7 .if4 .left)))) (at4 .lay-from .ensures)
 
 pub report-part-spec : {M : Type 1} → statement M
 report-part-spec =

@@ -22,7 +22,9 @@ same-length : tie.Need-same-length
 same-length c = search needs
 
 returns : tie.Need-returns
-returns c = entries.start-refused (c .before .before .before .before .before .before .before .before .before .before .before .args .text .now) (c .before .before .before .before .before .before .before .before .before .before .before .args .join .now) (c .before .before .before .before .before .before .before .before .before .before .before .args .out .now) (c .before .before .before .before .before .before .before .check-text .ensures) (c .before .before .before .before .before .why .given .1) (c .before .before .lay-refusal .ensures)
+returns c =
+    let at5 = c .before .before .before .before .before in let at7 = at5 .before .before in let at11 = at7 .before .before .before .before in
+    entries.start-refused (at11 .args .text .now) (at11 .args .join .now) (at11 .args .out .now) (at7 .check-text .ensures) (at5 .why .given .1) (c .before .before .lay-refusal .ensures)
 
 same-length-2 : tie.Need-same-length-2
 same-length-2 c = search needs
@@ -31,7 +33,9 @@ same-length-3 : tie.Need-same-length-3
 same-length-3 c = search needs
 
 returns-2 : tie.Need-returns-2
-returns-2 c = entries.told-by (c .before .before .before .before .before .before .before .before .before .before .before .before .before .args .join .now) (c .before .before .before .before .before .before .before .before .before .before .before .before .before .args .out .now) (entries.start-passed (c .before .before .before .before .before .before .before .before .before .before .before .before .before .args .text .now) (c .before .before .before .before .before .before .before .before .before .before .before .before .before .args .join .now) (c .before .before .before .before .before .before .before .before .before .before .before .before .before .args .out .now) (c .before .before .before .before .before .before .before .before .before .check-text .ensures) (c .before .before .before .before .before .before .before .enum-told .given .1)) (c .before .before .before .before .report-part .ensures)
+returns-2 c =
+    let at4 = c .before .before .before .before in let at7 = at4 .before .before .before in let at9 = at7 .before .before in let at13 = at9 .before .before .before .before in
+    entries.told-by (at13 .args .join .now) (at13 .args .out .now) (entries.start-passed (at13 .args .text .now) (at13 .args .join .now) (at13 .args .out .now) (at9 .check-text .ensures) (at7 .enum-told .given .1)) (at4 .report-part .ensures)
 
 pub report-start-spec : {M : Type 1} → statement M
 report-start-spec =

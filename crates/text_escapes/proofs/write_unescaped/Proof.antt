@@ -23,7 +23,9 @@ same-length : tie.Need-same-length
 same-length c = search needs
 
 returns-3 : tie.Need-returns-3
-returns-3 c = laws.room _ _ _ (omega (arith, c .before .before .before .before .before .before .if1 .left)) (omega (arith, c .before .before .before .before .if2 .left, c .before .before .before .before .before .unescaped-len .ensures)) (c .before .before .put-unescaped .ensures .0) (c .before .before .put-unescaped .ensures .1)
+returns-3 c =
+    let at4 = c .before .before .before .before in let at5 = at4 .before in let at6 = at5 .before in
+    laws.room _ _ _ (omega (arith, at6 .if1 .left)) (omega (arith, at4 .if2 .left, at5 .unescaped-len .ensures)) (c .before .before .put-unescaped .ensures .0) (c .before .before .put-unescaped .ensures .1)
 
 pub write-unescaped-spec : {M : Type 1} → statement M
 write-unescaped-spec =

@@ -31,7 +31,7 @@ returns-2 c = rw (← (c .before .before .before .before .before .check-text .en
 
 returns-3 : tie.Need-returns-3
 unfolding startAt
-returns-3 c = rw (← (c .before .before .before .before .before .before .check-text .ensures), (c .before .before .before .before .enum-told .given .1), ← (c .before .before .before .line-of .ensures), (c .before .r2 .given .1))
+returns-3 c = let at4 = c .before .before .before .before in let at6 = at4 .before .before in rw (← (at6 .check-text .ensures), (at4 .enum-told .given .1), ← (c .before .before .before .line-of .ensures), (c .before .r2 .given .1))
 
 pub line-start-spec : {M : Type 1} → statement M
 line-start-spec =

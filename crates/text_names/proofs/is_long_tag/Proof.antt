@@ -45,7 +45,9 @@ shared-slice-read-if3 : tie.Need-shared-slice-read-if3 Inv-loop μ-loop
 shared-slice-read-if3 c = search needs
 
 returns-2 : tie.Need-returns-2 Inv-loop μ-loop
-returns-2 c = tag.reads-other (c .before .before .before .before .before .before .before .before .loop .inv) (omega arith) (sym (c .before .before .before .before .before .is-alnum .ensures) ∙ (c .before .before .before .before .if1 .left)) (sym (c .before .before .before .is-size .ensures) ∙ not-false _ (c .before .before .if2 .left)) (c .if3 .taken)
+returns-2 c =
+    let at4 = c .before .before .before .before in let at5 = at4 .before in let at8 = at5 .before .before .before in
+    tag.reads-other (at8 .loop .inv) (omega arith) (sym (at5 .is-alnum .ensures) ∙ (at4 .if1 .left)) (sym (c .before .before .before .is-size .ensures) ∙ not-false _ (c .before .before .if2 .left)) (c .if3 .taken)
 
 add-i-2 : tie.Need-add-i-2 Inv-loop μ-loop
 add-i-2 c = omega arith
@@ -54,7 +56,9 @@ loop-less-2 : tie.Need-loop-less-2 Inv-loop μ-loop
 loop-less-2 c = omega arith
 
 loop-again-2 : tie.Need-loop-again-2 Inv-loop μ-loop
-loop-again-2 c = tag.reads-hyphen (c .before .before .before .before .before .before .before .before .loop .inv) (omega arith) (sym (c .before .before .before .before .before .is-alnum .ensures) ∙ (c .before .before .before .before .if1 .left)) (sym (c .before .before .before .is-size .ensures) ∙ not-false _ (c .before .before .if2 .left)) (c .if3 .left)
+loop-again-2 c =
+    let at4 = c .before .before .before .before in let at5 = at4 .before in let at8 = at5 .before .before .before in
+    tag.reads-hyphen (at8 .loop .inv) (omega arith) (sym (at5 .is-alnum .ensures) ∙ (at4 .if1 .left)) (sym (c .before .before .before .is-size .ensures) ∙ not-false _ (c .before .before .if2 .left)) (c .if3 .left)
 
 is-size-requires-2 : tie.Need-is-size-requires-2 Inv-loop μ-loop
 is-size-requires-2 c κs = search needs

@@ -2,7 +2,7 @@ use Prim.Native.Nat.{_-_}
 use native.Mathlib.Omega.{arith}
 use mathlib.Core.Logic.{⊎-elim}
 use Rattle.text_utf8.proofs.Laws as laws
-use Rattle.text_utf8.specs.Blocks.{NoneAbove}
+use Rattle.text_utf8.specs.Inner.{NoneAbove}
 use Rattle.text_utf8.proofs.greatest.Statement.{statement}
 use Rattle.text_utf8.proofs.greatest.Tie as tie
 

@@ -2,7 +2,7 @@ use native.Mathlib.Omega.{arith}
 use Rattle.text_utf8.proofs.Laws as laws
 use Prim.Native.Nat.{_-_}
 use lib.ListN.{length}
-use Rattle.text_utf8.specs.Blocks.{Same}
+use Rattle.text_utf8.specs.Inner.{Same}
 use Rattle.text_utf8.proofs.is_utf8.Statement.{statement}
 use Rattle.text_utf8.proofs.is_utf8.Tie as tie
 
@@ -28,13 +28,13 @@ past-parts-requires : tie.Need-past-parts-requires Inv-loop μ-loop
 past-parts-requires c κs = (c .block-end .ensures)
 
 returns-2 : tie.Need-returns-2 Inv-loop μ-loop
-returns-2 c = laws.whole-fails (laws.same-then (c .before .before .before .before .before .before .loop .inv) (c .before .before .before .before .past-blocks .ensures)) (c .before .past-parts .ensures) (c .if2 .taken)
+returns-2 c = let at4 = c .before .before .before .before in let at6 = at4 .before .before in laws.whole-fails (laws.same-then (at6 .loop .inv) (at4 .past-blocks .ensures)) (c .before .past-parts .ensures) (c .if2 .taken)
 
 loop-less : tie.Need-loop-less Inv-loop μ-loop
 loop-less c = omega (arith, (c .before .before .before .before .past-blocks .ensures) .onward, (c .before .past-parts .ensures) .on (omega arith) .0)
 
 loop-again : tie.Need-loop-again Inv-loop μ-loop
-loop-again c = laws.same-on (laws.same-then (c .before .before .before .before .before .before .loop .inv) (c .before .before .before .before .past-blocks .ensures)) (c .before .past-parts .ensures) (omega arith)
+loop-again c = let at4 = c .before .before .before .before in let at6 = at4 .before .before in laws.same-on (laws.same-then (at6 .loop .inv) (at4 .past-blocks .ensures)) (c .before .past-parts .ensures) (omega arith)
 
 returns-3 : tie.Need-returns-3 Inv-loop μ-loop
 returns-3 c = laws.whole-end (c .before .loop .inv) (omega arith)

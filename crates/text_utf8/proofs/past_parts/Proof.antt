@@ -1,7 +1,7 @@
 use native.Mathlib.Omega.{arith}
 use Rattle.text_utf8.proofs.Laws as laws
 use Prim.Native.Nat.{_-_}
-use Rattle.text_utf8.specs.Blocks.{Same}
+use Rattle.text_utf8.specs.Inner.{Same}
 use Rattle.text_utf8.proofs.past_parts.Statement.{statement}
 use Rattle.text_utf8.proofs.past_parts.Tie as tie
 

@@ -1,0 +1,3 @@
+-- The laws of base_refusals.
+pub mod Numbers
+pub mod Orders

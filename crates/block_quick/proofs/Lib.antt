@@ -1,0 +1,2 @@
+-- The laws that the proofs of block_quick cite.
+pub mod Walks

@@ -1,0 +1,2 @@
+-- What the private functions of block_quick promise.
+pub mod Inner

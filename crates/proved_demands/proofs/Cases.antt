@@ -1,0 +1,32 @@
+-- The twelve cases, computed.
+-- Assumes nothing.
+use mathlib.Core.Path.{refl}
+use mathlib.Core.List.{flatMap}
+use Rattle.base_lists.specs.Lists.{all, headed, run, isIn, same}
+use Rattle.base_bytes.specs.Bytes.{within, isLetter, isDigit, isAlnum, isNameStart, isNamePart, isKeyStart, isBlank, isQuote, isPlain, isPunct, isSpace, isMarked}
+use Rattle.text_utf8.specs.Utf8.{isUtf8, octetsFrom, leadOf, afterOf}
+use Rattle.base_refusals.specs.Numbers.{numberOf}
+use Rattle.text_names.specs.Names.{isName, isKey, isBareName}
+use Rattle.text_names.specs.Tags.{isSize, tagFrom, isTag, isLanguage}
+use Rattle.text_escapes.specs.Unescape.{unescapeFrom, unescape}
+use Rattle.block_grammar.specs.Grammar.{isValue}
+use Rattle.block_grammar.specs.Read.{ends, finish, shutOf, valueToken, afterName, tokenOf, text, readFrom, readPayload}
+use Rattle.block_grammar.specs.Meaning.{pieceRanges}
+use Rattle.block_grammar.specs.Close.{turned, scanStep, closeFrom, findClose}
+use Rattle.set_canon.specs.Canon.{marked, escape, moreText, pairsText, pairsOf, pairs, canon}
+use Rattle.set_table.specs.Types.{rangeBytes, nameBytes, valueBytes}
+use Rattle.set_table.specs.Rows.{hasKey, putRow, withPut, withPuts, slotEntry, meant, padded, tableOf, rowsIn, meaningOf}
+use Rattle.set_table.specs.Puts.{byName, valued, putsOf, putsIn}
+use Rattle.set_table.specs.Filled.{limited}
+use Rattle.set_fill.specs.Fill.{filledOf}
+use Rattle.read_brace.specs.Brace.{braceAt, finished, atBrace, readAttrsAt}
+use Rattle.proved_demands.specs.Typed.{typed}
+use Rattle.proved_demands.specs.Cases.{TwelveCases}
+
+pub twelve-cases : TwelveCases
+unfolding typed all headed run isIn same within isLetter isDigit isAlnum isNameStart isNamePart isKeyStart isBlank isQuote isPlain isPunct isSpace isUtf8 octetsFrom
+    leadOf afterOf numberOf isName isKey isBareName isSize tagFrom isTag isLanguage unescapeFrom unescape isValue ends finish shutOf valueToken afterName tokenOf text
+    readFrom readPayload pieceRanges turned scanStep closeFrom findClose marked isMarked escape flatMap moreText pairsText pairsOf pairs canon rangeBytes nameBytes
+    valueBytes hasKey putRow withPut withPuts slotEntry meant padded tableOf rowsIn meaningOf byName valued putsOf putsIn limited filledOf braceAt finished atBrace
+    readAttrsAt
+twelve-cases = refl

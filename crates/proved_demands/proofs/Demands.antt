@@ -1,0 +1,256 @@
+-- Demands 1 and 2, and what document 01 wants proved: mostly by theorems of the crates below.
+-- Assumes nothing.
+use mathlib.Core.Path.{_≡_, refl, sym, _∙_}
+use mathlib.Core.Bool.{Bool, true, false, cond, _&&_}
+use mathlib.Core.List.{List, [], _∷_, map}
+use Prim.Native.Nat.{ℕ, suc, _≤_}
+use native.Mathlib.Omega.{arith}
+use lib.Dec.{ltb}
+use lib.ListN.{length, drop}
+use lib.Seq.{take-at, drop-at}
+use Rattle.base_lists.specs.Lists.{isIn, over}
+use Rattle.base_lists.proofs.More.{contra}
+use Rattle.base_bytes.specs.declared.Mode.{Mode}
+use Rattle.base_bytes.specs.declared.Mode.the-variants.{Loose}
+use Rattle.base_refusals.specs.Numbers.{maxText, tooLong, numberOf}
+use Rattle.base_refusals.specs.declared.Refusal.{Refusal}
+use Rattle.base_refusals.specs.declared.Refusal.the-variants.{TextTooLong, NotUtf8, NothingThere, TooManySlots, JoinFull, CanonTooLong}
+use Rattle.base_refusals.proofs.Numbers.{number-among, number-own}
+use Rattle.base_refusals.specs.declared.Outcome.{Outcome}
+use Rattle.base_refusals.specs.declared.Outcome.the-variants as outcome
+use Rattle.text_utf8.specs.Utf8.{isUtf8}
+use Rattle.text_lines.specs.Lines.{lines, lineOf}
+use Rattle.text_lines.specs.declared.Line as places
+use Rattle.text_lines.specs.declared.Line.the-variants as place
+use Rattle.text_checks.specs.Check.{checkOf, isText}
+use Rattle.text_checks.specs.Outcomes.{orLeft}
+use Rattle.text_line_start.specs.Starts.{startAt, begun, onStart, placeOf}
+use Rattle.block_grammar.specs.Close.{findClose, lastClose, isBefore}
+use Rattle.block_grammar.specs.declared.Place.the-variants.{Nothing}
+use Rattle.block_grammar.proofs.Payload as payloads
+use Rattle.block_chain.proofs.Blocks as chains
+use Rattle.block_trimmed_line.specs.Fronts.{frontOf, opensAt}
+use Rattle.set_canon.specs.Canon.{canon}
+use Rattle.set_table.specs.Types.{one}
+use Rattle.set_table.specs.Rows.{meaningOf}
+use Rattle.set_table.specs.declared.Attrs.{Attrs}
+use Rattle.set_table.specs.declared.Filled.{Filled}
+use Rattle.set_table.specs.Filled.{refusing}
+use Rattle.set_fill.specs.Fill.{chainAt}
+use Rattle.set_wellformed.specs.WellFormed.{wellFormed}
+use Rattle.set_writer.specs.Write.{hasRoom, wroteOf, contentAfter, writable, orRefused, attrsWrote, attrsContent}
+use Rattle.set_writer.specs.declared.Wrote.the-variants as wrote
+use Rattle.set_merge.specs.Merge.{mergeOf}
+use Rattle.set_lent.proofs.Standing.{refused-stands}
+use Rattle.run_lines.specs.Runs.{asIs, runAt}
+use Rattle.run_lines.proofs.Bounds.{lookahead-sum}
+use Rattle.read_brace.specs.Brace.{readAttrsAt}
+use Rattle.read_brace.specs.declared.Answer.the-variants as answer
+use Rattle.read_blocks.specs.Blocks.{Found, joinedIn, joinHolds, blockOf}
+use Rattle.read_blocks.specs.ByLine.{blockFound, wrappedFound}
+use Rattle.read_by_line.specs.Entries.{lineRead, parseStandalone}
+use Rattle.read_lengths.specs.Lengths.{lengthOf, lengthNo}
+use Rattle.sheet_blocks.specs.declared.Next.{Next}
+use Rattle.sheet_blocks.specs.Sheets.{Try, triesAt, onlyBlocks, nowhere, firstBlock, nextOf}
+use Rattle.proved_texts.proofs.Utf8Grammar as utf8
+use Rattle.proved_texts.proofs.Escapes as escapes
+use Rattle.proved_texts.proofs.Tabs.{no-tab, columns-count, indent-spaces}
+use Rattle.proved_grammar.proofs.Blocks as lines-of-blocks
+use Rattle.proved_grammar.proofs.Close.{third-argument}
+use Rattle.proved_grammar.proofs.Quick.{quick-passes}
+use Rattle.proved_sets.proofs.LineMeant.{line-merged}
+use Rattle.proved_sets.proofs.MergeMeans.{merge-gives}
+use Rattle.proved_sets.proofs.NeverSlots.{never-slots}
+use Rattle.proved_sets.proofs.Settled.{refusals-empty}
+use Rattle.proved_sets.proofs.Zeroed.{rest-zero}
+use Rattle.proved_runs.proofs.Bounds as runs
+use Rattle.proved_runs.proofs.RefusedBounds as refused-runs
+use Rattle.proved_runs.proofs.EndingBounds.{sum-of-runs}
+use Rattle.proved_reading.proofs.Meaning.{given, only, tidy, refused-empty, up-to-seven}
+use Rattle.proved_reading.proofs.HandedOut.{handed-out-ok}
+use Rattle.proved_reading.proofs.BlockSets.{block-zeroed, filled-empty, block-empty, empty-fits}
+use Rattle.proved_reading.proofs.LineSets.{line-empty, line-zeroed, line-set-ok, block-set-ok, run-set-ok}
+use Rattle.proved_reading.proofs.LengthsAgree.{agree}
+use Rattle.proved_reading.proofs.LengthsFair.{fair-block, fair-wraps}
+use Rattle.proved_sheets.proofs.Answers.{next-zeroed}
+use Rattle.proved_sheets.proofs.Calls.{refused-untouched}
+use Rattle.proved_demands.specs.Demands.{Numbered, NoneIfRefused, NoSet, LeftAsStated, ByStandards, ByGrammar, LastCloseDropped, QuickTest, Lookahead, EightNever, RowsZero, SetsWellFormed}
+
+-- ======== a refusal's number
+
+pub numbered : Numbered
+numbered = record { among = number-among; own = number-own }
+
+-- ======== "hands out no set"
+
+abbrev Empties : Filled → Type 0
+Empties f = NoneIfRefused (f .outcome) (f .set)
+
+none : (q : Refusal) → Empties (refusing q)
+none q r e = refl
+
+next-empties : (t : List ℕ) (cap at : ℕ) → NoneIfRefused (nextOf t cap at .block .outcome) (nextOf t cap at .block .set)
+unfolding nextOf
+next-empties t cap at = go (tooLong t) (ltb cap maxText) (onlyBlocks (triesAt t cap 0 at))
+  where
+    R : Bool → Bool → List Try → Next
+    R x y bs = cond x (nowhere TextTooLong at) (cond y (nowhere JoinFull at) (firstBlock t at bs))
+
+    go : (x y : Bool) (bs : List Try) → NoneIfRefused (R x y bs .block .outcome) (R x y bs .block .set)
+    go true y bs = none TextTooLong
+    go false true bs = none JoinFull
+    go false false [] = none NothingThere
+    go false false (b ∷ bs) = block-empty t (b .at) (b .found)
+
+pub no-set : NoSet
+no-set =
+    record {
+      brace = λ m t i r e. refused-empty m t i e;
+      line = line-empty;
+      block = block-empty;
+      run = λ t n base cap. block-empty t (placeOf t n) (wrappedFound t n base cap);
+      next = next-empties;
+      merge = λ t a b r e. filled-empty (refusals-empty .merge t a b) e;
+    }
+
+-- ======== lent memory
+
+writer-leaves : (t : List ℕ) (a : Attrs) (buf : List ℕ) (r : Refusal) → attrsWrote t a (length buf) ≡ wrote.Refused r → attrsContent t a buf ≡ buf
+unfolding attrsWrote attrsContent wroteOf contentAfter
+writer-leaves t a buf r = go (writable t a) (hasRoom (length buf) (length xs))
+  where
+    xs : List ℕ
+    xs = canon (meaningOf (one t) a)
+
+    go : (c : Outcome) (b : Bool) → orRefused c (cond b (wrote.Bytes (length xs)) (wrote.Refused CanonTooLong)) ≡ wrote.Refused r → orLeft c buf (cond b (over xs buf) buf) ≡ buf
+    go (outcome.Refused q) b e = refl
+    go outcome.Passed false e = refl
+    go outcome.Passed true e = contra true refl (cc)
+
+pub left-as-stated : LeftAsStated
+unfolding joinHolds
+left-as-stated =
+    record {
+      front = λ buf f. take-at (joinedIn f) (drop (length (joinedIn f)) buf) (length (joinedIn f)) refl;
+      rest = λ buf f. drop-at (joinedIn f) (drop (length (joinedIn f)) buf) (length (joinedIn f)) refl;
+      writer = writer-leaves;
+      start = λ t out cap r. refused-untouched t out 0 0 cap r .1;
+      part = λ t out at n cap r. refused-untouched t out at n cap r .0;
+      target = λ was f r e. sym (refused-stands was f e);
+    }
+
+-- ======== Demand 2
+
+pub by-standards : ByStandards
+by-standards =
+    record {
+      utf8 = λ s. (utf8.sound s, λ w. utf8.complete w);
+      escapes = λ s t. (λ e. rw e at (escapes.stands s), λ h. escapes.only h);
+      tabs = no-tab;
+      columns = columns-count;
+      indent = λ s. sym (indent-spaces s);
+    }
+
+pub by-grammar : ByGrammar
+by-grammar =
+    record {
+      payload = λ m at s is. (payloads.sound m at s is, λ p. payloads.complete p);
+      blocks = λ m at s is. (chains.sound m at s is, λ p. lines-of-blocks.complete p);
+      given = given;
+      only = λ m t i a es h. let g = only h in (g .answer, g .means);
+      line = λ t from to is p d. line-merged Loose t from to is d p;
+      merge = λ t a b d. merge-gives t a b d .means;
+      counts = λ t at f. let g = agree t at f in (g .0, g .1 .0);
+    }
+
+-- ======== to be proved
+
+pub last-close-dropped : LastCloseDropped
+last-close-dropped t start i h = go (isBefore (lastClose t) start) refl
+  where
+    go : (x : Bool) → isBefore (lastClose t) start ≡ x → cond x Nothing (findClose t (suc i)) ≡ findClose t (suc i)
+    go true e = sym (third-argument t start (suc i) h e)
+    go false e = refl
+
+pub quick-test : QuickTest
+quick-test m t i e is c p = quick-passes p t (c .rest) i (c .whole)
+
+pub lookahead : Lookahead
+unfolding runAt
+lookahead =
+    record {
+      sum = λ cap base t at. lookahead-sum cap base (map asIs (lines (drop at t)));
+      bound = λ cap base t at. runs.lookahead-le cap base t at .1;
+      block = λ t n base cap. fair-block t cap n base .lookahead;
+      wrapped = λ t n base cap. fair-wraps t cap n base .lookahead;
+      refused = refused-runs.lookahead-le;
+      ends = sum-of-runs;
+    }
+
+-- ---- 8
+
+abbrev Eight : Outcome → Type 0
+Eight o = o ≡ outcome.Refused TooManySlots
+
+brace-eight : (m : Mode) (t : List ℕ) (i : ℕ) → readAttrsAt m t i .answer ≡ answer.Refused TooManySlots → ⊥
+unfolding numberOf
+brace-eight m t i e = let k : numberOf TooManySlots ≤ 7 = rw e at (up-to-seven m t i) in omega (arith, k)
+
+line-eight : (t : List ℕ) (n : ℕ) → Eight (parseStandalone t n .outcome) → ⊥
+unfolding parseStandalone startAt checkOf lineRead
+line-eight t n = go (ltb maxText (length t)) (isUtf8 t) (lineOf n t)
+  where
+    opened : (at : ℕ) (b : Bool) → Eight (cond b (chainAt Loose t (frontOf t at .from) (frontOf t at .to)) (refusing NothingThere) .outcome) → ⊥
+    opened at true e = never-slots .chain Loose t (frontOf t at .from) (frontOf t at .to) e
+    opened at false e = contra true refl (cc)
+
+    go : (x y : Bool) (l : places.Line) → Eight (onStart refusing (lineRead t) (begun (cond x (outcome.Refused TextTooLong) (cond y outcome.Passed (outcome.Refused NotUtf8))) l) .outcome) → ⊥
+    go true y l e = contra true refl (cc)
+    go false false l e = contra true refl (cc)
+    go false true place.Missing e = contra true refl (cc)
+    go false true (place.At r) e = opened (r .from) (opensAt t (r .from)) e
+
+block-eight : (t : List ℕ) (at : ℕ) (f : Found) → isIn (0 ∷ 1 ∷ 2 ∷ 3 ∷ 5 ∷ 9 ∷ []) (lengthNo (lengthOf f)) ≡ true → Eight (blockOf t at f .outcome) → ⊥
+unfolding blockOf isIn numberOf
+block-eight t at Found.line h e = never-slots .chain Loose t (frontOf t at .from) (frontOf t at .to) e
+block-eight t at (Found.run r) h e = never-slots .chain Loose (r .text) 0 (length (r .text)) e
+block-eight t at (Found.none q x n) h e = let z : q ≡ TooManySlots = cc in contra false (rw z at h) refl
+
+pub eight-never : EightNever
+eight-never =
+    record {
+      brace = brace-eight;
+      line = line-eight;
+      block = λ t n base cap. block-eight t (placeOf t n) (blockFound t n base cap) (fair-block t cap n base .number);
+      run = λ t n base cap. block-eight t (placeOf t n) (wrappedFound t n base cap) (fair-wraps t cap n base .number);
+      merge = never-slots .merge;
+    }
+
+-- ---- sets handed out
+
+pub rows-zero : RowsZero
+rows-zero =
+    record {
+      brace = λ m t i. tidy m t i .past;
+      line = line-zeroed;
+      block = block-zeroed;
+      next = next-zeroed;
+      merge = rest-zero .merge;
+    }
+
+merge-well : (t : List ℕ) (a b : Attrs) → isText t ≡ true → wellFormed t (mergeOf t a b .set) ≡ true
+merge-well t a b h = go (mergeOf t a b .outcome) refl
+  where
+    go : (o : Outcome) → mergeOf t a b .outcome ≡ o → wellFormed t (mergeOf t a b .set) ≡ true
+    go outcome.Passed e = merge-gives t a b e .formed
+    go (outcome.Refused r) e = rw (filled-empty (refusals-empty .merge t a b) e) (empty-fits t h)
+
+pub sets-well-formed : SetsWellFormed
+sets-well-formed =
+    record {
+      brace = handed-out-ok;
+      line = λ t n h. line-set-ok t h n;
+      block = λ t n base cap h. block-set-ok t h n base cap;
+      run = λ t n base cap h. run-set-ok t h n base cap;
+      merge = merge-well;
+    }

@@ -1,0 +1,218 @@
+-- What is demanded, in statements that are proved: the page to read first. Each stands under the sentence that it renders, in quotes, of document 01 (docs/SCOPE.md) or of one of its
+-- three demands. `Canonical` beside this page says demand 3 again of the bytes that calls write, and `Cases` has the twelve cases and the example; the other crates
+-- proved_* state the theorems of their subjects. A statement's proof is in proofs/Demands.antt, under its name with hyphens, or in proofs/Single.antt and proofs/Canonical.antt.
+use mathlib.Core.Path.{_≡_}
+use mathlib.Core.Bool.{true, false, not, cond}
+use mathlib.Core.List.{List, [], map}
+use Prim.Native.Nat.{ℕ, suc, _+_, _≤_}
+use lib.Dec.{eqb}
+use lib.ListN.{length, take, drop}
+use lib.Seq.{slice}
+use Rattle.base_lists.specs.Lists.{all, run, over}
+use Rattle.base_bytes.specs.Bytes.{space, tab}
+use Rattle.base_bytes.specs.declared.Mode.{Mode}
+use Rattle.base_bytes.specs.declared.Mode.the-variants.{Strict, Loose}
+use Rattle.base_refusals.specs.Numbers.{maxText, lastNumber, numberOf}
+use Rattle.base_refusals.specs.declared.Refusal.{Refusal}
+use Rattle.base_refusals.specs.declared.Refusal.the-variants.{TooManySlots}
+use Rattle.base_refusals.specs.declared.Outcome.{Outcome}
+use Rattle.base_refusals.specs.declared.Outcome.the-variants as outcome
+use Rattle.text_utf8.specs.Utf8.{isUtf8, charCount}
+use Rattle.text_utf8.specs.Grammar.{WellFormed}
+use Rattle.text_escapes.specs.Unescape.{unescape}
+use Rattle.text_escapes.specs.Rules.{StandsFor}
+use Rattle.text_tabs.specs.Columns.{columnsFrom, indentColumns, expandFrom}
+use Rattle.text_lines.specs.Lines.{lines}
+use Rattle.text_checks.specs.Check.{isText}
+use Rattle.text_line_start.specs.Starts.{placeOf}
+use Rattle.block_grammar.specs.Grammar.{Placed, Payload}
+use Rattle.block_grammar.specs.Read.{Reading, readPayload}
+use Rattle.block_grammar.specs.Close.{Closes, findClose, lastClose, isBefore}
+use Rattle.block_grammar.specs.Quick.{quickRefuses}
+use Rattle.block_grammar.specs.Meaning.{Entry, meaning, puts}
+use Rattle.block_grammar.specs.declared.Place.the-variants.{Nothing}
+use Rattle.block_chain.specs.Chain.{Blocks, blockItems, merged, readBlocks}
+use Rattle.set_canon.specs.Canon.{canon}
+use Rattle.set_table.specs.Types.{one, emptySet}
+use Rattle.set_table.specs.Rows.{meaningOf}
+use Rattle.set_table.specs.declared.Attrs.{Attrs}
+use Rattle.set_table.specs.declared.Filled.{Filled}
+use Rattle.set_fill.specs.Fill.{chainAt}
+use Rattle.set_wellformed.specs.WellFormed.{wellFormed}
+use Rattle.set_writer.specs.Write.{attrsWrote, attrsContent}
+use Rattle.set_writer.specs.declared.Wrote.the-variants as wrote
+use Rattle.set_merge.specs.Merge.{mergeOf}
+use Rattle.set_lent.specs.Lent.{endOf}
+use Rattle.run_lines.specs.Runs.{asIs, runAt, sizes}
+use Rattle.run_refused.specs.Refused.{refusedRun}
+use Rattle.run_endings.specs.Endings.{endsIn}
+use Rattle.read_brace.specs.Brace.{readAttrsAt}
+use Rattle.read_brace.specs.Table.{Given}
+use Rattle.read_brace.specs.declared.Answer.{Answer}
+use Rattle.read_brace.specs.declared.Answer.the-variants as answer
+use Rattle.read_blocks.specs.Blocks.{Found, joinedIn, lookaheadOf, joinHolds, textIn, blockOf}
+use Rattle.read_blocks.specs.ByLine.{blockFound, wrappedFound}
+use Rattle.read_by_line.specs.Entries.{parseStandalone}
+use Rattle.read_lengths.specs.Lengths.{linesIn, measured}
+use Rattle.sheet_blocks.specs.Sheets.{nextOf}
+use Rattle.sheet_report.specs.Parts.{partOf, startOf}
+use Rattle.sheet_report.specs.declared.Told.the-variants as told
+use Rattle.proved_sets.specs.HandedOut.{Zeroed}
+
+-- "exactly when"
+abbrev pub Iff : Type 0 → Type 0 → Type 0
+Iff P Q = (P → Q) × (Q → P)
+
+-- ======== Demand 1: "Every byte sequence, place, line number and table gets an answer; no entry relies on its caller"
+--
+-- This is a property of the contracts: no public function has a `requires`, and each promises its result, and what memory lent to it then holds, by equations with
+-- definitions that have a value for all inputs. docs/PROMISES.md lists them.
+
+-- "Any two results it allows are proved equal": an equation with a definition allows one value v
+abbrev pub Single : {A : Type 0} → A → A → A → Type 0
+Single v r r′ = r ≡ v → r′ ≡ v → r ≡ r′
+
+-- a result, and with it what lent memory holds
+abbrev pub SingleBoth : {A B : Type 0} → A → B → A → A → B → B → Type 0
+SingleBoth v w r r′ m m′ = (r ≡ v) × (m ≡ w) → (r′ ≡ v) × (m′ ≡ w) → (r ≡ r′) × (m ≡ m′)
+
+-- "a refusal has its number from document 01": one of the table, and no two have the same. Which comes when, in which order,
+-- is stated below of reading at a brace (`Given`), and by the other crates proved_* of the other entries.
+pub record Numbered : Type 0 where
+  pub among : (r : Refusal) → (1 ≤ numberOf r) × (numberOf r ≤ lastNumber)
+  pub own : (q r : Refusal) → numberOf q ≡ numberOf r → q ≡ r
+
+-- "hands out no set": where the outcome is a refusal, the set beside it is the empty one
+abbrev pub NoneIfRefused : Outcome → Attrs → Type 0
+NoneIfRefused o a = (r : Refusal) → o ≡ outcome.Refused r → a ≡ emptySet
+
+pub record NoSet : Type 0 where
+  -- `read_attrs_at`
+  pub brace : (m : Mode) (t : List ℕ) (i : ℕ) (r : Refusal) → readAttrsAt m t i .answer ≡ answer.Refused r → readAttrsAt m t i .set ≡ emptySet
+  -- `parse_standalone_attrs`
+  pub line : (t : List ℕ) (n : ℕ) → NoneIfRefused (parseStandalone t n .outcome) (parseStandalone t n .set)
+  -- `parse_standalone_attrs_block`, and the same by place: whatever lines were found
+  pub block : (t : List ℕ) (at : ℕ) (f : Found) → NoneIfRefused (blockOf t at f .outcome) (blockOf t at f .set)
+  -- `wrapped_attrs_run_at`
+  pub run : (t : List ℕ) (n base cap : ℕ) → NoneIfRefused (blockOf t (placeOf t n) (wrappedFound t n base cap) .outcome) (blockOf t (placeOf t n) (wrappedFound t n base cap) .set)
+  -- `next_block`, of a whole sheet
+  pub next : (t : List ℕ) (cap at : ℕ) → NoneIfRefused (nextOf t cap at .block .outcome) (nextOf t cap at .block .set)
+  -- `merge_attrs` and `merge_leading_attrs`
+  pub merge : (t : List ℕ) (a b : Attrs) → NoneIfRefused (mergeOf t a b .outcome) (mergeOf t a b .set)
+
+-- "and leaves lent memory exactly as stated there"
+pub record LeftAsStated : Type 0 where
+  -- "After every call the join buffer holds the joined lines at its front, the rest untouched"
+  pub front : (buf : List ℕ) (f : Found) → take (length (joinedIn f)) (joinHolds buf f) ≡ joinedIn f
+  pub rest : (buf : List ℕ) (f : Found) → drop (length (joinedIn f)) (joinHolds buf f) ≡ drop (length (joinedIn f)) buf
+  -- "A refusal touches no other lent memory": `write_attrs`
+  pub writer : (t : List ℕ) (a : Attrs) (buf : List ℕ) (r : Refusal) → attrsWrote t a (length buf) ≡ wrote.Refused r → attrsContent t a buf ≡ buf
+  -- `report_start` and `report_part`
+  pub start : (t out : List ℕ) (cap : ℕ) (r : Refusal) → startOf t cap (length out) .told ≡ told.Refused r → over (startOf t cap (length out) .text) out ≡ out
+  pub part : (t out : List ℕ) (at n cap : ℕ) (r : Refusal) → partOf t at n cap (length out) .told ≡ told.Refused r → over (partOf t at n cap (length out) .text) out ≡ out
+  -- "a merge's target included": `merge_into` and `merge_leading_into`, which leave `endOf` what the set was and what the merge came to
+  pub target : (was : Attrs) (f : Filled) (r : Refusal) → f .outcome ≡ outcome.Refused r → endOf was f ≡ was
+
+-- ======== Demand 2: "Reading, line counts and merging equal the original on the scope's domain, and are proved against the payload grammar, RFC 3629 and CommonMark 0.31.2"
+--
+-- That they equal the original is shown by runs beside it (docs/DIFFERENCES.md); the rest is this.
+
+pub record ByStandards : Type 0 where
+  -- RFC 3629, section 4
+  pub utf8 : (s : List ℕ) → Iff (isUtf8 s ≡ true) (WellFormed s)
+  -- CommonMark 2.4: "Any ASCII punctuation character may be backslash-escaped", "Backslashes before other characters are treated as literal backslashes"
+  pub escapes : (s t : List ℕ) → Iff (unescape s ≡ t) (StandsFor s t)
+  -- CommonMark 2.2: tabs "behave as if they were replaced by spaces with a tab stop of 4 characters". `expandFrom c` replaces them, in a text that stands at column c:
+  -- a column is a number of characters then, and indentation a number of leading spaces
+  pub tabs : (c : ℕ) (s : List ℕ) → all (λ b. not (eqb b tab)) (expandFrom c s) ≡ true
+  pub columns : (c : ℕ) (s : List ℕ) → columnsFrom c s ≡ c + charCount (expandFrom c s)
+  pub indent : (s : List ℕ) → indentColumns s ≡ run (λ b. eqb b space) (expandFrom 0 s)
+
+pub record ByGrammar : Type 0 where
+  -- "A payload is one or more tokens parted by blanks, which may stand at both ends."
+  pub payload : (m : Mode) (at : ℕ) (s : List ℕ) (is : List Placed) → Iff (readPayload m at s ≡ Reading.items is) (Payload m at s is)
+  -- "blocks stand back to back to its end"
+  pub blocks : (m : Mode) (at : ℕ) (s : List ℕ) (is : List Placed) → Iff (readBlocks m at s ≡ Reading.items is) (Blocks m at s is)
+  -- "Given exactly when", at a brace: `Given` has a rule for each number of the table and for a set with its meaning. Reading answers by a rule,
+  pub given : (m : Mode) (t : List ℕ) (i : ℕ) → Given m t i (readAttrsAt m t i .answer) (meaningOf (one t) (readAttrsAt m t i .set))
+  -- and nothing else: "a reader that always refuses or always gives one set" is shut out
+  pub only : (m : Mode) (t : List ℕ) (i : ℕ) (a : Answer) (es : List Entry) → Given m t i a es
+      → (readAttrsAt m t i .answer ≡ a) × (meaningOf (one t) (readAttrsAt m t i .set) ≡ es)
+  -- "and are merged left to right": the set of a line means the merge of its blocks. "a chain reader that reads block one and skips the others" is shut out
+  pub line : (t : List ℕ) (from to : ℕ) (is : List Placed) (p : Blocks Loose from (slice from to t) is) → chainAt Loose t from to .outcome ≡ outcome.Passed
+      → meaningOf (one t) (chainAt Loose t from to .set) ≡ merged [] (map meaning (blockItems p))
+  -- "a later id wins, classes are joined, later key values win, new slots go behind": so `puts` has it
+  pub merge : (t : List ℕ) (a b : Attrs) → mergeOf t a b .outcome ≡ outcome.Passed → meaningOf (one t) (mergeOf t a b .set) ≡ puts (meaningOf (one t) a) (meaningOf (one t) b)
+  -- line counts: what is read and what is measured have the same lines and lookahead
+  pub counts : (t : List ℕ) (at : ℕ) (f : Found) → (blockOf t at f .lines ≡ linesIn (measured t at f .length)) × (blockOf t at f .lookahead ≡ measured t at f .lookahead)
+
+-- ======== "To be proved"
+
+-- "its dropped third argument, the true place of the text's last `}`, changes nothing": to find no close wherever that `}` stands before the place `start`, as
+-- 000 does, finds what is found without it
+abbrev pub LastCloseDropped : Type 0
+LastCloseDropped = (t : List ℕ) (start i : ℕ) → start ≤ suc i → cond (isBefore (lastClose t) start) Nothing (findClose t (suc i)) ≡ findClose t (suc i)
+
+-- "the quick test refuses nothing that the grammar accepts": a payload in either mode between the brace at i and its close
+abbrev pub QuickTest : Type 0
+QuickTest = (m : Mode) (t : List ℕ) (i e : ℕ) (is : List Placed) (c : Closes (drop (suc i) t) (suc i) e) → Payload m (suc i) (c .inside) is → quickRefuses t i ≡ false
+
+-- "The lookahead is the sum of the untrimmed lengths of the lines joined, reported with each run, refused or not; at most the text's length."
+pub record Lookahead : Type 0 where
+  pub sum : (cap base : ℕ) (t : List ℕ) (at : ℕ) → runAt cap base t at .lookahead ≡ sizes (take (runAt cap base t at .lines) (map asIs (lines (drop at t))))
+  pub bound : (cap base : ℕ) (t : List ℕ) (at : ℕ) → runAt cap base t at .lookahead ≤ length t
+  pub block : (t : List ℕ) (n base cap : ℕ) → lookaheadOf (blockFound t n base cap) ≤ length t
+  pub wrapped : (t : List ℕ) (n base cap : ℕ) → lookaheadOf (wrappedFound t n base cap) ≤ length t
+  pub refused : (cap : ℕ) (t : List ℕ) (n : ℕ) → refusedRun cap t n .lookahead ≤ length t
+  -- "`ends_in_refused_brace_run` reports its runs' sum, which keeps that bound."
+  pub ends : (buf t : List ℕ) → endsIn buf t .lookahead ≤ length t
+
+-- "more than 34 slots", 8, never arises: 32 keys, the id and the classes are 34 slots
+pub record EightNever : Type 0 where
+  pub brace : (m : Mode) (t : List ℕ) (i : ℕ) → readAttrsAt m t i .answer ≡ answer.Refused TooManySlots → ⊥
+  pub line : (t : List ℕ) (n : ℕ) → parseStandalone t n .outcome ≡ outcome.Refused TooManySlots → ⊥
+  pub block : (t : List ℕ) (n base cap : ℕ) → blockOf t (placeOf t n) (blockFound t n base cap) .outcome ≡ outcome.Refused TooManySlots → ⊥
+  pub run : (t : List ℕ) (n base cap : ℕ) → blockOf t (placeOf t n) (wrappedFound t n base cap) .outcome ≡ outcome.Refused TooManySlots → ⊥
+  pub merge : (t : List ℕ) (a b : Attrs) → mergeOf t a b .outcome ≡ outcome.Refused TooManySlots → ⊥
+
+-- "Rows past the counts are zero in every set handed out"
+pub record RowsZero : Type 0 where
+  pub brace : (m : Mode) (t : List ℕ) (i : ℕ) → Zeroed (readAttrsAt m t i .set)
+  pub line : (t : List ℕ) (n : ℕ) → Zeroed (parseStandalone t n .set)
+  pub block : (t : List ℕ) (at : ℕ) (f : Found) → Zeroed (blockOf t at f .set)
+  pub next : (t : List ℕ) (cap at : ℕ) → Zeroed (nextOf t cap at .block .set)
+  pub merge : (t : List ℕ) (a b : Attrs) → Zeroed (mergeOf t a b .set)
+
+-- "and it is well-formed if its text gives neither 1 nor 2": that of a block over `textIn`, the lent text or the joined one
+pub record SetsWellFormed : Type 0 where
+  pub brace : (m : Mode) (t : List ℕ) (i : ℕ) → isText t ≡ true → wellFormed t (readAttrsAt m t i .set) ≡ true
+  pub line : (t : List ℕ) (n : ℕ) → isText t ≡ true → wellFormed t (parseStandalone t n .set) ≡ true
+  pub block : (t : List ℕ) (n base cap : ℕ) → isText t ≡ true → wellFormed (textIn t (blockFound t n base cap)) (blockOf t (placeOf t n) (blockFound t n base cap) .set) ≡ true
+  pub run : (t : List ℕ) (n base cap : ℕ) → isText t ≡ true → wellFormed (textIn t (wrappedFound t n base cap)) (blockOf t (placeOf t n) (wrappedFound t n base cap) .set) ≡ true
+  pub merge : (t : List ℕ) (a b : Attrs) → isText t ≡ true → wellFormed t (mergeOf t a b .set) ≡ true
+
+-- ======== Demand 3
+
+-- the canonical text of a set over its text
+abbrev pub canonOf : List ℕ → Attrs → List ℕ
+canonOf t a = canon (meaningOf (one t) a)
+
+-- "non-empty well-formed sets whose canonical text fits"
+pub record CanonFits (t : List ℕ) (a : Attrs) : Type 0 where
+  pub well : wellFormed t a ≡ true
+  pub some : meaningOf (one t) a ≡ [] → ⊥
+  pub short : length (canonOf t a) ≤ maxText
+
+-- "Two non-empty well-formed sets whose canonical text fits have equal canonical texts exactly when they mean the same", be they over one text or over two
+abbrev pub EqualTexts : Type 0
+EqualTexts = (t t′ : List ℕ) (a a′ : Attrs) → CanonFits t a → CanonFits t′ a′ → Iff (canonOf t a ≡ canonOf t′ a′) (meaningOf (one t) a ≡ meaningOf (one t′) a′)
+
+-- "a canonical text reads back, to its last byte, with that meaning": by `read_attrs_at` at byte 0; and what was read may be written, and is written as it stood
+pub record ReadsBack (c : List ℕ) (m : List Entry) : Type 0 where
+  pub answer : readAttrsAt Strict c 0 .answer ≡ answer.Next (length c)
+  pub means : meaningOf (one c) (readAttrsAt Strict c 0 .set) ≡ m
+  pub fits : CanonFits c (readAttrsAt Strict c 0 .set)
+  pub again : canonOf c (readAttrsAt Strict c 0 .set) ≡ c
+
+abbrev pub CanonReadsBack : Type 0
+CanonReadsBack = (t : List ℕ) (a : Attrs) → CanonFits t a → ReadsBack (canonOf t a) (meaningOf (one t) a)

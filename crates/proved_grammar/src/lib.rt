@@ -1,0 +1,1 @@
+// Theorems about the payload grammar, blocks back to back, and the tokens of a text.

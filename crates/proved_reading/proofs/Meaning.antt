@@ -1,0 +1,270 @@
+-- Reading at a brace gives what the table's rules say and nothing else, for every text and place: the numbers, the place behind the close, the meaning.
+-- Assumes nothing.
+use mathlib.Core.Path.{_≡_, refl, sym, _∙_, ap}
+use mathlib.Core.Bool.{Bool, true, false, cond}
+use mathlib.Core.List.{List, [], _∷_, _++_, map}
+use Prim.Native.Nat.{ℕ, suc, _<_, _≤_}
+use native.Mathlib.Omega.{arith}
+use borrow.Author.Tests.{eqb-true, eq-eqb, ltb-true, ltb-false, lt-ltb, le-ltb}
+use lib.Dec.{ltb, eqb}
+use lib.ListN.{length, getD, take, drop, take-append-drop, length-take, length-map}
+use Rattle.base_lists.proofs.Scan.{both}
+use Rattle.base_lists.proofs.Parts.{slice-part}
+use Rattle.base_lists.proofs.More.{contra}
+use Rattle.base_bytes.specs.declared.Mode.{Mode}
+use Rattle.text_utf8.specs.Utf8.{isUtf8}
+use Rattle.text_utf8.specs.Grammar.{WellFormed}
+use Rattle.proved_texts.proofs.Utf8Grammar as utf8
+use Rattle.base_refusals.specs.Numbers.{maxText, numberOf}
+use Rattle.base_refusals.specs.declared.Refusal.{Refusal}
+use Rattle.base_refusals.specs.declared.Refusal.the-variants.{NothingThere, NoClose, NoReading, TooManyClasses, TooManyKeys}
+use Rattle.block_grammar.specs.Grammar.{Placed, Payload}
+use Rattle.block_grammar.specs.Read.{Reading, readPayload}
+use Rattle.block_grammar.specs.Meaning.{Entry, entriesOf, meaning}
+use Rattle.block_grammar.specs.Close.{Closes, findClose}
+use Rattle.block_grammar.specs.declared.Place.{Place}
+use Rattle.block_grammar.specs.declared.Place.the-variants.{Nothing, At}
+use Rattle.block_grammar.proofs.Payload.{sound, complete}
+use Rattle.block_grammar.proofs.Close.{found, payload-is}
+use Rattle.set_table.specs.Types.{one, emptySet, maxClasses, maxKeys, maxSlots, zeroValue, zeroRow, zeroSlot}
+use Rattle.set_table.specs.Rows.{Rows, noRows, withPuts, held, tableOf, meaningOf}
+use Rattle.set_table.specs.Puts.{putsIn}
+use Rattle.proved_sets.proofs.TableMeant.{shaped-none}
+use Rattle.proved_sets.proofs.Items.{rows-mean, rows-shaped}
+use Rattle.set_table.proofs.Table.{padded-length}
+use Rattle.set_table.specs.Filled.{limited}
+use Rattle.set_fill.specs.Fill as fills
+use Rattle.proved_sets.proofs.Zeroed.{table-zeroed}
+use Rattle.proved_sets.proofs.Slots.{slots-fit}
+use Rattle.proved_sets.proofs.TableWhole.{table-means, empty-table, empty-means}
+use Rattle.read_brace.specs.declared.Answer.{Answer}
+use Rattle.read_brace.specs.declared.Answer.the-variants.{Refused, Next}
+use Rattle.read_brace.specs.declared.Read.{Read}
+use Rattle.read_brace.specs.Brace.{braceNo, refusingRead, braceAt, payloadOf, finished, readTo, atBrace, readAttrsAt}
+use Rattle.read_brace.specs.Table.{classCount, keyCount, BraceAt, BlockAt, Reads, Given}
+use Rattle.proved_reading.specs.AtBraces.{ByTable, TableAnswers, OneAnswer, UpToSeven, Means, SetMeansItems, MustRead}
+use Rattle.proved_reading.specs.HandedSets.{BraceRefused, Tidy, BraceTidy}
+use Rattle.proved_reading.proofs.Counts.{class-fill, key-fill}
+use Rattle.proved_grammar.proofs.Close.{close-complete, no-close}
+use Rattle.proved_grammar.proofs.Payload.{no-reading}
+use Rattle.proved_grammar.proofs.Places.{Standing, standing}
+
+-- ======== the parts
+
+opens : (t : List ℕ) (i : ℕ) → braceAt t i ≡ true → BraceAt t i
+unfolding braceAt
+opens t i e =
+    let z = both (ltb i (length t)) (eqb (getD t i 0) 123) e in
+    record { there = ltb-true i (length t) (z .0); brace = eqb-true (getD t i 0) 123 (z .1) }
+
+opened : {t : List ℕ} {i : ℕ} → BraceAt t i → braceAt t i ≡ true
+unfolding braceAt
+opened {t} {i} o = rw (lt-ltb i (length t) (o .there), eq-eqb (getD t i 0) 123 (o .brace))
+
+not-utf8 : (s : List ℕ) → (WellFormed s → ⊥) → isUtf8 s ≡ false
+not-utf8 s n = go (isUtf8 s) refl
+  where
+    go : (x : Bool) → isUtf8 s ≡ x → x ≡ false
+    go true e = absurd (n (utf8.sound s e))
+    go false e = refl
+
+never-closes : (t : List ℕ) (i : ℕ) → findClose t (suc i) ≡ Nothing → (e : ℕ) → Closes (drop (suc i) t) (suc i) e → ⊥
+unfolding findClose
+never-closes t i h e c = no-close (drop (suc i) t) (suc i) h c
+
+module _ {t : List ℕ} {i e : ℕ} (b : BlockAt t i e) where
+  inside-is : payloadOf t i e ≡ b .closes .inside
+  inside-is = slice-part (suc i) e t ∙ payload-is t (suc i) (b .closes)
+
+  close-is : findClose t (suc i) ≡ At e
+  unfolding findClose
+  close-is = close-complete (b .closes)
+
+  -- the code's way to the payload
+  reads-to : (m : Mode) {r : Read} → readTo m t i (At e) ≡ r → readAttrsAt m t i ≡ r
+  unfolding readAttrsAt atBrace
+  reads-to m h = rw (le-ltb maxText (length t) (b .short), opened (b .opens), close-is) h
+
+  stands : {m : Mode} {is : List Placed} → Payload m (suc i) (b .closes .inside) is → Standing t is
+  stands {is = is} p =
+      let z : length (take (suc i) t) ≡ suc i = omega (arith, length-take (suc i) t, b .opens .there) in
+      let w : take (suc i) t ++ (b .closes .inside ++ (125 ∷ b .closes .rest)) ≡ t = ap (λ u. take (suc i) t ++ u) (sym (b .closes .whole)) ∙ take-append-drop (suc i) t in
+      rw w at (standing p (take (suc i) t) (125 ∷ b .closes .rest) z)
+
+-- ======== a payload that the grammar reads: 6, 7, or its set
+module _ {m : Mode} {t : List ℕ} {i e : ℕ} {is : List Placed} (h : Reads m t i e is) where
+  st : Standing t is
+  st = stands (h .block) (h .payload)
+
+  reads-filled : {f : Read} → finished (limited (withPuts (one t) noRows (putsIn is))) (suc e) ≡ f → readAttrsAt m t i ≡ f
+  unfolding fills.filledOf
+  reads-filled k = reads-to (h .block) m (rw (inside-is (h .block), utf8.complete (h .utf8), complete (h .payload)) k)
+
+  reads-classes : maxClasses < classCount (entriesOf is) → readAttrsAt m t i ≡ refusingRead TooManyClasses
+  unfolding finished limited
+  reads-classes l = reads-filled (rw (class-fill st, lt-ltb maxClasses (classCount (entriesOf is)) l))
+
+  module _ (l : classCount (entriesOf is) ≤ maxClasses) where
+    reads-keys : maxKeys < keyCount (entriesOf is) → readAttrsAt m t i ≡ refusingRead TooManyKeys
+    unfolding finished limited
+    reads-keys k = reads-filled (rw (class-fill st, le-ltb maxClasses (classCount (entriesOf is)) l, key-fill st, lt-ltb maxKeys (keyCount (entriesOf is)) k))
+
+    reads-set : keyCount (entriesOf is) ≤ maxKeys → readAttrsAt m t i ≡ record { answer = Next (suc e); set = tableOf (withPuts (one t) noRows (putsIn is)) }
+    unfolding finished limited
+    reads-set k =
+        let o : length (withPuts (one t) noRows (putsIn is) .order) ≤ maxSlots = slots-fit (rows-shaped st (shaped-none (one t))) (omega (arith, key-fill st)) in
+        reads-filled (rw (class-fill st, le-ltb maxClasses (classCount (entriesOf is)) l, key-fill st, le-ltb maxKeys (keyCount (entriesOf is)) k, le-ltb maxSlots (length (withPuts (one t) noRows (putsIn is) .order)) o))
+
+-- ======== what is given is by the rules
+abbrev Right : Mode → List ℕ → ℕ → Read → Type 0
+Right m t i r = Given m t i (r .answer) (meaningOf (one t) (r .set))
+
+module _ (m : Mode) (t : List ℕ) (i : ℕ) where
+  -- a refusal's set means nothing
+  without : {r : Refusal} → Given m t i (Refused r) [] → readAttrsAt m t i ≡ refusingRead r → Right m t i (readAttrsAt m t i)
+  without g e = rw (e, empty-means (one t)) g
+
+  with-items : {e : ℕ} {is : List Placed} → Reads m t i e is → Right m t i (readAttrsAt m t i)
+  with-items {e} {is} h = go (ltb maxClasses (classCount (entriesOf is))) refl (ltb maxKeys (keyCount (entriesOf is))) refl
+    where
+      go : (x : Bool) → ltb maxClasses (classCount (entriesOf is)) ≡ x → (y : Bool) → ltb maxKeys (keyCount (entriesOf is)) ≡ y → Right m t i (readAttrsAt m t i)
+      go true p y q = let l = ltb-true maxClasses (classCount (entriesOf is)) p in without (Given.classes h l) (reads-classes h l)
+      go false p true q =
+          let l = ltb-false maxClasses (classCount (entriesOf is)) p in
+          let k = ltb-true maxKeys (keyCount (entriesOf is)) q in
+          without (Given.keys h (omega (arith, l)) k) (reads-keys h l k)
+      go false p false q =
+          let l = ltb-false maxClasses (classCount (entriesOf is)) p in
+          let k = ltb-false maxKeys (keyCount (entriesOf is)) q in
+          rw (reads-set h l k, table-means (withPuts (one t) noRows (putsIn is)) (one t), rows-mean (st h)) (Given.read h l k)
+
+  with-block : {e : ℕ} → BlockAt t i e → Right m t i (readAttrsAt m t i)
+  unfolding finished fills.filledOf
+  with-block {e} b = go (isUtf8 (b .closes .inside)) refl (readPayload m (suc i) (b .closes .inside)) refl
+    where
+      go : (x : Bool) → isUtf8 (b .closes .inside) ≡ x → (r : Reading) → readPayload m (suc i) (b .closes .inside) ≡ r → Right m t i (readAttrsAt m t i)
+      go false p r q = without (Given.garbled b (λ w. contra (isUtf8 (b .closes .inside)) (utf8.complete w) p)) (reads-to b m (rw (inside-is b, p)))
+      go true p Reading.refused q = without (Given.unread b (utf8.sound (b .closes .inside) p) (no-reading m (suc i) (b .closes .inside) q)) (reads-to b m (rw (inside-is b, p, q)))
+      go true p (Reading.items is) q = with-items (record { block = b; utf8 = utf8.sound (b .closes .inside) p; payload = sound m (suc i) (b .closes .inside) is q })
+
+  pub given : ByTable m t i
+  unfolding readAttrsAt atBrace
+  given = go (ltb maxText (length t)) refl (braceAt t i) refl (findClose t (suc i)) refl
+    where
+      go : (x : Bool) → ltb maxText (length t) ≡ x → (y : Bool) → braceAt t i ≡ y → (p : Place) → findClose t (suc i) ≡ p → Right m t i (readAttrsAt m t i)
+      go true a y b p c = without (Given.long (omega (arith, ltb-true maxText (length t) a))) (rw a)
+      go false a false b p c = without (Given.none (ltb-false maxText (length t) a) (λ o. contra (braceAt t i) (opened o) b)) (rw (a, b))
+      go false a true b Nothing c = without (Given.unclosed (ltb-false maxText (length t) a) (opens t i b) (never-closes t i c)) (rw (a, b, c))
+      go false a true b (At e) c = with-block (record { short = ltb-false maxText (length t) a; opens = opens t i b; closes = found t (suc i) e c .closes })
+
+-- ======== and the rules give nothing else
+-- what is handed out, by the answer and the meaning: the empty set, or the rows that the items fill
+data Out (m : Mode) (t : List ℕ) (i : ℕ) : Answer → List Entry → Read → Type 0 where
+  no : (r : Refusal) → Out m t i (Refused r) [] (refusingRead r)
+  yes : {e : ℕ} {is : List Placed} → Reads m t i e is → classCount (entriesOf is) ≤ maxClasses → keyCount (entriesOf is) ≤ maxKeys
+      → Out m t i (Next (suc e)) (meaning is) (record { answer = Next (suc e); set = tableOf (withPuts (one t) noRows (putsIn is)) })
+
+module _ {m : Mode} {t : List ℕ} {i : ℕ} where
+  nothing : {r : Refusal} → readAttrsAt m t i ≡ refusingRead r → Out m t i (Refused r) [] (readAttrsAt m t i)
+  nothing {r} e = rw e (Out.no r)
+
+  exact : {a : Answer} {s : List Entry} → Given m t i a s → Out m t i a s (readAttrsAt m t i)
+  unfolding readAttrsAt atBrace finished fills.filledOf
+  exact (Given.long l) = nothing (rw (lt-ltb maxText (length t) (omega (arith, l))))
+  exact (Given.none l n) = nothing (rw (le-ltb maxText (length t) l) (go (braceAt t i) refl))
+    where
+      go : (x : Bool) → braceAt t i ≡ x → cond x (readTo m t i (findClose t (suc i))) (refusingRead NothingThere) ≡ refusingRead NothingThere
+      go true e = absurd (n (opens t i e))
+      go false e = refl
+  exact (Given.unclosed l o n) = nothing (rw (le-ltb maxText (length t) l, opened o) (go (findClose t (suc i)) refl))
+    where
+      go : (p : Place) → findClose t (suc i) ≡ p → readTo m t i p ≡ refusingRead NoClose
+      go Nothing e = refl
+      go (At k) e = absurd (n k (found t (suc i) k e .closes))
+  exact (Given.garbled b n) = nothing (reads-to b m (rw (inside-is b, not-utf8 (b .closes .inside) n)))
+  exact (Given.unread {e = e} b w n) = nothing (reads-to b m (rw (inside-is b, utf8.complete w) (go (readPayload m (suc i) (b .closes .inside)) refl)))
+    where
+      go : (r : Reading) → readPayload m (suc i) (b .closes .inside) ≡ r → finished (fills.filledBy (one t) r) (suc e) ≡ refusingRead NoReading
+      go Reading.refused q = refl
+      go (Reading.items is) q = absurd (n is (sound m (suc i) (b .closes .inside) is q))
+  exact (Given.classes h l) = nothing (reads-classes h l)
+  exact (Given.keys h l k) = nothing (reads-keys h (omega (arith, l)) k)
+  exact (Given.read h l k) = rw (reads-set h l k) (Out.yes h l k)
+
+module _ {m : Mode} {t : List ℕ} {i : ℕ} where
+  pub only : {a : Answer} {s : List Entry} → TableAnswers m t i a s
+  only g = let z = exact g in record { answer = answers z; means = meant z }
+    where
+      answers : {a : Answer} {s : List Entry} {r : Read} → Out m t i a s r → r .answer ≡ a
+      answers (Out.no r) = refl
+      answers (Out.yes h l k) = refl
+
+      meant : {a : Answer} {s : List Entry} {r : Read} → Out m t i a s r → meaningOf (one t) (r .set) ≡ s
+      meant (Out.no r) = empty-means (one t)
+      meant (Out.yes {is = is} h l k) = table-means (withPuts (one t) noRows (putsIn is)) (one t) ∙ rows-mean (st h)
+
+  -- so any two that are allowed are the same
+  pub single : {a b : Answer} {r s : List Entry} → OneAnswer m t i a b r s
+  single g h = (sym (only g .answer) ∙ only h .answer, sym (only g .means) ∙ only h .means)
+
+-- ======== what a caller asks
+
+module _ {m : Mode} {t : List ℕ} {i : ℕ} where
+  by-next : {a : Answer} {s : List Entry} → Given m t i a s → (n : ℕ) → a ≡ Next n → Means m t i n s
+  by-next (Given.long l) n e = contra true refl (cc)
+  by-next (Given.none l o) n e = contra true refl (cc)
+  by-next (Given.unclosed l o c) n e = contra true refl (cc)
+  by-next (Given.garbled b w) n e = contra true refl (cc)
+  by-next (Given.unread b w p) n e = contra true refl (cc)
+  by-next (Given.classes h l) n e = contra true refl (cc)
+  by-next (Given.keys h l k) n e = contra true refl (cc)
+  by-next (Given.read {e = c} {is = is} h l k) n e = record { close = c; items = is; reads = h; next = cc; meant = refl; classes = l; keys = k }
+
+  pub read-means : {n : ℕ} → SetMeansItems m t i n
+  read-means {n} e = by-next (given m t i) n e
+
+  pub must-read : {e : ℕ} {is : List Placed} → MustRead m t i e is
+  must-read h l k = only (Given.read h l k)
+
+-- ======== the set as it is handed out
+
+tidy-table : (s : Rows) → length (s .classes) ≤ maxClasses → length (s .keys) ≤ maxKeys → length (s .order) ≤ maxSlots → Tidy (tableOf s)
+unfolding tableOf
+tidy-table s c k o =
+    record {
+      classes = (c, padded-length maxClasses zeroValue (s .classes) c);
+      keys = (k, padded-length maxKeys zeroRow (s .keys) k);
+      slots = (o, padded-length maxSlots zeroSlot (map held (s .order)) (rw length-map o));
+      past = table-zeroed s;
+    }
+
+module _ (m : Mode) (t : List ℕ) (i : ℕ) where
+  pub tidy : BraceTidy m t i
+  tidy = go (exact (given m t i))
+    where
+      go : {a : Answer} {s : List Entry} {r : Read} → Out m t i a s r → Tidy (r .set)
+      go (Out.no r) = rw empty-table at (tidy-table noRows (omega arith) (omega arith) (omega arith))
+      go (Out.yes {is = is} h l k) =
+          let o = slots-fit (rows-shaped (st h) (shaped-none (one t))) (omega (arith, key-fill (st h))) in
+          tidy-table (withPuts (one t) noRows (putsIn is)) (omega (arith, class-fill (st h))) (omega (arith, key-fill (st h))) o
+
+  pub refused-empty : {r : Refusal} → BraceRefused m t i r
+  refused-empty {r} e = go (exact (given m t i)) e
+    where
+      go : {a : Answer} {s : List Entry} {f : Read} → Out m t i a s f → f .answer ≡ Refused r → f .set ≡ emptySet
+      go (Out.no x) q = refl
+      go (Out.yes h l k) q = contra true refl (cc)
+
+  pub up-to-seven : UpToSeven m t i
+  unfolding numberOf
+  up-to-seven = go (given m t i)
+    where
+      go : {a : Answer} {s : List Entry} → Given m t i a s → braceNo a ≤ 7
+      go (Given.long l) = omega arith
+      go (Given.none l n) = omega arith
+      go (Given.unclosed l o n) = omega arith
+      go (Given.garbled b n) = omega arith
+      go (Given.unread b w n) = omega arith
+      go (Given.classes h l) = omega arith
+      go (Given.keys h l k) = omega arith
+      go (Given.read h l k) = omega arith

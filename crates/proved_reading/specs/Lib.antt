@@ -1,0 +1,4 @@
+-- What is proved of reading and measuring, each statement under the sentence of document 01 that it renders.
+pub mod AtBraces
+pub mod HandedSets
+pub mod Measuring

@@ -1,0 +1,1 @@
+// Theorems about reading and measuring: at a brace, by line, by block.

@@ -1,0 +1,37 @@
+-- The proofs of what specs/ states of sets, with the laws that they rest on.
+-- ---- what is read into a set means
+pub mod Slots
+pub mod Shaping
+pub mod TableMeant
+pub mod TableWhole
+pub mod Items
+pub mod LineMeant
+-- ---- canonical text
+pub mod CanonAtBrace
+pub mod CanonValues
+pub mod CanonParts
+pub mod CanonPuts
+pub mod CanonWellFormed
+pub mod CanonBack
+pub mod CanonAgain
+-- ---- well-formed tables
+pub mod WellFormedShape
+pub mod WellFormedMeans
+pub mod MeansUtf8
+pub mod PutsKept
+pub mod PutsParts
+pub mod PutsItems
+pub mod PutsRead
+-- ---- merging
+pub mod MergeByNames
+pub mod MergePuts
+pub mod MergeRest
+pub mod MergeMeans
+-- ---- every set handed out
+pub mod Settled
+pub mod Zeroed
+pub mod NeverSlots
+-- ---- numbers
+pub mod FillNumbers
+pub mod MergeNumbers
+pub mod WriterNumbers

@@ -1,0 +1,67 @@
+-- What the set of a payload means, and that of a line: the meanings of its blocks, merged left to right.
+-- Assumes nothing.
+use mathlib.Core.Path.{_≡_, refl, ap, _∙_}
+use mathlib.Core.Bool.{Bool, true, false, cond}
+use mathlib.Core.List.{List}
+use Prim.Native.Nat.{ℕ}
+use lib.Dec.{ltb}
+use lib.ListN.{length}
+use lib.Seq.{slice}
+use Rattle.base_lists.proofs.More.{contra}
+use Rattle.block_grammar.specs.Grammar.{Placed}
+use Rattle.block_grammar.specs.Read.{Reading, readPayload}
+use Rattle.block_grammar.specs.Meaning.{meaning}
+use Rattle.block_chain.specs.Chain.{readBlocks}
+use Rattle.proved_grammar.proofs.Stands.{read-stands}
+use Rattle.proved_grammar.proofs.Merged.{line-merges}
+use Rattle.proved_grammar.proofs.Blocks.{complete}
+use Rattle.base_refusals.specs.declared.Refusal.the-variants.{TextTooLong, TooManyClasses, TooManyKeys, TooManySlots}
+use Rattle.base_refusals.specs.Numbers.{maxText}
+use Rattle.set_table.specs.Types.{one, maxClasses, maxKeys, maxSlots}
+use Rattle.set_table.specs.Rows.{Rows, noRows, withPuts, tableOf, meaningOf}
+use Rattle.set_table.specs.Puts.{putsIn}
+use Rattle.proved_sets.proofs.Items.{rows-mean, payload-stands}
+use Rattle.proved_grammar.proofs.Places.{Standing}
+use Rattle.proved_sets.specs.Read.{FillMeans, LineMeans}
+use Rattle.proved_sets.proofs.TableWhole.{table-means}
+use Rattle.set_table.specs.declared.Filled.{Filled}
+use Rattle.set_table.specs.Filled.{refusing, limited}
+use Rattle.base_refusals.specs.declared.Outcome.the-variants.{Passed}
+use Rattle.set_fill.specs.Fill.{filledBy, filledOf, fillAt, chainAt}
+
+-- what is handed out is the table of the rows
+done : (s : Rows) → limited s .outcome ≡ Passed → limited s .set ≡ tableOf s
+unfolding limited
+done s = go (ltb maxClasses (length (s .classes))) (ltb maxKeys (length (s .keys))) (ltb maxSlots (length (s .order)))
+  where
+    made : Filled
+    made = record { outcome = Passed; set = tableOf s }
+
+    go : (x y z : Bool) → cond x (refusing TooManyClasses) (cond y (refusing TooManyKeys) (cond z (refusing TooManySlots) made)) .outcome ≡ Passed
+        → cond x (refusing TooManyClasses) (cond y (refusing TooManyKeys) (cond z (refusing TooManySlots) made)) .set ≡ tableOf s
+    go true y z e = contra true refl (cc)
+    go false true z e = contra true refl (cc)
+    go false false true e = contra true refl (cc)
+    go false false false e = refl
+
+-- the set of a reading whose items stand in the text
+filled-means : (t : List ℕ) (x : Bool) (r : Reading) {is : List Placed} → r ≡ Reading.items is → Standing t is
+    → cond x (refusing TextTooLong) (filledBy (one t) r) .outcome ≡ Passed → meaningOf (one t) (cond x (refusing TextTooLong) (filledBy (one t) r) .set) ≡ meaning is
+filled-means t x r {is} e h d = rw e (go x (rw e at d))
+  where
+    s : Rows
+    s = withPuts (one t) noRows (putsIn is)
+
+    go : (x : Bool) → cond x (refusing TextTooLong) (limited s) .outcome ≡ Passed → meaningOf (one t) (cond x (refusing TextTooLong) (limited s) .set) ≡ meaning is
+    go true q = contra true refl (cc)
+    go false q = ap (meaningOf (one t)) (done s q) ∙ table-means s (one t) ∙ rows-mean h
+
+pub fill-means : FillMeans
+unfolding fillAt filledOf
+fill-means m t at end is d e = filled-means t (ltb maxText (length t)) (readPayload m at (slice at end t)) e (payload-stands m t at end is e) d
+
+pub line-merged : LineMeans
+unfolding chainAt
+line-merged m t from to is d p =
+    let e = complete p in
+    filled-means t (ltb maxText (length t)) (readBlocks m from (slice from to t)) e (read-stands m t from to is e) d ∙ line-merges p

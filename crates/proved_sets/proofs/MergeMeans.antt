@@ -1,0 +1,194 @@
+-- What a merge comes to: the set that it hands out means the one meaning put into the other, and is well-formed; a set with nothing in it merges as
+-- nothing.
+-- Assumes nothing.
+use mathlib.Core.Path.{_≡_, refl, _∙_, ap}
+use mathlib.Core.Bool.{Bool, true, false, cond}
+use mathlib.Core.List.{List, [], _∷_, flatMap}
+use Prim.Native.Nat.{ℕ, zero, suc, _≤_, _<_}
+use native.Mathlib.Omega.{arith}
+use lib.Dec.{ltb}
+use lib.ListN.{length, getD}
+use borrow.Author.Tests.{ltb-false, le-ltb}
+use Rattle.base_lists.specs.Lists.{all}
+use Rattle.base_lists.proofs.Scan.{both}
+use Rattle.base_refusals.specs.declared.Refusal.{Refusal}
+use Rattle.text_checks.specs.Check.{checkOf, isText}
+use Rattle.base_refusals.specs.declared.Outcome.{Outcome}
+use Rattle.base_refusals.specs.declared.Outcome.the-variants.{Passed, Refused}
+use Rattle.base_refusals.specs.declared.Outcome.the-variants as outcome
+use Rattle.text_checks.proofs.Texts.{passed, text-passes}
+use Rattle.set_canon.specs.Canon.{entryOk, wf}
+use Rattle.block_grammar.specs.Meaning.{className, puts, lookup, slotNames, distinct}
+use Rattle.set_table.specs.Types.{Texts, one, maxClasses, maxKeys, maxSlots, zeroRow}
+use Rattle.set_table.specs.Rows.{Rows, Put, noRows, isNamed, putRow, withPut, withPuts, tableOf, rowsIn, meant, meaningOf}
+use Rattle.set_table.specs.Shape.{Shaped}
+use Rattle.set_table.specs.declared.Attrs.{Attrs}
+use Rattle.set_table.specs.declared.Name.{Name}
+use Rattle.set_table.specs.declared.Row.{Row}
+use Rattle.set_table.specs.declared.Value.{Value}
+use Rattle.set_table.specs.declared.Slot.the-variants.{Class}
+use Rattle.proved_sets.proofs.TableMeant.{shaped-puts, puts-meant}
+use Rattle.set_table.proofs.Whole.{rows-table}
+use Rattle.set_wellformed.specs.WellFormed.{rowsOk, tableOk, wellFormed}
+use Rattle.set_wellformed.proofs.Shape.{table-passed, shaped}
+use Rattle.proved_sets.proofs.PutsKept.{putOk, rows-puts, table-ok, nothing-rows, empty-formed}
+use Rattle.proved_sets.specs.Formed.{HasNothing}
+use Rattle.proved_sets.specs.Merged.{mergeMeaning, MergeGives, EmptyMerges}
+use Rattle.set_table.specs.declared.Filled.{Filled}
+use Rattle.set_table.specs.Filled.{limited}
+use Rattle.set_table.proofs.Puts.{isAllowed, put-grows}
+use Rattle.set_merge.specs.Merge.{putsBy, mergeOf}
+use Rattle.set_merge.proofs.Rest.{count-classes}
+use Rattle.set_merge.proofs.Whole.{few}
+use Rattle.proved_sets.proofs.MergeByNames.{valuesMerged, puts-lookup, merged-classes, puts-slots, puts-none}
+use Rattle.proved_sets.proofs.MergePuts.{good-puts, says, all-allowed}
+use Rattle.proved_sets.proofs.Slots.{slots-fit}
+use Rattle.proved_sets.proofs.TableWhole.{table-means}
+use Rattle.proved_sets.proofs.MergeRest.{own-keys}
+use Rattle.proved_sets.proofs.WellFormedMeans.{means-wf}
+use Rattle.proved_sets.proofs.WellFormedShape.{passed-rows}
+
+-- ---- what puts do to the names of rows that are there
+module _ (t : Texts) (k : ℕ) where
+  row-name : (n : Name) (v : Value) (rs : List Row) (k : ℕ) → k < length rs → getD (putRow t n v rs) k zeroRow .name ≡ getD rs k zeroRow .name
+  unfolding putRow
+  row-name n v [] k l = absurd (omega arith)
+  row-name n v (r ∷ rs) k l = go (isNamed t n r) k l (row-name n v rs)
+    where
+      go : (b : Bool) (k : ℕ) → k < suc (length rs) → ((k : ℕ) → k < length rs → getD (putRow t n v rs) k zeroRow .name ≡ getD rs k zeroRow .name)
+          → getD (cond b (record { name = r .name; value = v } ∷ rs) (r ∷ putRow t n v rs)) k zeroRow .name ≡ getD (r ∷ rs) k zeroRow .name
+      go true zero l ih = refl
+      go true (suc k) l ih = refl
+      go false zero l ih = refl
+      go false (suc k) l ih = ih k (omega arith)
+
+  put-name : (s : Rows) (p : Put) → k < length (s .keys) → getD (withPut t s p .keys) k zeroRow .name ≡ getD (s .keys) k zeroRow .name
+  unfolding withPut
+  put-name s (Put.ident v) l = refl
+  put-name s (Put.class v) l = refl
+  put-name s (Put.key n v) l = row-name n v (s .keys) k l
+
+  puts-names : (s : Rows) (ps : List Put) → k < length (s .keys) → getD (withPuts t s ps .keys) k zeroRow .name ≡ getD (s .keys) k zeroRow .name
+  unfolding withPuts
+  puts-names s [] l = refl
+  puts-names s (p ∷ ps) l = puts-names (withPut t s p) ps (omega (arith, put-grows t s p)) ∙ put-name s p l
+
+-- ---- the rows that a merge comes to
+module _ (t : List ℕ) (a b : Attrs) where
+  abbrev whole : Rows
+  whole = withPuts (one t) (rowsIn a) (putsBy (rowsIn b))
+
+  -- what a set handed out says of its making
+  record Gave : Type 0 where
+    text : checkOf t ≡ Passed
+    first : tableOk (one t) a ≡ true
+    second : tableOk (one t) b ≡ true
+    classes : length (whole .classes) ≤ maxClasses
+    keys : length (whole .keys) ≤ maxKeys
+    is : mergeOf t a b .set ≡ tableOf whole
+
+  -- they are as well-formed as those of the two sets
+  module _ (f : tableOk (one t) a ≡ true) (g : tableOk (one t) b ≡ true) where
+    good : all (putOk (one t)) (putsBy (rowsIn b)) ≡ true
+    good = good-puts (table-passed (one t) b g)
+
+    allowed : all (isAllowed (one t)) (putsBy (rowsIn b)) ≡ true
+    allowed = all-allowed (one t) (putsBy (rowsIn b)) good
+
+    whole-shaped : Shaped (one t) whole
+    whole-shaped = shaped-puts (shaped (one t) a f) (putsBy (rowsIn b)) allowed
+
+    whole-good : rowsOk (one t) whole ≡ true
+    whole-good = rows-puts (one t) (rowsIn a) (putsBy (rowsIn b)) (passed-rows (table-passed (one t) a f)) good
+
+    whole-means : meant (one t) whole ≡ puts (meaningOf (one t) a) (meaningOf (one t) b)
+    unfolding meaningOf
+    whole-means = puts-meant (shaped (one t) a f) (putsBy (rowsIn b)) allowed ∙ says (table-passed (one t) b g) (meant (one t) (rowsIn a))
+
+abbrev Done : Filled → Type 0
+Done f = f .outcome ≡ outcome.Passed
+
+refuses : {A : Type 0} {r : Refusal} → outcome.Refused r ≡ outcome.Passed → A
+refuses e = let z : _≡_ {A = ℕ} 0 1 = cc in absurd (omega arith)
+
+module _ (t : List ℕ) (a b : Attrs) where
+  gave : Done (mergeOf t a b) → Gave t a b
+  unfolding mergeOf limited
+  gave = go (checkOf t) refl (tableOk (one t) a) refl (tableOk (one t) b) refl (ltb maxClasses (length (whole t a b .classes))) refl (ltb maxKeys (length (whole t a b .keys))) refl
+    where
+      go : (c : Outcome) → checkOf t ≡ c → (x : Bool) → tableOk (one t) a ≡ x → (y : Bool) → tableOk (one t) b ≡ y
+          → (p : Bool) → ltb maxClasses (length (whole t a b .classes)) ≡ p → (q : Bool) → ltb maxKeys (length (whole t a b .keys)) ≡ q → Done (mergeOf t a b) → Gave t a b
+      go (Refused r) e x f y g p h q i d = refuses (rw e at d)
+      go Passed e false f y g p h q i d = refuses (rw (e, f) at d)
+      go Passed e true f false g p h q i d = refuses (rw (e, f, g) at d)
+      go Passed e true f true g true h q i d = refuses (rw (e, f, g, h) at d)
+      go Passed e true f true g false h true i d = refuses (rw (e, f, g, h, i) at d)
+      go Passed e true f true g false h false i d =
+          let c = ltb-false maxClasses (length (whole t a b .classes)) h in
+          let k = ltb-false maxKeys (length (whole t a b .keys)) i in
+          record { text = e; first = f; second = g; classes = c; keys = k; is = rw (e, f, g, h, i, le-ltb maxSlots (length (whole t a b .order)) (slots-fit (whole-shaped t a b f g) k)) }
+
+  -- ======== the set that is handed out
+  module _ (d : Done (mergeOf t a b)) where
+    pub merge-means : mergeMeaning t a b ≡ puts (meaningOf (one t) a) (meaningOf (one t) b)
+    merge-means = let g = gave d in ap (meaningOf (one t)) (g .is) ∙ table-means (whole t a b) (one t) ∙ whole-means t a b (g .first) (g .second)
+
+    second-distinct : distinct (meaningOf (one t) b) ≡ true
+    unfolding wf
+    second-distinct = both (all entryOk (meaningOf (one t) b)) (distinct (meaningOf (one t) b)) (means-wf (one t) b (gave d .second)) .1
+
+    -- by names: what b has of a name wins, its classes are joined; what it hasn't stays
+    merge-values : (n : List ℕ) → lookup n (mergeMeaning t a b) ≡ valuesMerged n (meaningOf (one t) a) (meaningOf (one t) b)
+    merge-values n = ap (lookup n) merge-means ∙ puts-lookup n (meaningOf (one t) b) (meaningOf (one t) a) second-distinct
+
+    formed : wellFormed t (mergeOf t a b .set) ≡ true
+    unfolding wellFormed
+    formed =
+        let g = gave d in
+        rw (← passed t refl (g .text), g .is) (table-ok (one t) (whole t a b) (whole-good t a b (g .first) (g .second)) (g .classes) (g .keys))
+
+pub merge-gives : MergeGives
+merge-gives t a b d =
+    record {
+      means = merge-means t a b d;
+      later-wins = λ n q c. merge-values t a b d n ∙ (rw (q, c));
+      earlier-stays = λ n q. merge-values t a b d n ∙ (rw q);
+      classes-joined = merge-values t a b d className ∙ merged-classes (meaningOf (one t) a) (meaningOf (one t) b);
+      new-behind = ap slotNames (merge-means t a b d) ∙ puts-slots (meaningOf (one t) b) (meaningOf (one t) a) (second-distinct t a b d);
+      rows-kept = λ k l. rw (gave t a b d .is, rows-table (whole t a b)) (puts-names (one t) k (rowsIn a) (putsBy (rowsIn b)) l);
+      formed = formed t a b d;
+    }
+
+-- ======== "An empty set is well-formed and merges as nothing."
+module _ (t : List ℕ) {e : Attrs} (n : HasNothing e) (a : Attrs) (p : checkOf t ≡ Passed) (h : tableOk (one t) a ≡ true) where
+  merge-empty : mergeOf t a e ≡ record { outcome = outcome.Passed; set = tableOf (rowsIn a) }
+  unfolding mergeOf limited flatMap withPuts
+  merge-empty =
+      let s = rowsIn a in
+      let l = few (one t) a h in
+      let o = le-ltb maxSlots (length (s .order)) (slots-fit (shaped (one t) a h) (l .1)) in
+      rw (p, h, empty-formed t e n, nothing-rows n, le-ltb maxClasses (length (s .classes)) (l .0), le-ltb maxKeys (length (s .keys)) (l .1), o)
+
+  empty-merge : Done (mergeOf t e a)
+  unfolding mergeOf limited
+  empty-merge =
+      let w = withPuts (one t) (rowsIn e) (putsBy (rowsIn a)) in
+      let l = few (one t) a h in
+      let c : length (w .classes) ≤ maxClasses = rw (nothing-rows n) (omega (arith, count-classes (one t) (rowsIn a) noRows (shaped (one t) a h .once Class), l)) in
+      let k : length (w .keys) ≤ maxKeys = rw (nothing-rows n) (omega (arith, own-keys (one t) (rowsIn a) (shaped (one t) a h), l)) in
+      let o = le-ltb maxSlots (length (w .order)) (slots-fit (whole-shaped t e a (empty-formed t e n) h) k) in
+      rw (p, h, empty-formed t e n, le-ltb maxClasses (length (w .classes)) c, le-ltb maxKeys (length (w .keys)) k, o)
+
+  no-meaning : meaningOf (one t) e ≡ []
+  unfolding meaningOf meant
+  no-meaning = rw (nothing-rows n)
+
+  empty-keeps : mergeMeaning t e a ≡ meaningOf (one t) a
+  empty-keeps = merge-means t e a empty-merge ∙ (rw no-meaning (puts-none (meaningOf (one t) a) (second-distinct t e a empty-merge)))
+
+pub empty-merges : EmptyMerges
+unfolding wellFormed
+empty-merges t e a n w =
+    let z = both (isText t) (tableOk (one t) a) w in
+    let p = text-passes t (z .0) in
+    record { behind = merge-empty t n a p (z .1); passes = empty-merge t n a p (z .1); keeps = empty-keeps t n a p (z .1) }

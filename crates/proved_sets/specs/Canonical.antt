@@ -1,0 +1,49 @@
+-- Canonical text: equal for equal meanings alone, and read back by the payload grammar. Sizes, limits and UTF-8 are left to the theorems on the entries.
+use mathlib.Core.Path.{_≡_}
+use mathlib.Core.Bool.{true}
+use mathlib.Core.List.{List, [], _∷_, _++_}
+use Prim.Native.Nat.{ℕ, suc, _+_}
+use lib.ListN.{length, getD, drop}
+use Rattle.base_bytes.specs.Bytes.{openBrace, closeBrace}
+use Rattle.base_bytes.specs.declared.Mode.{Mode}
+use Rattle.base_bytes.specs.declared.Mode.the-variants.{Strict}
+use Rattle.block_grammar.specs.Grammar.{Placed, Payload}
+use Rattle.block_grammar.specs.Meaning.{Entry, meaning}
+use Rattle.block_grammar.specs.Close.{Covered, noLf}
+use Rattle.set_canon.specs.Canon.{canon, wf}
+
+-- "Reading at a brace: the payload ends before the first `}` that no quote or backslash covers; .. An LF before it means no close."
+-- The block whose brace stands at i of the text s means a, and `next` is the place behind its close.
+pub record ReadAs (m : Mode) (s : List ℕ) (i : ℕ) (a : List Entry) (next : ℕ) : Type 0 where
+  pub brace : getD s i 0 ≡ openBrace
+  pub inside : List ℕ
+  pub rest : List ℕ
+  pub whole : drop (suc i) s ≡ inside ++ (closeBrace ∷ rest)
+  pub covered : Covered inside
+  pub flat : noLf inside ≡ true
+  pub items : List Placed
+  pub reading : Payload m (suc i) inside items
+  pub meant : meaning items ≡ a
+  pub after : next ≡ suc (suc i + length inside)
+
+-- It is read in one way.
+abbrev pub ReadOnce : Type 0
+ReadOnce = (m : Mode) (s : List ℕ) (i : ℕ) (a b : List Entry) (j k : ℕ) → ReadAs m s i a j → ReadAs m s i b k → (a ≡ b) × (j ≡ k)
+
+-- "Reading back is `read_attrs_at` at byte 0.", which "is strict": a canonical text reads back, to its last byte, with its meaning.
+abbrev pub CanonReads : Type 0
+CanonReads = (m : List Entry) → wf m ≡ true → (m ≡ [] → ⊥) → ReadAs Strict (canon m) 0 m (length (canon m))
+
+-- What was read anywhere, in either mode, is well-formed and isn't empty, so it is read again as the same where it was written.
+abbrev pub ReadFormed : Type 0
+ReadFormed = (m : Mode) (s : List ℕ) (i : ℕ) (a : List Entry) (next : ℕ) → ReadAs m s i a next → (wf a ≡ true) × (a ≡ [] → ⊥)
+
+abbrev pub ReadAgain : Type 0
+ReadAgain = (m : Mode) (s : List ℕ) (i : ℕ) (a : List Entry) (next : ℕ) → ReadAs m s i a next → ReadAs Strict (canon a) 0 a (length (canon a))
+
+-- Two sets "have equal canonical texts exactly when they mean the same" (demand 3).
+abbrev pub SameText : Type 0
+SameText = (m m′ : List Entry) → wf m ≡ true → wf m′ ≡ true → canon m ≡ canon m′ → m ≡ m′
+
+abbrev pub SameMeaning : Type 0
+SameMeaning = (m m′ : List Entry) → m ≡ m′ → canon m ≡ canon m′

@@ -1,0 +1,1 @@
+// Theorems about sets: what a table means, merging, canonical text, well-formedness.

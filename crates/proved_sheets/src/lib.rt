@@ -1,0 +1,1 @@
+// Theorems about whole sheets and their report.

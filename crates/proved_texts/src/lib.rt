@@ -1,0 +1,1 @@
+// Theorems about texts: UTF-8, escapes, tab stops, lines.
