@@ -126,7 +126,7 @@ fn is_long_tag(s: &[u8]) -> bool
     is_size(k)
 }
 
-// The longest tag that is tested by recursion: its at most 256 subtags take some 48 bytes of stack each, 12 KB in all. The longest text would take 1.5 MB.
+// The longest tag that is tested by recursion: its at most 256 subtags take 8 KB of stack as they are compiled. The longest text would take 1 MB.
 const SHORT: usize = 512;
 
 // What may stand behind `:`: nothing, or a tag.
