@@ -1,7 +1,7 @@
 -- The refusals and their numbers: the table of document 01's 'Sizes and refusal numbers'.
 use Prim.Native.Nat.{ℕ}
 use mathlib.Core.Bool.{Bool}
-use mathlib.Core.List.{List}
+use mathlib.Core.List.{List, []}
 use lib.Dec.{ltb}
 use lib.ListN.{length}
 use Rattle.base_refusals.specs.declared.Refusal.{Refusal}
@@ -51,3 +51,16 @@ numberOf EmptySet = 12
 abbrev pub outcomeNo : Outcome → ℕ
 outcomeNo Passed = 0
 outcomeNo (Refused r) = numberOf r
+
+-- ---- "When an answer is an enum, a definition provides this paper's number and values for each of the enum's cases. The promises use that definition."
+
+-- a number of the table, 0 where nothing is refused, and the values that are answered with it
+pub record Paper : Type 0 where
+  pub number : ℕ
+  pub values : List ℕ
+
+abbrev pub refusedPaper : Refusal → Paper
+refusedPaper r = record { number = numberOf r; values = [] }
+
+abbrev pub passedPaper : List ℕ → Paper
+passedPaper vs = record { number = 0; values = vs }

@@ -5,7 +5,7 @@ use mathlib.Core.List.{List, [], _∷_}
 use Rattle.base_refusals.specs.declared.Refusal.{Refusal}
 use Rattle.base_refusals.specs.declared.Outcome.{Outcome}
 use Rattle.base_refusals.specs.declared.Outcome.the-variants.{Passed, Refused}
-use Rattle.base_refusals.specs.Numbers.{numberOf}
+use Rattle.base_refusals.specs.Numbers.{numberOf, Paper, refusedPaper, passedPaper}
 
 -- "Given exactly when": a refusal, with what is so where it is given, or with what isn't so there
 pub data Ground : Type 0 where
@@ -22,6 +22,11 @@ inOrder f (Ground.lacking r b ∷ gs) next = cond b (inOrder f gs next) (f r)
 unfoldable pub orderNo : List Ground → ℕ
 unfolding inOrder
 orderNo gs = inOrder numberOf gs 0
+
+-- the same with values, which are answered where no ground holds
+unfoldable pub onPaper : List Ground → List ℕ → Paper
+unfolding inOrder
+onPaper gs vs = inOrder refusedPaper gs (passedPaper vs)
 
 -- what is refused already, as an order
 abbrev pub met : Outcome → List Ground
