@@ -65,7 +65,7 @@ int main(void)
     EXPECT(bridlesnow_report_start(block, 4, lines, sizeof lines, report, sizeof report, told, 3) == 0);
     EXPECT(told[0] == 22 && told[2] == 0 && memcmp(report, "block\t1\t1\t{class=\"a\"}\n", 23) == 0);
     EXPECT(bridlesnow_report_part(block, 4, 4, 6, lines, sizeof lines, report, sizeof report, told, 3) == 3);
-    EXPECT(bridlesnow_report_start((const uint8_t *)"\377", 1, lines, sizeof lines, report, sizeof report, told, 3) == 0);
+    EXPECT(bridlesnow_report_start((const uint8_t *)"\377", 1, lines, sizeof lines, report, sizeof report, told, 3) == 2);
     EXPECT(told[0] == 14 && told[2] == 0 && memcmp(report, "refused\t0\t0\t2\n", 14) == 0);
 
     /* Room for fewer numbers than there are: the rest is untouched. */

@@ -12,10 +12,10 @@
  *     5  no reading                                12  (never given here: an empty set)
  *     6  more than 32 classes
  *
- * A set is handed out as its canonical text at the front of `out`, such as {id="v17" class="wheel" side="left"}. After a number other than 0
- * `out` is untouched. Numbers besides are told in `told`, in the order that the function's comment gives: as many as `told_len` has room for, the
- * rest of it untouched. So a caller who wants none passes NULL and 0. They are told on a refusal too; the length of the canonical text is 0 where
- * none is written, so 10 doesn't tell how much is needed.
+ * A set is handed out as its canonical text at the front of `out`, such as {id="v17" class="wheel" side="left"}. After a number other than 0 `out`
+ * is untouched, but for bridlesnow_report_start, whose 1 and 2 lay a line. Numbers besides are told in `told`, in the order that the function's
+ * comment gives: as many as `told_len` has room for, the rest of it untouched. So a caller who wants none passes NULL and 0. They are told on a
+ * refusal too; the length of the canonical text is 0 where none is written, so 10 doesn't tell how much is needed.
  *
  * What the caller owes: each pointer with a length other than 0 points to that many elements, and memory that a call writes (`join`, `out`, `told`)
  * overlaps no other memory of that call. A pointer with length 0 may be NULL. Any other argument gets an answer: a place or a line that isn't
@@ -114,9 +114,10 @@ uint8_t bridlesnow_ends_in_refused_brace_run(const uint8_t *text, size_t text_le
  * parted by tabs, or `refused`, first line, line count and number. As many lines are laid as surely have room; where some are left, the next call is
  * bridlesnow_report_part with the place and the line that were told. The text is checked by the first call alone and must stay as it is.
  * `join` has at least BRIDLESNOW_MAX bytes, else 9; `out` at least BRIDLESNOW_LINE, else 10. A text that gives 1 or 2 has a report of one line,
- * refused, 0, 0 and the number; where `out` has fewer than BRIDLESNOW_LINE bytes, nothing is laid and the number is returned instead.
+ * refused, 0, 0 and the number. report_start returns that number and lays the line all the same; where `out` has fewer than BRIDLESNOW_LINE bytes,
+ * nothing is laid. So a caller first writes what is laid, goes on while the line told isn't 0, and then looks at the number.
  * Order: 1, 2, 9, 10; of report_part 1, 9, 3 (no line can begin there), 10.
- * Tells: how many bytes are laid; the place and the line at which it goes on, the line 0 where the report is whole. */
+ * Tells: how many bytes are laid; the place and the line at which it goes on, the line 0 where the report is whole or refused. */
 uint8_t bridlesnow_report_start(const uint8_t *text, size_t text_len, uint8_t *join, size_t join_len,
                                 uint8_t *out, size_t out_len, size_t *told, size_t told_len);
 uint8_t bridlesnow_report_part(const uint8_t *text, size_t text_len, size_t at, size_t line, uint8_t *join, size_t join_len,

@@ -13,12 +13,10 @@ int main(void)
     size_t n = fread(text, 1, sizeof text, stdin); /* one byte more than a sheet may have, so that a longer one is refused */
     size_t told[3];                                /* bytes laid, place and line to go on at */
     uint8_t number = bridlesnow_report_start(text, n, join, sizeof join, out, sizeof out, told, 3);
-    while (number == 0) {
-        fwrite(out, 1, told[0], stdout);
-        if (told[2] == 0)
-            return 0;
+    fwrite(out, 1, told[0], stdout);
+    while (told[2] != 0) {
         number = bridlesnow_report_part(text, n, told[1], told[2], join, sizeof join, out, sizeof out, told, 3);
+        fwrite(out, 1, told[0], stdout);
     }
-    fprintf(stderr, "refused: %d\n", number); /* not with buffers of these sizes */
-    return 1;
+    return number != 0; /* 1 or 2, with buffers of these sizes; a line of the report says so too */
 }

@@ -339,7 +339,8 @@ impl Reader {
         Ok((told[0] == 1, told[1]))
     }
 
-    /// The report on a sheet, handed to `lay` part by part: a line for each block, or one line for a text that gives 1 or 2.
+    /// The report on a sheet, handed to `lay` part by part: a line for each block, or one line for a text that gives 1 or 2, which is refused all the
+    /// same.
     pub fn report(&mut self, text: &[u8], mut lay: impl FnMut(&[u8])) -> Result<(), Refusal> {
         let mut told = [0usize; 3];
         let mut number = unsafe {
@@ -349,11 +350,10 @@ impl Reader {
             )
         };
         loop {
-            granted(number)?;
             let [len, at, line] = told;
             lay(&self.out[..len]);
             if line == 0 {
-                return Ok(());
+                return granted(number);
             }
             number = unsafe {
                 raw::bridlesnow_report_part(
@@ -469,13 +469,13 @@ mod tests {
         assert_eq!(reader.parse_standalone_attrs_block(format!("{{{classes}}}").as_bytes(), 1), Err((Refusal(6), lines)));
     }
 
-    fn reported(reader: &mut Reader, text: &[u8]) -> Result<(String, usize), Refusal> {
+    fn reported(reader: &mut Reader, text: &[u8]) -> (String, usize, Result<(), Refusal>) {
         let (mut report, mut parts) = (Vec::new(), 0);
-        reader.report(text, |part| {
+        let answer = reader.report(text, |part| {
             report.extend_from_slice(part);
             parts += 1;
-        })?;
-        Ok((String::from_utf8(report).unwrap(), parts))
+        });
+        (String::from_utf8(report).unwrap(), parts, answer)
     }
 
     #[test]
@@ -485,16 +485,16 @@ mod tests {
         let lines = "block\t1\t1\t{class=\"wheel\" side=\"left\"}\nblock\t3\t2\t{id=\"v17\" side=\"right\"}\n\
                      block\t5\t1\t{class=\"a\" class=\"b\" side=\"x}y\"}\n";
         // Before each line the longest has to have room, so the smallest buffer takes a part for each.
-        assert_eq!(reported(&mut reader, sheet), Ok((lines.into(), 3)));
-        assert_eq!(reported(&mut Reader::with_room(MAX, 1 << 20), sheet), Ok((lines.into(), 1)));
-        assert_eq!(reported(&mut reader, b""), Ok(("".into(), 1)));
-        assert_eq!(reported(&mut reader, b"{.a}\n\xff"), Ok(("refused\t0\t0\t2\n".into(), 1)));
-        assert_eq!(reported(&mut reader, &vec![b'a'; MAX + 1]), Ok(("refused\t0\t0\t1\n".into(), 1)));
+        assert_eq!(reported(&mut reader, sheet), (lines.into(), 3, Ok(())));
+        assert_eq!(reported(&mut Reader::with_room(MAX, 1 << 20), sheet), (lines.into(), 1, Ok(())));
+        assert_eq!(reported(&mut reader, b""), ("".into(), 1, Ok(())));
+        assert_eq!(reported(&mut reader, b"{.a}\n\xff"), ("refused\t0\t0\t2\n".into(), 1, Err(Refusal(2))));
+        assert_eq!(reported(&mut reader, &vec![b'a'; MAX + 1]), ("refused\t0\t0\t1\n".into(), 1, Err(Refusal(1))));
         let classes = (0..33).map(|i| format!(" .c{i}")).collect::<String>();
-        assert_eq!(reported(&mut reader, format!("\n{{{classes}}}").as_bytes()), Ok(("refused\t2\t1\t6\n".into(), 1)));
-        assert_eq!(reported(&mut Reader::with_room(MAX - 1, LINE), sheet), Err(Refusal(9)));
-        assert_eq!(reported(&mut Reader::with_room(MAX, LINE - 1), sheet), Err(Refusal(10)));
-        assert_eq!(reported(&mut Reader::with_room(MAX, LINE - 1), b"\xff"), Err(Refusal(2)));
+        assert_eq!(reported(&mut reader, format!("\n{{{classes}}}").as_bytes()), ("refused\t2\t1\t6\n".into(), 1, Ok(())));
+        assert_eq!(reported(&mut Reader::with_room(MAX - 1, LINE), sheet), ("".into(), 1, Err(Refusal(9))));
+        assert_eq!(reported(&mut Reader::with_room(MAX, LINE - 1), sheet), ("".into(), 1, Err(Refusal(10))));
+        assert_eq!(reported(&mut Reader::with_room(MAX, LINE - 1), b"\xff"), ("".into(), 1, Err(Refusal(2))));
     }
 
     #[test]

@@ -1,7 +1,7 @@
 -- A line of blocks: "blocks stand back to back to its end and are merged left to right." By rules, and read by computing.
 use mathlib.Core.Path.{_≡_}
 use mathlib.Core.Bool.{Bool, true, cond}
-use mathlib.Core.List.{List, [], _∷_, _++_, foldl}
+use mathlib.Core.List.{List, [], _∷_, _++_}
 use Prim.Native.Nat.{ℕ, zero, suc, _+_, _-_}
 use lib.Dec.{eqb}
 use lib.ListN.{length, take}
@@ -11,7 +11,6 @@ use Rattle.base_bytes.specs.declared.Mode.the-variants.{Loose}
 use Rattle.base_bytes.specs.Bytes.{closeBrace, openBrace}
 use Rattle.block_grammar.specs.Grammar.{Placed, Payload}
 use Rattle.block_grammar.specs.Read.{Reading, oneOrMore, readPayload}
-use Rattle.block_grammar.specs.Meaning.{Entry, puts}
 use Rattle.block_grammar.specs.Close.{Covered, noLf, fresh, closeFrom}
 use Rattle.block_grammar.specs.declared.Place.{Place}
 use Rattle.block_grammar.specs.declared.Place.the-variants.{Nothing, At}
@@ -27,15 +26,6 @@ pub data OneBlock (m : Mode) : ℕ → List ℕ → List Placed → Type 0 where
 pub data Blocks (m : Mode) : ℕ → List ℕ → List Placed → Type 0 where
   one : {at : ℕ} {b : List ℕ} {is : List Placed} → OneBlock m at b is → Blocks m at b is
   more : {at : ℕ} {b s : List ℕ} {is js : List Placed} → OneBlock m at b is → Blocks m (at + length b) s js → Blocks m at (b ++ s) (is ++ js)
-
--- the items of each block
-abbrev pub blockItems : {m : Mode} {at : ℕ} {s : List ℕ} {is : List Placed} → Blocks m at s is → List (List Placed)
-blockItems (Blocks.one {is = is} b) = is ∷ []
-blockItems (Blocks.more {is = is} b p) = is ∷ blockItems p
-
--- "merged left to right": each set in turn is put into what came before
-unfoldable pub merged : List Entry → List (List Entry) → List Entry
-merged m rest = foldl puts m rest
 
 -- ---- by computing
 

@@ -3,7 +3,7 @@ ghost use mathlib.Core.Path.{_≡_};
 ghost use mathlib.Core.Bool.{true};
 ghost use lib.ListN.{drop};
 ghost use Rattle.base_bytes.specs.Bytes.{isQuote};
-ghost use Rattle.block_grammar.specs.Close.{findClose};
+ghost use Rattle.block_grammar.specs.Close.{findClose, closePaper};
 ghost use Rattle.block_close.specs.Inner.{noLfFirst, Shuts};
 use block_grammar::Place;
 
@@ -45,6 +45,7 @@ fn quote_close(s: &[u8], i: usize, q: u8) -> Place
 // The first `}` from `at` on that no quote and no backslash covers, with no LF before it.
 pub fn find_close(s: &[u8], at: usize) -> Place
     ensures { λ r. ⌜ r ≡ findClose (now (s .entry)) at ⌝ }
+    ensures { λ r. ⌜ closePaper r ≡ closePaper (findClose (now (s .entry)) at) ⌝ }
 {
     let mut i = at;
     'bytes: loop {

@@ -3,9 +3,11 @@ use mathlib.Core.Path.{_≡_}
 use mathlib.Core.Bool.{Bool, true, false, cond, not}
 use mathlib.Core.List.{List, [], _∷_, _++_}
 use Prim.Native.Nat.{ℕ, suc, _+_}
-use lib.Dec.{eqb, ltb}
+use lib.Dec.{eqb}
 use lib.ListN.{length, drop}
 use Rattle.base_lists.specs.Lists.{all, isIn}
+use Rattle.base_refusals.specs.Numbers.{Paper, refusedPaper, passedPaper}
+use Rattle.base_refusals.specs.declared.Refusal.the-variants.{NoClose}
 use Rattle.base_bytes.specs.Bytes.{isQuote, apostrophe, backslash, closeBrace, lf, quote}
 use Rattle.block_grammar.specs.Grammar.{Inside}
 use Rattle.block_grammar.specs.declared.Quote.{Quote}
@@ -60,6 +62,11 @@ fresh = uncovered Out
 unfoldable pub findClose : List ℕ → ℕ → Place
 findClose s at = closeFrom (drop at s) fresh at
 
+-- on paper: the place, or 4: "at a brace: no close"
+abbrev pub closePaper : Place → Paper
+closePaper Nothing = refusedPaper NoClose
+closePaper (At e) = passedPaper (e ∷ [])
+
 -- ---- by rules
 
 -- each `}` is one that a quote or a backslash covers
@@ -82,18 +89,3 @@ pub record Closes (s : List ℕ) (i e : ℕ) : Type 0 where
   pub place : e ≡ i + length inside
   pub covered : Covered inside
   pub flat : noLf inside ≡ true
-
--- ---- "its dropped third argument, the true place of the text's last `}`"
-
--- the last `}` of a list whose first byte stands at i, where `last` is that of the bytes before
-unfoldable pub lastFrom : List ℕ → ℕ → Place → Place
-lastFrom [] i last = last
-lastFrom (b ∷ s) i last = lastFrom s (suc i) (cond (eqb b closeBrace) (At i) last)
-
-unfoldable pub lastClose : List ℕ → Place
-lastClose s = lastFrom s 0 Nothing
-
--- 000's test `last_close_brace.map_or(true, |p| p < start)`
-abbrev pub isBefore : Place → ℕ → Bool
-isBefore Nothing start = true
-isBefore (At p) start = ltb p start

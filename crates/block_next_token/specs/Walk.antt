@@ -1,21 +1,20 @@
--- "a walker that holds the text and its place gives the next token": one step, and what all its steps give.
-use mathlib.Core.Path.{_≡_}
-use mathlib.Core.Bool.{Bool, true, false, cond}
+-- "a walker that holds the text and its place gives the next token": one step, and what stands ahead.
+use mathlib.Core.Bool.{cond}
 use mathlib.Core.List.{List, [], _∷_}
 use Prim.Native.Nat.{ℕ, _+_}
 use lib.Dec.{leb}
 use lib.ListN.{length, drop}
 use denote.Ref.{RefT, now}
 use Rattle.base_lists.specs.Lists.{run}
+use Rattle.base_refusals.specs.Numbers.{Paper, passedPaper}
 use Rattle.base_bytes.specs.declared.Mode.{Mode}
 use Rattle.base_bytes.specs.Bytes.{isBlank}
 use Rattle.block_grammar.specs.Grammar.{Placed}
 use Rattle.block_grammar.specs.Read.{Reading, tokenOf}
 use Rattle.block_grammar.specs.declared.Place.{Place}
 use Rattle.block_grammar.specs.declared.Place.the-variants.{Nothing, At}
-use Rattle.block_tokens.specs.Shown.{shownItem, shown, tokenEnd}
+use Rattle.block_tokens.specs.Shown.{shownItem, shown, tokenEnd, tokenPaper}
 use Rattle.block_tokens.specs.declared.Token.{Token}
-use Rattle.block_tokens.specs.declared.Token.the-variants.{Bad}
 use Rattle.block_next_token.specs.declared.Ahead.{Ahead}
 use Rattle.block_next_token.specs.declared.Ahead.the-variants.{End, Found}
 use Rattle.block_next_token.specs.declared.Step.{Step}
@@ -60,12 +59,6 @@ aheadOf w = walkerStep w .ahead
 abbrev pub gone : Walker → Walker
 gone w = record { text = w .text; at = walkerStep w .at; mode = w .mode }
 
--- the tokens that a walker gives as it goes on, call by call, and whether it then stands at the text's end or before bytes that are no token
-pub data Gives : Walker → List Token → Bool → Type 0 where
-  over : {w : Walker} → aheadOf w ≡ End → Gives w [] true
-  stuck : {w : Walker} → aheadOf w ≡ Found Bad → Gives w [] false
-  more : {w : Walker} {t : Token} {ts : List Token} {whole : Bool} → aheadOf w ≡ Found t → (t ≡ Bad → ⊥) → Gives (gone w) ts whole → Gives w (t ∷ ts) whole
-
 -- an item that was read, as a token
 abbrev pub shownPlaced : Placed → Token
 shownPlaced p = shownItem (p .at) (p .item)
@@ -74,3 +67,16 @@ shownPlaced p = shownItem (p .at) (p .item)
 abbrev pub counted : Reading → Count
 counted Reading.refused = count.Bad
 counted (Reading.items is) = count.Tokens (length is)
+
+-- ---- on paper: the places of what stands ahead, before them the place behind it, or how many there are
+
+abbrev pub aheadPaper : Ahead → Paper
+aheadPaper End = passedPaper []
+aheadPaper (Found t) = tokenPaper t
+
+abbrev pub stepPaper : Step → Paper
+stepPaper s = passedPaper (s .at ∷ aheadPaper (s .ahead) .values)
+
+abbrev pub countPaper : Count → Paper
+countPaper count.Bad = passedPaper []
+countPaper (count.Tokens n) = passedPaper (n ∷ [])

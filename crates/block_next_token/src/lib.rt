@@ -2,7 +2,7 @@
 ghost use mathlib.Core.Path.{_≡_};
 ghost use Rattle.block_grammar.specs.Read.{readFrom};
 ghost use Rattle.block_tokens.specs.Shown.{tokenEnd};
-ghost use Rattle.block_next_token.specs.Walk.{goneTo, stepAt, setDown, atFront, walkerStep, aheadOf, gone, counted};
+ghost use Rattle.block_next_token.specs.Walk.{goneTo, stepAt, setDown, atFront, walkerStep, aheadOf, gone, counted, aheadPaper, stepPaper, countPaper};
 use base_bytes::Mode;
 use block_tokens::Token;
 
@@ -73,7 +73,7 @@ pub fn new<'a>(text: &'a [u8], mode: Mode) -> Walker<'a>
 
 // What stands ahead.
 pub fn peek<'a>(w: Walker<'a>) -> Ahead
-    ensures { λ r. ⌜ r ≡ aheadOf (w .entry) ⌝ }
+    ensures { λ r. ⌜ (r ≡ aheadOf (w .entry)) × (aheadPaper r ≡ aheadPaper (aheadOf (w .entry))) ⌝ }
 {
     let step = step_at(w.text, w.at, w.mode);
     step.ahead
@@ -93,7 +93,7 @@ pub fn after<'a>(w: Walker<'a>) -> Walker<'a>
 
 // What stands ahead; the walker goes behind it.
 pub fn next<'s, 'a>(w: &'s mut Walker<'a>) -> Ahead
-    ensures { λ r. ⌜ (r ≡ aheadOf (now (w .entry))) × (now (w .exit) ≡ gone (now (w .entry))) ⌝ }
+    ensures { λ r. ⌜ (r ≡ aheadOf (now (w .entry))) × (now (w .exit) ≡ gone (now (w .entry))) × (aheadPaper r ≡ aheadPaper (aheadOf (now (w .entry)))) ⌝ }
 {
     let step = step_at(w.text, w.at, w.mode);
     w.at = step.at;
@@ -102,7 +102,7 @@ pub fn next<'s, 'a>(w: &'s mut Walker<'a>) -> Ahead
 
 // One step of a walker that is set down at a place.
 pub fn step_from(text: &[u8], at: usize, mode: Mode) -> Step
-    ensures { λ r. ⌜ r ≡ walkerStep (setDown (text .entry) at mode) ⌝ }
+    ensures { λ r. ⌜ (r ≡ walkerStep (setDown (text .entry) at mode)) × (stepPaper r ≡ stepPaper (walkerStep (setDown (text .entry) at mode))) ⌝ }
 {
     let mut w = Walker { text, at, mode };
     let ahead = next(&mut w);
@@ -111,7 +111,7 @@ pub fn step_from(text: &[u8], at: usize, mode: Mode) -> Step
 
 // What stands behind the first token.
 pub fn second(text: &[u8], mode: Mode) -> Ahead
-    ensures { λ r. ⌜ r ≡ aheadOf (gone (atFront (text .entry) mode)) ⌝ }
+    ensures { λ r. ⌜ (r ≡ aheadOf (gone (atFront (text .entry) mode))) × (aheadPaper r ≡ aheadPaper (aheadOf (gone (atFront (text .entry) mode)))) ⌝ }
 {
     peek(after(new(text, mode)))
 }
@@ -119,6 +119,7 @@ pub fn second(text: &[u8], mode: Mode) -> Ahead
 // How many tokens a walker gives up to the text's end.
 pub fn token_count(text: &[u8], mode: Mode) -> Count
     ensures { λ r. ⌜ r ≡ counted (readFrom mode (now (text .entry)) 0 0) ⌝ }
+    ensures { λ r. ⌜ countPaper r ≡ countPaper (counted (readFrom mode (now (text .entry)) 0 0)) ⌝ }
 {
     let mut n: usize = 0;
     let mut i: usize = 0;

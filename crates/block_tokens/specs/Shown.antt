@@ -1,7 +1,9 @@
 -- A token by ranges of the text, as the code hands it out.
 use mathlib.Core.Bool.{Bool, true, false}
+use mathlib.Core.List.{[], _∷_}
 use Prim.Native.Nat.{ℕ, _+_}
 use lib.ListN.{length}
+use Rattle.base_refusals.specs.Numbers.{Paper, passedPaper}
 use Rattle.block_grammar.specs.Grammar.{Item}
 use Rattle.block_grammar.specs.Read.{First, Reading}
 use Rattle.block_grammar.specs.declared.Place.{Place}
@@ -30,6 +32,16 @@ tokenEnd (Token.Class f e) = At e
 tokenEnd (Token.Plain f k e) = At e
 tokenEnd (Token.Quoted f k e) = At e
 tokenEnd (Token.Bare f e) = At e
+
+-- on paper: the places of a token, or that there is none
+abbrev pub tokenPaper : Token → Paper
+tokenPaper Token.Bad = passedPaper []
+tokenPaper (Token.Tag f e) = passedPaper (f ∷ e ∷ [])
+tokenPaper (Token.Id f e) = passedPaper (f ∷ e ∷ [])
+tokenPaper (Token.Class f e) = passedPaper (f ∷ e ∷ [])
+tokenPaper (Token.Plain f k e) = passedPaper (f ∷ k ∷ e ∷ [])
+tokenPaper (Token.Quoted f k e) = passedPaper (f ∷ k ∷ e ∷ [])
+tokenPaper (Token.Bare f e) = passedPaper (f ∷ e ∷ [])
 
 -- whether there is a reading
 abbrev pub accepted : Reading → Bool

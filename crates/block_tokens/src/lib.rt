@@ -6,7 +6,7 @@ ghost use lib.ListN.{length, getD, drop};
 ghost use Rattle.base_lists.specs.Lists.{run, firstIs};
 ghost use Rattle.base_bytes.specs.Bytes.{isLetter, isNameStart, isNamePart, isKeyStart, isPlain, isBlank};
 ghost use Rattle.block_grammar.specs.Read.{ends, shutOf, nameToken, valueToken, tokenOf, readPayload};
-ghost use Rattle.block_tokens.specs.Shown.{accepted, shown, tokenEnd};
+ghost use Rattle.block_tokens.specs.Shown.{accepted, shown, tokenEnd, tokenPaper};
 ghost use Rattle.block_tokens.specs.Inner.{startsEq, tagToken, idToken, classToken, quotedFrom, part, shutAt};
 use base_bytes::Mode;
 use block_grammar::Place;
@@ -240,6 +240,7 @@ fn name_token(s: &[u8], i: usize, mode: Mode) -> Token
 // The token at i.
 pub fn token_at(s: &[u8], i: usize, mode: Mode) -> Token
     ensures { λ r. ⌜ r ≡ shown i (tokenOf mode (drop i (now (s .entry)))) ⌝ }
+    ensures { λ r. ⌜ tokenPaper r ≡ tokenPaper (shown i (tokenOf mode (drop i (now (s .entry))))) ⌝ }
 {
     if s.len() <= i {
         return Token::Bad;

@@ -32,8 +32,8 @@ fn say_part(part: Part, told: &mut [usize]) -> u8
     told_number(answer)
 }
 
-// Lays the report on a sheet from its first line on. Tells how many bytes are laid, and the place and the line at which it goes on; the line is 0
-// where the report is whole.
+// Lays the report on a sheet from its first line on; of a text that is refused the one line that says so. Tells how many bytes are laid, and the place and
+// the line at which it goes on; the line is 0 where the report is whole or refused.
 #[no_mangle]
 pub extern "C" fn bridlesnow_report_start(
     text: &[u8],

@@ -3,44 +3,44 @@ use run_endings::Ends;
 ghost use mathlib.Core.Path.{_≡_};
 ghost use lib.ListN.{length};
 ghost use Rattle.base_lists.specs.Lists.{over};
-ghost use Rattle.run_refused.specs.Refused.{runAnswerNo, answerLines, refusedRun};
-ghost use Rattle.run_endings.specs.Endings.{endsNo, endsIn};
+ghost use Rattle.run_refused.specs.Refused.{replyPaper, refusedRun};
+ghost use Rattle.run_endings.specs.Endings.{endsPaper, endsIn};
 ghost use Rattle.door_shared.specs.Tells.{toldIn};
-ghost use Rattle.door_runs.specs.Runs.{runKind, endsKind, runTold, endsTold};
+ghost use Rattle.door_runs.specs.Runs.{runKind, runLines, endsKind, runTold, endsTold};
 
 // The number of what is said of a refused run.
-fn answer_number(a: run_refused::Answer) -> u8
-    ensures { λ r. ⌜ r ≡ runAnswerNo a ⌝ }
+fn answer_number(a: run_refused::RunReply) -> u8
+    ensures { λ r. ⌜ r ≡ replyPaper a .number ⌝ }
 {
     match a {
-        run_refused::Answer::No(_) => 0,
-        run_refused::Answer::Lines(_) => 0,
-        run_refused::Answer::NoEnd => 0,
-        run_refused::Answer::Refused(r) => base_refusals::number(r),
+        run_refused::RunReply::No(_) => 0,
+        run_refused::RunReply::Lines(_) => 0,
+        run_refused::RunReply::NoEnd => 0,
+        run_refused::RunReply::Refused(r) => base_refusals::number(r),
     }
 }
 
 // 1 where a run is refused.
-fn kind_of(a: run_refused::Answer) -> usize
+fn kind_of(a: run_refused::RunReply) -> usize
     ensures { λ r. ⌜ r ≡ runKind a ⌝ }
 {
     match a {
-        run_refused::Answer::No(_) => 0,
-        run_refused::Answer::Lines(_) => 1,
-        run_refused::Answer::NoEnd => 0,
-        run_refused::Answer::Refused(_) => 0,
+        run_refused::RunReply::No(_) => 0,
+        run_refused::RunReply::Lines(_) => 1,
+        run_refused::RunReply::NoEnd => 0,
+        run_refused::RunReply::Refused(_) => 0,
     }
 }
 
 // How many lines it takes, or were looked at; the largest number where they reach to the end.
-fn lines_of(a: run_refused::Answer) -> usize
-    ensures { λ r. ⌜ r ≡ answerLines a ⌝ }
+fn lines_of(a: run_refused::RunReply) -> usize
+    ensures { λ r. ⌜ r ≡ runLines a ⌝ }
 {
     match a {
-        run_refused::Answer::No(n) => n,
-        run_refused::Answer::Lines(n) => n,
-        run_refused::Answer::NoEnd => 18446744073709551615,
-        run_refused::Answer::Refused(_) => 0,
+        run_refused::RunReply::No(n) => n,
+        run_refused::RunReply::Lines(n) => n,
+        run_refused::RunReply::NoEnd => 18446744073709551615,
+        run_refused::RunReply::Refused(_) => 0,
     }
 }
 
@@ -53,7 +53,7 @@ pub extern "C" fn bridlesnow_refused_brace_run(
     join: &mut [u8],
     told: &mut [usize],
 ) -> u8
-    ensures { λ r. ⌜ r ≡ runAnswerNo (refusedRun (length (now (join .entry))) (now (text .entry)) line .answer) ⌝ }
+    ensures { λ r. ⌜ r ≡ replyPaper (refusedRun (length (now (join .entry))) (now (text .entry)) line .answer) .number ⌝ }
     ensures { λ r. ⌜ now (join .exit) ≡ over (refusedRun (length (now (join .entry))) (now (text .entry)) line .text) (now (join .entry)) ⌝ }
     ensures { λ r. ⌜ now (told .exit) ≡ toldIn (now (told .entry)) (runTold (refusedRun (length (now (join .entry))) (now (text .entry)) line)) ⌝ }
 {
@@ -68,7 +68,7 @@ pub extern "C" fn bridlesnow_refused_brace_run(
 
 // The number of whether a text ends in a refused run.
 fn ends_number(e: Ends) -> u8
-    ensures { λ r. ⌜ r ≡ endsNo e ⌝ }
+    ensures { λ r. ⌜ r ≡ endsPaper e .number ⌝ }
 {
     match e {
         Ends::No => 0,
@@ -95,7 +95,7 @@ pub extern "C" fn bridlesnow_ends_in_refused_brace_run(
     join: &mut [u8],
     told: &mut [usize],
 ) -> u8
-    ensures { λ r. ⌜ r ≡ endsNo (endsIn (now (join .entry)) (now (text .entry)) .answer) ⌝ }
+    ensures { λ r. ⌜ r ≡ endsPaper (endsIn (now (join .entry)) (now (text .entry)) .answer) .number ⌝ }
     ensures { λ r. ⌜ now (join .exit) ≡ endsIn (now (join .entry)) (now (text .entry)) .join ⌝ }
     ensures { λ r. ⌜ now (told .exit) ≡ toldIn (now (told .entry)) (endsTold (endsIn (now (join .entry)) (now (text .entry)))) ⌝ }
 {

@@ -4,14 +4,17 @@ use mathlib.Core.Path.{_≡_, refl, sym, ap, _∙_}
 use mathlib.Core.List.{List, [], _∷_, _++_}
 use Prim.Native.Nat.{ℕ}
 use lib.ListN.{length, set}
+use Rattle.base_refusals.specs.Orders.{inOrder, onPaper, met}
 use Rattle.base_refusals.specs.declared.Outcome.{Outcome}
+use Rattle.base_refusals.specs.declared.Outcome.the-variants.{Passed, Refused}
 use Rattle.set_canon.specs.Canon.{canon}
 use Rattle.set_table.specs.Types.{one}
 use Rattle.set_table.specs.Rows.{meaningOf}
 use Rattle.set_table.specs.declared.Attrs.{Attrs}
-use Rattle.set_writer.specs.Write.{wroteNo, wroteOf, contentAfter, orRefused}
+use Rattle.set_writer.specs.Write.{wrotePaper, roomOrder, wroteOf, contentAfter, orRefused}
 use Rattle.text_checks.specs.Outcomes.{orLeft}
 use Rattle.set_writer.specs.declared.Wrote.{Wrote}
+use Rattle.set_writer.proofs.Numbers.{set-no}
 use Rattle.door_shared.specs.Tells.{toldIn, lenOf, Said, setSaid}
 
 -- ---- telling
@@ -53,6 +56,12 @@ module _ (buf told : List ℕ) where
   Says s r o v = (r ≡ s .number) × ((o ≡ s .out) × (v ≡ toldIn told (s .told)))
 
   -- what is written unless c refuses it, where c and the text t are the definition's d and u
-  pub set-said : (a : Attrs) (tell : ℕ → List ℕ) {c d : Outcome} {t u : List ℕ} {w : Wrote} {o v : List ℕ} {k r : ℕ} → c ≡ d → t ≡ u → w ≡ orRefused c (wroteOf (canon (meaningOf (one t) a)) (length buf)) → o ≡ orLeft c buf (contentAfter buf (canon (meaningOf (one t) a))) → k ≡ lenOf w → v ≡ toldIn told (tell k) → r ≡ wroteNo w → Says (setSaid d u a buf tell) r o v
+  pub set-said : (a : Attrs) (tell : ℕ → List ℕ) {c d : Outcome} {t u : List ℕ} {w : Wrote} {o v : List ℕ} {k r : ℕ} → c ≡ d → t ≡ u → w ≡ orRefused c (wroteOf (canon (meaningOf (one t) a)) (length buf)) → o ≡ orLeft c buf (contentAfter buf (canon (meaningOf (one t) a))) → k ≡ lenOf w → v ≡ toldIn told (tell k) → r ≡ wrotePaper w .number → Says (setSaid d u a buf tell) r o v
   set-said a tell {c} {d} {t} {u} {w} {o} {v} {k} {r} e f p q l s n =
-      rw (← e, ← f) (n ∙ ap wroteNo p, (q, s ∙ ap (λ i. toldIn told (tell i)) (l ∙ ap lenOf p)))
+      rw (← e, ← f) (n ∙ ap (λ x. wrotePaper x .number) p, (q, s ∙ ap (λ i. toldIn told (tell i)) (l ∙ ap lenOf p)))
+
+-- the number of what is written out: what is refused already, then 10
+pub out-no : (c : Outcome) (xs : List ℕ) (size : ℕ) → wrotePaper (orRefused c (wroteOf xs size)) ≡ onPaper (met c ++ roomOrder xs size) (length xs ∷ [])
+unfolding inOrder onPaper
+out-no (Refused r) xs size = refl
+out-no Passed xs size = set-no xs size

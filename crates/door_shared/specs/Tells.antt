@@ -10,7 +10,7 @@ use Rattle.set_canon.specs.Canon.{canon}
 use Rattle.set_table.specs.Types.{one}
 use Rattle.set_table.specs.Rows.{meaningOf}
 use Rattle.set_table.specs.declared.Attrs.{Attrs}
-use Rattle.set_writer.specs.Write.{wroteNo, wroteOf, contentAfter, orRefused}
+use Rattle.set_writer.specs.Write.{wrotePaper, wroteOf, contentAfter, orRefused}
 use Rattle.text_checks.specs.Outcomes.{orLeft}
 use Rattle.set_writer.specs.declared.Wrote as wrotes
 use Rattle.set_writer.specs.declared.Wrote.the-variants as wrote
@@ -36,7 +36,7 @@ pub record Said : Type 0 where
 abbrev pub setSaid : Outcome → List ℕ → Attrs → List ℕ → (ℕ → List ℕ) → Said
 setSaid c t a buf tell =
     record {
-      number = wroteNo (orRefused c (wroteOf (canon (meaningOf (one t) a)) (length buf)));
+      number = wrotePaper (orRefused c (wroteOf (canon (meaningOf (one t) a)) (length buf))) .number;
       told = tell (lenOf (orRefused c (wroteOf (canon (meaningOf (one t) a)) (length buf))));
       out = orLeft c buf (contentAfter buf (canon (meaningOf (one t) a)));
     }

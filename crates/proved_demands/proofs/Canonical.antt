@@ -26,8 +26,10 @@ use Rattle.text_checks.proofs.Texts.{passed, text-passes, is-text}
 use Rattle.text_checks.specs.Outcomes.{unless, orElse}
 use Rattle.text_names.specs.Names.{isKey}
 use Rattle.block_grammar.specs.Close.{noLf}
-use Rattle.block_grammar.specs.Meaning.{Entry, isClass, absent, distinct}
-use Rattle.set_canon.specs.Canon.{marked, escape, moreText, pairsText, pairsOf, pairs, canon, valuesOk, entryOk, wf}
+use Rattle.block_grammar.specs.Meaning.{Entry}
+use Rattle.proved_grammar.specs.Meaning.{isClass, absent, distinct}
+use Rattle.set_canon.specs.Canon.{marked, escape, moreText, pairsText, pairsOf, pairs, canon}
+use Rattle.proved_sets.specs.Formed.{valuesOk, entryOk, wf}
 use Rattle.proved_sets.proofs.CanonBack.{back, same-text, same-meaning}
 use Rattle.set_table.specs.Types.{one, maxClasses, maxKeys, maxSlots}
 use Rattle.set_table.specs.Rows.{rowsIn, meaningOf}
@@ -39,8 +41,8 @@ use Rattle.proved_sets.proofs.MeansUtf8.{table-ok, written-utf8}
 use Rattle.proved_sets.proofs.WellFormedMeans.{means-wf}
 use Rattle.set_writer.specs.Write.{hasRoom, wroteOf, contentAfter, writable, orRefused, attrsWrote, attrsContent}
 use Rattle.set_writer.specs.declared.Wrote.the-variants.{Refused, Bytes}
-use Rattle.read_brace.specs.Table.{classCount, keyCount}
-use Rattle.proved_reading.proofs.Counts.{class-rows, key-rows}
+use Rattle.proved_sets.specs.Limits.{classCount, keyCount}
+use Rattle.proved_sets.proofs.Counts.{class-rows, key-rows}
 use Rattle.proved_reading.proofs.Agrees.{reads-as}
 use Rattle.proved_reading.proofs.HandedOut.{handed-out-ok}
 use Rattle.proved_demands.specs.Demands.{canonOf, CanonFits, EqualTexts, ReadsBack, CanonReadsBack}

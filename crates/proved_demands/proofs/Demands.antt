@@ -1,7 +1,7 @@
 -- Demands 1 and 2, and what document 01 wants proved: mostly by theorems of the crates below.
 -- Assumes nothing.
-use mathlib.Core.Path.{_≡_, refl, sym, _∙_}
-use mathlib.Core.Bool.{Bool, true, false, cond, _&&_}
+use mathlib.Core.Path.{_≡_, refl, sym}
+use mathlib.Core.Bool.{Bool, true, false, cond}
 use mathlib.Core.List.{List, [], _∷_, map}
 use Prim.Native.Nat.{ℕ, suc, _≤_}
 use native.Mathlib.Omega.{arith}
@@ -25,7 +25,8 @@ use Rattle.text_lines.specs.declared.Line.the-variants as place
 use Rattle.text_checks.specs.Check.{checkOf, isText}
 use Rattle.text_checks.specs.Outcomes.{orLeft}
 use Rattle.text_line_start.specs.Starts.{startAt, begun, onStart, placeOf}
-use Rattle.block_grammar.specs.Close.{findClose, lastClose, isBefore}
+use Rattle.block_grammar.specs.Close.{findClose}
+use Rattle.proved_grammar.specs.Close.{lastClose, isBefore}
 use Rattle.block_grammar.specs.declared.Place.the-variants.{Nothing}
 use Rattle.block_grammar.proofs.Payload as payloads
 use Rattle.block_chain.proofs.Blocks as chains
@@ -58,22 +59,23 @@ use Rattle.proved_texts.proofs.Tabs.{no-tab, columns-count, indent-spaces}
 use Rattle.proved_grammar.proofs.Blocks as lines-of-blocks
 use Rattle.proved_grammar.proofs.Close.{third-argument}
 use Rattle.proved_grammar.proofs.Quick.{quick-passes}
-use Rattle.proved_sets.proofs.LineMeant.{line-merged}
 use Rattle.proved_sets.proofs.MergeMeans.{merge-gives}
+use Rattle.proved_sets.proofs.MergeRules.{merge-by-rules}
 use Rattle.proved_sets.proofs.NeverSlots.{never-slots}
 use Rattle.proved_sets.proofs.Settled.{refusals-empty}
 use Rattle.proved_sets.proofs.Zeroed.{rest-zero}
 use Rattle.proved_runs.proofs.Bounds as runs
 use Rattle.proved_runs.proofs.RefusedBounds as refused-runs
 use Rattle.proved_runs.proofs.EndingBounds.{sum-of-runs}
-use Rattle.proved_reading.proofs.Meaning.{given, only, tidy, refused-empty, up-to-seven}
-use Rattle.proved_reading.proofs.HandedOut.{handed-out-ok}
+use Rattle.proved_reading.proofs.Meaning.{brace-by-rules, tidy, refused-empty, up-to-seven}
+use Rattle.proved_reading.proofs.HandedOut.{handed-out-ok, fill-out-ok}
+use Rattle.proved_reading.proofs.ByLines.{blocks-by-rules, line-by-rules, block-by-rules, run-by-rules}
 use Rattle.proved_reading.proofs.BlockSets.{block-zeroed, filled-empty, block-empty, empty-fits}
 use Rattle.proved_reading.proofs.LineSets.{line-empty, line-zeroed, line-set-ok, block-set-ok, run-set-ok}
 use Rattle.proved_reading.proofs.LengthsAgree.{agree}
 use Rattle.proved_reading.proofs.LengthsFair.{fair-block, fair-wraps}
 use Rattle.proved_sheets.proofs.Answers.{next-zeroed}
-use Rattle.proved_sheets.proofs.Calls.{refused-untouched}
+use Rattle.proved_sheets.proofs.Calls.{refused-laid}
 use Rattle.proved_demands.specs.Demands.{Numbered, NoneIfRefused, NoSet, LeftAsStated, ByStandards, ByGrammar, LastCloseDropped, QuickTest, Lookahead, EightNever, RowsZero, SetsWellFormed}
 
 -- ======== a refusal's number
@@ -134,8 +136,8 @@ left-as-stated =
       front = λ buf f. take-at (joinedIn f) (drop (length (joinedIn f)) buf) (length (joinedIn f)) refl;
       rest = λ buf f. drop-at (joinedIn f) (drop (length (joinedIn f)) buf) (length (joinedIn f)) refl;
       writer = writer-leaves;
-      start = λ t out cap r. refused-untouched t out 0 0 cap r .1;
-      part = λ t out at n cap r. refused-untouched t out at n cap r .0;
+      start = λ t out cap r. refused-laid t out 0 0 cap r .1;
+      part = λ t out at n cap r. refused-laid t out at n cap r .0;
       target = λ was f r e. sym (refused-stands was f e);
     }
 
@@ -156,10 +158,12 @@ by-grammar =
     record {
       payload = λ m at s is. (payloads.sound m at s is, λ p. payloads.complete p);
       blocks = λ m at s is. (chains.sound m at s is, λ p. lines-of-blocks.complete p);
-      given = given;
-      only = λ m t i a es h. let g = only h in (g .answer, g .means);
-      line = λ t from to is p d. line-merged Loose t from to is d p;
-      merge = λ t a b d. merge-gives t a b d .means;
+      brace = brace-by-rules;
+      chain = blocks-by-rules;
+      line = line-by-rules;
+      block = block-by-rules;
+      run = run-by-rules;
+      merge = merge-by-rules;
       counts = λ t at f. let g = agree t at f in (g .0, g .1 .0);
     }
 
@@ -253,4 +257,5 @@ sets-well-formed =
       block = λ t n base cap h. block-set-ok t h n base cap;
       run = λ t n base cap h. run-set-ok t h n base cap;
       merge = merge-well;
+      fill = fill-out-ok;
     }

@@ -8,7 +8,7 @@ use Rattle.block_grammar.specs.Meaning.{Entry}
 use Rattle.set_canon.specs.Canon.{canon}
 use Rattle.set_table.specs.Types.{one}
 use Rattle.set_table.specs.Rows.{meaningOf}
-use Rattle.read_brace.specs.Brace.{braceNo, readAttrsAt}
+use Rattle.read_brace.specs.Brace.{bracePaper, readAttrsAt}
 use Rattle.read_brace.specs.declared.Answer.{Answer}
 use Rattle.read_brace.specs.declared.Answer.the-variants.{Refused, Next}
 use Rattle.sheet_report.specs.Report.{report}
@@ -70,7 +70,7 @@ abbrev pub answered : List ℕ → Listed
 answered t =
     record {
       given = t;
-      number = braceNo (readAttrsAt Strict t 0 .answer);
+      number = bracePaper (readAttrsAt Strict t 0 .answer) .number;
       next = behindRead (readAttrsAt Strict t 0 .answer);
       canonical = canonRead (readAttrsAt Strict t 0 .answer) (meaningOf (one t) (readAttrsAt Strict t 0 .set));
     }

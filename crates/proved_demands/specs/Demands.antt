@@ -7,37 +7,37 @@ use mathlib.Core.List.{List, [], map}
 use Prim.Native.Nat.{ℕ, suc, _+_, _≤_}
 use lib.Dec.{eqb}
 use lib.ListN.{length, take, drop}
-use lib.Seq.{slice}
 use Rattle.base_lists.specs.Lists.{all, run, over}
 use Rattle.base_bytes.specs.Bytes.{space, tab}
 use Rattle.base_bytes.specs.declared.Mode.{Mode}
-use Rattle.base_bytes.specs.declared.Mode.the-variants.{Strict, Loose}
+use Rattle.base_bytes.specs.declared.Mode.the-variants.{Strict}
 use Rattle.base_refusals.specs.Numbers.{maxText, lastNumber, numberOf}
 use Rattle.base_refusals.specs.declared.Refusal.{Refusal}
 use Rattle.base_refusals.specs.declared.Refusal.the-variants.{TooManySlots}
 use Rattle.base_refusals.specs.declared.Outcome.{Outcome}
 use Rattle.base_refusals.specs.declared.Outcome.the-variants as outcome
 use Rattle.text_utf8.specs.Utf8.{isUtf8, charCount}
-use Rattle.text_utf8.specs.Grammar.{WellFormed}
+use Rattle.proved_texts.specs.Utf8Rules.{WellFormed}
 use Rattle.text_escapes.specs.Unescape.{unescape}
-use Rattle.text_escapes.specs.Rules.{StandsFor}
-use Rattle.text_tabs.specs.Columns.{columnsFrom, indentColumns, expandFrom}
+use Rattle.proved_texts.specs.EscapeRules.{StandsFor}
+use Rattle.text_tabs.specs.Columns.{columnsFrom, indentColumns}
+use Rattle.proved_texts.specs.Tabs.{expandFrom}
 use Rattle.text_lines.specs.Lines.{lines}
 use Rattle.text_checks.specs.Check.{isText}
 use Rattle.text_line_start.specs.Starts.{placeOf}
 use Rattle.block_grammar.specs.Grammar.{Placed, Payload}
 use Rattle.block_grammar.specs.Read.{Reading, readPayload}
-use Rattle.block_grammar.specs.Close.{Closes, findClose, lastClose, isBefore}
+use Rattle.block_grammar.specs.Close.{Closes, findClose}
+use Rattle.proved_grammar.specs.Close.{lastClose, isBefore}
 use Rattle.block_grammar.specs.Quick.{quickRefuses}
-use Rattle.block_grammar.specs.Meaning.{Entry, meaning, puts}
+use Rattle.block_grammar.specs.Meaning.{Entry}
 use Rattle.block_grammar.specs.declared.Place.the-variants.{Nothing}
-use Rattle.block_chain.specs.Chain.{Blocks, blockItems, merged, readBlocks}
+use Rattle.block_chain.specs.Chain.{Blocks, readBlocks}
 use Rattle.set_canon.specs.Canon.{canon}
 use Rattle.set_table.specs.Types.{one, emptySet}
 use Rattle.set_table.specs.Rows.{meaningOf}
 use Rattle.set_table.specs.declared.Attrs.{Attrs}
 use Rattle.set_table.specs.declared.Filled.{Filled}
-use Rattle.set_fill.specs.Fill.{chainAt}
 use Rattle.set_wellformed.specs.WellFormed.{wellFormed}
 use Rattle.set_writer.specs.Write.{attrsWrote, attrsContent}
 use Rattle.set_writer.specs.declared.Wrote.the-variants as wrote
@@ -47,8 +47,6 @@ use Rattle.run_lines.specs.Runs.{asIs, runAt, sizes}
 use Rattle.run_refused.specs.Refused.{refusedRun}
 use Rattle.run_endings.specs.Endings.{endsIn}
 use Rattle.read_brace.specs.Brace.{readAttrsAt}
-use Rattle.read_brace.specs.Table.{Given}
-use Rattle.read_brace.specs.declared.Answer.{Answer}
 use Rattle.read_brace.specs.declared.Answer.the-variants as answer
 use Rattle.read_blocks.specs.Blocks.{Found, joinedIn, lookaheadOf, joinHolds, textIn, blockOf}
 use Rattle.read_blocks.specs.ByLine.{blockFound, wrappedFound}
@@ -58,6 +56,11 @@ use Rattle.sheet_blocks.specs.Sheets.{nextOf}
 use Rattle.sheet_report.specs.Parts.{partOf, startOf}
 use Rattle.sheet_report.specs.declared.Told.the-variants as told
 use Rattle.proved_sets.specs.HandedOut.{Zeroed}
+use Rattle.proved_sets.specs.Merged.{MergeByRules}
+use Rattle.proved_reading.specs.AtBraces.{BraceByRules}
+use Rattle.proved_reading.specs.HandedSets.{FillFormed}
+use Rattle.proved_reading.specs.ByLines.{BlocksByRules, LineByRules, BlockByRules, RunByRules}
+use Rattle.proved_sheets.specs.Calls.{refusedLays}
 
 -- "exactly when"
 abbrev pub Iff : Type 0 → Type 0 → Type 0
@@ -77,7 +80,7 @@ abbrev pub SingleBoth : {A B : Type 0} → A → B → A → A → B → B → T
 SingleBoth v w r r′ m m′ = (r ≡ v) × (m ≡ w) → (r′ ≡ v) × (m′ ≡ w) → (r ≡ r′) × (m ≡ m′)
 
 -- "a refusal has its number from document 01": one of the table, and no two have the same. Which comes when, in which order,
--- is stated below of reading at a brace (`Given`), and by the other crates proved_* of the other entries.
+-- is stated below of what reads or merges (`ByGrammar`), and by the other crates proved_* of the other entries.
 pub record Numbered : Type 0 where
   pub among : (r : Refusal) → (1 ≤ numberOf r) × (numberOf r ≤ lastNumber)
   pub own : (q r : Refusal) → numberOf q ≡ numberOf r → q ≡ r
@@ -107,8 +110,9 @@ pub record LeftAsStated : Type 0 where
   pub rest : (buf : List ℕ) (f : Found) → drop (length (joinedIn f)) (joinHolds buf f) ≡ drop (length (joinedIn f)) buf
   -- "A refusal touches no other lent memory": `write_attrs`
   pub writer : (t : List ℕ) (a : Attrs) (buf : List ℕ) (r : Refusal) → attrsWrote t a (length buf) ≡ wrote.Refused r → attrsContent t a buf ≡ buf
-  -- `report_start` and `report_part`
-  pub start : (t out : List ℕ) (cap : ℕ) (r : Refusal) → startOf t cap (length out) .told ≡ told.Refused r → over (startOf t cap (length out) .text) out ≡ out
+  -- `report_start`: 9 and 10, and 1 and 2 where the longest line has no room; else "For 1 or 2 the only output is `refused`, 0, 0, number."
+  pub start : (t out : List ℕ) (cap : ℕ) (r : Refusal) → startOf t cap (length out) .told ≡ told.Refused r → over (startOf t cap (length out) .text) out ≡ over (refusedLays t (length out) r) out
+  -- `report_part`
   pub part : (t out : List ℕ) (at n cap : ℕ) (r : Refusal) → partOf t at n cap (length out) .told ≡ told.Refused r → over (partOf t at n cap (length out) .text) out ≡ out
   -- "a merge's target included": `merge_into` and `merge_leading_into`, which leave `endOf` what the set was and what the merge came to
   pub target : (was : Attrs) (f : Filled) (r : Refusal) → f .outcome ≡ outcome.Refused r → endOf was f ≡ was
@@ -133,16 +137,17 @@ pub record ByGrammar : Type 0 where
   pub payload : (m : Mode) (at : ℕ) (s : List ℕ) (is : List Placed) → Iff (readPayload m at s ≡ Reading.items is) (Payload m at s is)
   -- "blocks stand back to back to its end"
   pub blocks : (m : Mode) (at : ℕ) (s : List ℕ) (is : List Placed) → Iff (readBlocks m at s ≡ Reading.items is) (Blocks m at s is)
-  -- "Given exactly when", at a brace: `Given` has a rule for each number of the table and for a set with its meaning. Reading answers by a rule,
-  pub given : (m : Mode) (t : List ℕ) (i : ℕ) → Given m t i (readAttrsAt m t i .answer) (meaningOf (one t) (readAttrsAt m t i .set))
-  -- and nothing else: "a reader that always refuses or always gives one set" is shut out
-  pub only : (m : Mode) (t : List ℕ) (i : ℕ) (a : Answer) (es : List Entry) → Given m t i a es
-      → (readAttrsAt m t i .answer ≡ a) × (meaningOf (one t) (readAttrsAt m t i .set) ≡ es)
-  -- "and are merged left to right": the set of a line means the merge of its blocks. "a chain reader that reads block one and skips the others" is shut out
-  pub line : (t : List ℕ) (from to : ℕ) (is : List Placed) (p : Blocks Loose from (slice from to t) is) → chainAt Loose t from to .outcome ≡ outcome.Passed
-      → meaningOf (one t) (chainAt Loose t from to .set) ≡ merged [] (map meaning (blockItems p))
-  -- "a later id wins, classes are joined, later key values win, new slots go behind": so `puts` has it
-  pub merge : (t : List ℕ) (a b : Attrs) → mergeOf t a b .outcome ≡ outcome.Passed → meaningOf (one t) (mergeOf t a b .set) ≡ puts (meaningOf (one t) a) (meaningOf (one t) b)
+  -- "Given exactly when": rules name the answers, and what the set means that is handed out. Reading answers by a rule, and
+  -- nothing else (`Exactly`, proved_sets/specs/Limits): "a reader that always refuses or always gives one set" is shut out. At a brace by `Given` (read_brace/specs/Table)
+  pub brace : BraceByRules
+  -- Elsewhere by the rules of proved_reading/specs/ByLines: blocks back to back, which "are merged left to right", on a line, in a block, in a run. "a chain reader
+  -- that reads block one and skips the others" is shut out
+  pub chain : BlocksByRules
+  pub line : LineByRules
+  pub block : BlockByRules
+  pub run : RunByRules
+  -- "a later id wins, classes are joined, later key values win, new slots go behind": so `puts` has it, by the rules `MergeGiven` of proved_sets/specs/Merged
+  pub merge : MergeByRules
   -- line counts: what is read and what is measured have the same lines and lookahead
   pub counts : (t : List ℕ) (at : ℕ) (f : Found) → (blockOf t at f .lines ≡ linesIn (measured t at f .length)) × (blockOf t at f .lookahead ≡ measured t at f .lookahead)
 
@@ -190,6 +195,7 @@ pub record SetsWellFormed : Type 0 where
   pub block : (t : List ℕ) (n base cap : ℕ) → isText t ≡ true → wellFormed (textIn t (blockFound t n base cap)) (blockOf t (placeOf t n) (blockFound t n base cap) .set) ≡ true
   pub run : (t : List ℕ) (n base cap : ℕ) → isText t ≡ true → wellFormed (textIn t (wrappedFound t n base cap)) (blockOf t (placeOf t n) (wrappedFound t n base cap) .set) ≡ true
   pub merge : (t : List ℕ) (a b : Attrs) → isText t ≡ true → wellFormed t (mergeOf t a b .set) ≡ true
+  pub fill : FillFormed
 
 -- ======== Demand 3
 

@@ -19,11 +19,11 @@ use Rattle.block_grammar.specs.declared.Quote.the-variants.{Out, In}
 use Rattle.block_grammar.specs.declared.Step.the-variants.{Closed}
 use Rattle.block_grammar.specs.declared.Place.{Place}
 use Rattle.block_grammar.specs.declared.Place.the-variants.{Nothing, At}
-use Rattle.block_grammar.specs.Close.{uncovered, going, turned, scanStep, goOn, closeFrom, fresh, findClose, Covered, noLf, lastFrom, lastClose, isBefore}
+use Rattle.block_grammar.specs.Close.{uncovered, going, turned, scanStep, goOn, closeFrom, fresh, findClose, Covered, noLf}
+use Rattle.proved_grammar.specs.Close.{lastFrom, lastClose, isBefore, FoundCloses, CloseIsFound, OneClose, NothingIsNoClose, notClose, IsLast, LastIsTrue, NoBraceNoClose, ThirdArgument, ThirdChangesNothing}
 use Rattle.block_grammar.proofs.Tokens.{quote-not}
 use Rattle.block_grammar.proofs.Close.{quote-close, quote-lf}
 use Rattle.block_grammar.proofs.Close as laws
-use Rattle.proved_grammar.specs.Close.{FoundCloses, CloseIsFound, OneClose, NothingIsNoClose, notClose, IsLast, LastIsTrue, NoBraceNoClose, ThirdArgument, ThirdChangesNothing}
 
 -- ======== by the rules
 pub close-found : FoundCloses

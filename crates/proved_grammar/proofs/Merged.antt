@@ -11,10 +11,10 @@ use Rattle.base_lists.proofs.Same.{same-refl, same-true}
 use Rattle.base_lists.proofs.More.{contra}
 use Rattle.base_bytes.specs.declared.Mode.{Mode}
 use Rattle.block_grammar.specs.Grammar.{Placed}
-use Rattle.block_grammar.specs.Meaning.{Entry, isClass, withValues, put, puts, said, entriesOf, meaning, absent, distinct}
-use Rattle.block_chain.specs.Chain.{Blocks, merged, blockItems}
-use Rattle.proved_grammar.specs.Meaning.{SlotsOnce}
-use Rattle.proved_grammar.specs.Merged.{LineMerges, MeaningAppends, MergeAssociates}
+use Rattle.block_grammar.specs.Meaning.{Entry}
+use Rattle.proved_grammar.specs.Meaning.{isClass, withValues, put, puts, said, entriesOf, meaning, absent, distinct, SlotsOnce}
+use Rattle.block_chain.specs.Chain.{Blocks}
+use Rattle.proved_grammar.specs.Merged.{merged, blockItems, LineMerges, MeaningAppends, MergeAssociates}
 use Rattle.proved_grammar.proofs.Views.{puts-append, put-distinct}
 
 -- ======== puts by name

@@ -14,7 +14,8 @@ use Rattle.base_lists.proofs.More.{contra, apart, among-not}
 use Rattle.base_lists.proofs.Parts.{byte-at, drop-next}
 use Rattle.base_bytes.specs.Bytes.{isSpace, isPunct, within}
 use Rattle.text_escapes.specs.Unescape.{unescapeFrom, unescape}
-use Rattle.block_grammar.specs.Meaning.{PieceAt, mark, pieceRanges, flush, piecesFrom}
+use Rattle.block_grammar.specs.Meaning.{PieceAt, mark, pieceRanges}
+use Rattle.proved_grammar.specs.Meaning.{flush, piecesFrom}
 use Rattle.proved_grammar.specs.Pieces.{PiecesByPlaces, UnescapedFirst}
 pub use Rattle.proved_grammar.specs.Pieces.{cut, unescapes}
 

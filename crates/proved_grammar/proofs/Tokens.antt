@@ -13,13 +13,13 @@ use Rattle.block_grammar.specs.Grammar.{Placed}
 use Rattle.block_grammar.specs.Read.{Reading, also, oneOrMore, readPayload}
 use Rattle.block_tokens.specs.declared.Token.{Token}
 use Rattle.block_tokens.specs.declared.Token.the-variants.{Bad}
-use Rattle.block_next_token.specs.Walk.{stepAt, setDown, gone, Gives, shownPlaced}
+use Rattle.block_next_token.specs.Walk.{stepAt, setDown, gone, shownPlaced}
+use Rattle.proved_grammar.specs.Tokens.{Gives, OneListGiven, TokenGoesOn, GivesRead, readOn, TokensReadAs, WalkerGives, ReadIsGiven, GivenIsRead, RefusedSticks, StuckIsRefused, PayloadIsGiven}
 use Rattle.block_next_token.specs.declared.Ahead.the-variants.{Found}
 use Rattle.block_next_token.specs.declared.Step.{Step}
 use Rattle.block_next_token.specs.declared.Walker.{Walker}
 use Rattle.block_next_token.proofs.Steps.{found, isEnd, Says, says, shown-not-bad}
 use Rattle.block_next_token.proofs.Steps as steps
-use Rattle.proved_grammar.specs.Tokens.{OneListGiven, TokenGoesOn, GivesRead, readOn, TokensReadAs, WalkerGives, ReadIsGiven, GivenIsRead, RefusedSticks, StuckIsRefused, PayloadIsGiven}
 
 -- ---- a walker gives one list, and ends in one way
 pub one-list : {w : Walker} {ts us : List Token} {g h : Bool} → OneListGiven w ts us g h

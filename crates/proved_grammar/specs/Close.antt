@@ -2,15 +2,15 @@
 -- no close." The rules `Closes` and the search `findClose` are in block_grammar/specs/Close.
 use mathlib.Core.Path.{_≡_}
 use mathlib.Core.Bool.{Bool, true, cond, not}
-use mathlib.Core.List.{List, _∷_, _++_}
+use mathlib.Core.List.{List, [], _∷_, _++_}
 use Prim.Native.Nat.{ℕ, suc, _≤_}
-use lib.Dec.{eqb}
+use lib.Dec.{eqb, ltb}
 use lib.ListN.{length}
 use Rattle.base_lists.specs.Lists.{all}
 use Rattle.base_bytes.specs.Bytes.{closeBrace}
 use Rattle.block_grammar.specs.declared.Place.{Place}
 use Rattle.block_grammar.specs.declared.Place.the-variants.{Nothing, At}
-use Rattle.block_grammar.specs.Close.{closeFrom, fresh, findClose, Closes, lastClose, isBefore}
+use Rattle.block_grammar.specs.Close.{closeFrom, fresh, findClose, Closes}
 
 -- the search over s, whose first byte stands at i, finds a close by the rules, ..
 abbrev pub FoundCloses : Type 0
@@ -29,6 +29,19 @@ abbrev pub NothingIsNoClose : List ℕ → ℕ → ℕ → Type 0
 NothingIsNoClose s i e = closeFrom s fresh i ≡ Nothing → Closes s i e → ⊥
 
 -- ---- "its dropped third argument, the true place of the text's last `}`, changes nothing"
+
+-- the last `}` of a list whose first byte stands at i, where `last` is that of the bytes before
+unfoldable pub lastFrom : List ℕ → ℕ → Place → Place
+lastFrom [] i last = last
+lastFrom (b ∷ s) i last = lastFrom s (suc i) (cond (eqb b closeBrace) (At i) last)
+
+unfoldable pub lastClose : List ℕ → Place
+lastClose s = lastFrom s 0 Nothing
+
+-- 000's test `last_close_brace.map_or(true, |p| p < start)`
+abbrev pub isBefore : Place → ℕ → Bool
+isBefore Nothing start = true
+isBefore (At p) start = ltb p start
 
 -- the byte is no `}`
 abbrev pub notClose : ℕ → Bool

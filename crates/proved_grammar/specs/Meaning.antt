@@ -1,11 +1,86 @@
--- What a set means, by the names of its slots and the values under each: how an entry that is put changes both.
+-- What a payload's items mean, put together one after the other; and, by the names of the slots and the values under each, how an entry that is put changes both.
 use mathlib.Core.Path.{_≡_}
-use mathlib.Core.Bool.{true, false, cond}
-use mathlib.Core.List.{List, [], _∷_, _++_}
+use mathlib.Core.Bool.{Bool, true, false, cond, not, _&&_}
+use mathlib.Core.List.{List, [], _∷_, _++_, map, foldl}
 use Prim.Native.Nat.{ℕ}
-use Rattle.base_lists.specs.Lists.{same}
-use Rattle.block_grammar.specs.Grammar.{Placed}
-use Rattle.block_grammar.specs.Meaning.{Entry, isClass, put, lookup, slotNames, absent, distinct, meaning}
+use Rattle.base_lists.specs.Lists.{all, same}
+use Rattle.base_bytes.specs.Bytes.{isSpace}
+use Rattle.text_escapes.specs.Unescape.{unescape}
+use Rattle.block_grammar.specs.Grammar.{Item, Placed}
+use Rattle.block_grammar.specs.Meaning.{Entry, idName, className, langName, orWhole}
+
+-- "Keys `id` and `class` .. go to the id and the classes"
+unfoldable pub isClass : List ℕ → Bool
+isClass n = same n className
+
+-- ---- "A class value, unescaped first if quoted, is split at the five ASCII whitespace bytes .."
+
+abbrev pub flush : List ℕ → List (List ℕ) → List (List ℕ)
+flush [] ps = ps
+flush (a ∷ c) ps = (a ∷ c) ∷ ps
+
+-- the pieces, where c is the piece that was begun
+unfoldable pub piecesFrom : List ℕ → List ℕ → List (List ℕ)
+piecesFrom c [] = flush c []
+piecesFrom c (b ∷ s) = cond (isSpace b) (flush c (piecesFrom [] s)) (piecesFrom (c ++ (b ∷ [])) s)
+
+unfoldable pub classesOf : List ℕ → List (List ℕ)
+classesOf v = orWhole v (piecesFrom [] v)
+
+-- ---- what an item says
+
+unfoldable pub valuesOf : List ℕ → List ℕ → List (List ℕ)
+valuesOf n v = cond (isClass n) (classesOf v) (v ∷ [])
+
+-- "`:` .. sets key `lang`." "Keys `id` and `class`, bare or valued, go to the id and the classes." "a bare name ..: value empty."
+unfoldable pub said : Item → Entry
+said (Item.tag t) = record { name = langName; values = t ∷ [] }
+said (Item.id n) = record { name = idName; values = n ∷ [] }
+said (Item.class n) = record { name = className; values = n ∷ [] }
+said (Item.plain k v) = record { name = k; values = valuesOf k v }
+said (Item.quoted k q v) = record { name = k; values = valuesOf k (unescape v) }
+said (Item.bare n) = record { name = n; values = valuesOf n [] }
+
+-- ---- items and sets put together
+
+-- "The last id and the last value of a key win.": classes are joined, any other value is replaced
+abbrev pub withValues : Entry → List (List ℕ) → Entry
+withValues e vs = record { name = e .name; values = cond (isClass (e .name)) (e .values ++ vs) vs }
+
+-- "Slots: Id, Class and each key stand once, where first met."
+unfoldable pub put : List Entry → Entry → List Entry
+put [] new = new ∷ []
+put (e ∷ m) new = cond (same (e .name) (new .name)) (withValues e (new .values) ∷ m) (e ∷ put m new)
+
+-- "Merging: a later id wins, classes are joined, later key values win, new slots go behind."
+unfoldable pub puts : List Entry → List Entry → List Entry
+puts m es = foldl put m es
+
+unfoldable pub entriesOf : List Placed → List Entry
+entriesOf is = map (λ p. said (p .item)) is
+
+unfoldable pub meaning : List Placed → List Entry
+meaning is = puts [] (entriesOf is)
+
+-- no slot has the name
+unfoldable pub absent : List ℕ → List Entry → Bool
+absent n m = all (λ e. not (same (e .name) n)) m
+
+-- ---- the parts of a meaning
+
+-- the values under a name, none where it isn't there
+unfoldable pub lookup : List ℕ → List Entry → List (List ℕ)
+lookup n [] = []
+lookup n (e ∷ m) = cond (same (e .name) n) (e .values) (lookup n m)
+
+-- the slots by name
+unfoldable pub slotNames : List Entry → List (List ℕ)
+slotNames m = map (λ e. e .name) m
+
+-- "once each"
+unfoldable pub distinct : List Entry → Bool
+distinct [] = true
+distinct (e ∷ m) = absent (e .name) m && distinct m
 
 -- "The last id and the last value of a key win."; classes are joined
 abbrev pub LastValueStays : Type 0

@@ -4,7 +4,8 @@ use mathlib.Core.List.{List, [], _∷_, _++_}
 use Prim.Native.Nat.{ℕ, _-_}
 use lib.ListN.{take, drop}
 use Rattle.text_escapes.specs.Unescape.{unescape}
-use Rattle.block_grammar.specs.Meaning.{PieceAt, pieceRanges, piecesFrom}
+use Rattle.block_grammar.specs.Meaning.{PieceAt, pieceRanges}
+use Rattle.proved_grammar.specs.Meaning.{piecesFrom}
 
 -- the bytes of ranges of w
 abbrev pub cut : List ℕ → List PieceAt → List (List ℕ)

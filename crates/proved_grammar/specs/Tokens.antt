@@ -1,8 +1,7 @@
--- "a walker that holds the text and its place gives the next token": the tokens that it gives, call by call (`Gives`, block_next_token/specs/Walk), are those
--- that the reader reads.
+-- "a walker that holds the text and its place gives the next token": the tokens that it gives, call by call, are those that the reader reads.
 use mathlib.Core.Path.{_≡_}
 use mathlib.Core.Bool.{Bool, true, false}
-use mathlib.Core.List.{List, map}
+use mathlib.Core.List.{List, [], _∷_, map}
 use Prim.Native.Nat.{ℕ, _<_, _≤_}
 use lib.ListN.{length, take, drop}
 use lib.Seq.{slice}
@@ -12,9 +11,15 @@ use Rattle.block_grammar.specs.Grammar.{Placed}
 use Rattle.block_grammar.specs.Read.{Reading, readFrom, readPayload}
 use Rattle.block_tokens.specs.declared.Token.{Token}
 use Rattle.block_tokens.specs.declared.Token.the-variants.{Bad}
-use Rattle.block_next_token.specs.Walk.{stepAt, setDown, Gives, shownPlaced}
-use Rattle.block_next_token.specs.declared.Ahead.the-variants.{Found}
+use Rattle.block_next_token.specs.Walk.{stepAt, setDown, aheadOf, gone, shownPlaced}
+use Rattle.block_next_token.specs.declared.Ahead.the-variants.{End, Found}
 use Rattle.block_next_token.specs.declared.Walker.{Walker}
+
+-- the tokens that a walker gives as it goes on, call by call, and whether it then stands at the text's end or before bytes that are no token
+pub data Gives : Walker → List Token → Bool → Type 0 where
+  over : {w : Walker} → aheadOf w ≡ End → Gives w [] true
+  stuck : {w : Walker} → aheadOf w ≡ Found Bad → Gives w [] false
+  more : {w : Walker} {t : Token} {ts : List Token} {whole : Bool} → aheadOf w ≡ Found t → (t ≡ Bad → ⊥) → Gives (gone w) ts whole → Gives w (t ∷ ts) whole
 
 -- the same tokens, and the same end: the text's, or before bytes that are no token
 pub record SameTokens (ts us : List Token) (g h : Bool) : Type 0 where

@@ -13,11 +13,12 @@ use Rattle.base_lists.specs.Lists.{isIn}
 use Rattle.base_lists.proofs.More.{contra}
 use Rattle.base_bytes.specs.declared.Mode.{Mode}
 use Rattle.text_utf8.specs.Utf8.{isUtf8}
-use Rattle.text_utf8.specs.Grammar.{WellFormed}
+use Rattle.proved_texts.specs.Utf8Rules.{WellFormed}
 use Rattle.proved_texts.proofs.Utf8Grammar as utf8
 use Rattle.proved_texts.proofs.Utf8Boundaries.{before-ascii, after-ascii, part-utf8}
 use Rattle.base_refusals.specs.Numbers.{maxText, numberOf}
-use Rattle.block_grammar.specs.Meaning.{Entry, meaning}
+use Rattle.block_grammar.specs.Meaning.{Entry}
+use Rattle.proved_grammar.specs.Meaning.{meaning}
 use Rattle.block_grammar.specs.Close.{findClose}
 use Rattle.block_grammar.proofs.Close.{found, payload-is}
 use Rattle.proved_sets.proofs.CanonAtBrace as rules
@@ -29,8 +30,9 @@ use Rattle.read_brace.specs.declared.Answer.{Answer}
 use Rattle.read_brace.specs.declared.Answer.the-variants.{Refused, Next}
 use Rattle.read_brace.specs.declared.Read.{Read}
 use Rattle.read_brace.specs.Brace.{readAttrsAt}
-use Rattle.read_brace.specs.Table.{classCount, keyCount, BlockAt, Given}
-use Rattle.proved_reading.proofs.Counts.{class-meaning, key-meaning}
+use Rattle.proved_reading.specs.Table.{BlockAt, Given}
+use Rattle.proved_sets.specs.Limits.{classCount, keyCount}
+use Rattle.proved_sets.proofs.Counts.{class-meaning, key-meaning}
 use Rattle.proved_reading.specs.AtBraces.{meantAt, AnswersSo, ReadIsWell, ReadsBackAgain}
 use Rattle.proved_reading.proofs.Meaning.{given, only, read-means}
 use Rattle.proved_grammar.proofs.Close.{close-complete}

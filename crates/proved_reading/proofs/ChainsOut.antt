@@ -50,7 +50,7 @@ module _ (w : List ℕ) where
   pub line-ok : (m : Mode) (from to : ℕ) (is : List Placed) → isUtf8 w ≡ true → readBlocks m from (slice from to w) ≡ Reading.items is → all (putOk (one w)) (putsIn is) ≡ true
   line-ok m from to is u e =
       let b = sound m from (slice from to w) is e in
-      blocks-ok b (low-ends w from to u (last b .0) (first b .1) (last b .1) (omega arith) (omega arith))
+      blocks-ok b (low-ends w from to u (first b .1) (last b .0) (last b .1) (omega arith) (omega arith))
 
 pub chain-out-ok : (m : Mode) (t : List ℕ) (from to : ℕ) → isText t ≡ true → wellFormed t (fills.chainAt m t from to .set) ≡ true
 unfolding wellFormed fills.chainAt

@@ -2,20 +2,22 @@
 -- Assumes nothing.
 use mathlib.Core.Path.{_≡_, refl}
 use mathlib.Core.Bool.{Bool, true, false, cond}
-use mathlib.Core.List.{List}
+use mathlib.Core.List.{List, [], _∷_}
 use Prim.Native.Nat.{ℕ, suc}
 use native.Mathlib.Omega.{arith}
 use borrow.Author.Tests.{eqb-true, ltb-true, ltb-false}
 use lib.Dec.{ltb, eqb}
 use lib.ListN.{length, getD}
+use lib.Seq.{slice}
 use Rattle.base_lists.specs.Lists.{all}
 use Rattle.base_lists.proofs.Scan.{both}
+use Rattle.base_lists.proofs.More.{contra}
 use Rattle.text_utf8.specs.Utf8.{isUtf8}
 use Rattle.text_checks.proofs.Texts.{text-utf8}
 use Rattle.base_refusals.specs.Numbers.{maxText}
 use Rattle.base_refusals.specs.declared.Refusal.the-variants.{NotUtf8, NothingThere, TextTooLong, TooManyClasses, TooManyKeys, TooManySlots}
 use Rattle.block_grammar.specs.Grammar.{Placed}
-use Rattle.block_grammar.specs.Read.{Reading, readPayload}
+use Rattle.block_grammar.specs.Read.{Reading, readFrom, readPayload}
 use Rattle.block_grammar.specs.Close.{findClose}
 use Rattle.block_grammar.specs.declared.Place.{Place}
 use Rattle.block_grammar.specs.declared.Place.the-variants.{Nothing, At}
@@ -24,12 +26,13 @@ use Rattle.set_table.specs.Rows.{Rows, noRows, withPuts, tableOf}
 use Rattle.set_table.specs.Puts.{putsIn}
 use Rattle.set_wellformed.specs.WellFormed.{rowsOk, tableOk, wellFormed}
 use Rattle.proved_sets.proofs.PutsKept.{putOk, rows-none, rows-puts, table-ok}
+use Rattle.proved_sets.proofs.PutsParts.{own-part}
 use Rattle.proved_sets.proofs.PutsRead.{read-ok, brace-part, brace-flat}
 use Rattle.proved_sets.proofs.TableWhole.{empty-table}
 use Rattle.set_fill.specs.Fill as fills
 use Rattle.base_refusals.specs.declared.Outcome.the-variants as outcome
 use Rattle.set_table.specs.declared.Filled.{Filled}
-use Rattle.proved_reading.specs.HandedSets.{BraceFormed}
+use Rattle.proved_reading.specs.HandedSets.{BraceFormed, FillFormed}
 use Rattle.read_brace.specs.Brace.{refusingRead, braceAt, payloadOf, finished, readTo, atBrace, readAttrsAt}
 use Rattle.set_table.specs.Filled as filled
 use Rattle.set_table.specs.Filled.{limited}
@@ -77,3 +80,17 @@ handed-out-ok m t i h = rw h (go (ltb maxText (length t)) (braceAt t i) refl)
     go true b o = empty-ok (one t)
     go false true o = closed (findClose t (suc i)) o refl
     go false false o = empty-ok (one t)
+
+-- ---- of any part that is UTF-8 by itself and holds no LF
+
+pub fill-out-ok : FillFormed
+unfolding wellFormed fills.fillAt fills.filledOf readPayload readFrom
+fill-out-ok m t at end h u f = rw h (go (ltb maxText (length t)))
+  where
+    some : (s : List ℕ) → slice at end t ≡ s → (is : List Placed) → readPayload m at s ≡ Reading.items is → all (putOk (one t)) (putsIn is) ≡ true
+    some [] q is e = contra true refl (cc)
+    some (a ∷ x) q is e = read-ok t m is (own-part t at end (text-utf8 t h) q u) f (rw q e)
+
+    go : (a : Bool) → tableOk (one t) (cond a (filled.refusing TextTooLong) (fills.filledBy (one t) (readPayload m at (slice at end t))) .set) ≡ true
+    go true = empty-ok (one t)
+    go false = filled-ok (one t) (readPayload m at (slice at end t)) (some (slice at end t) refl)

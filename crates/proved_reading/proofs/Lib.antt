@@ -1,5 +1,4 @@
 -- The proofs of what is said of reading and measuring: at a brace, the sets handed out, blocks and their lengths, and the numbers of answers.
-pub mod Counts
 pub mod Meaning
 pub mod Agrees
 pub mod HandedOut
@@ -10,6 +9,4 @@ pub mod LengthsFair
 pub mod LengthsAgree
 pub mod Places
 pub mod Wraps
-pub mod BlockNumbers
-pub mod LineNumbers
-pub mod LengthNumbers
+pub mod ByLines

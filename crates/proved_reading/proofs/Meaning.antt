@@ -13,14 +13,14 @@ use Rattle.base_lists.proofs.Parts.{slice-part}
 use Rattle.base_lists.proofs.More.{contra}
 use Rattle.base_bytes.specs.declared.Mode.{Mode}
 use Rattle.text_utf8.specs.Utf8.{isUtf8}
-use Rattle.text_utf8.specs.Grammar.{WellFormed}
 use Rattle.proved_texts.proofs.Utf8Grammar as utf8
 use Rattle.base_refusals.specs.Numbers.{maxText, numberOf}
 use Rattle.base_refusals.specs.declared.Refusal.{Refusal}
 use Rattle.base_refusals.specs.declared.Refusal.the-variants.{NothingThere, NoClose, NoReading, TooManyClasses, TooManyKeys}
 use Rattle.block_grammar.specs.Grammar.{Placed, Payload}
 use Rattle.block_grammar.specs.Read.{Reading, readPayload}
-use Rattle.block_grammar.specs.Meaning.{Entry, entriesOf, meaning}
+use Rattle.block_grammar.specs.Meaning.{Entry}
+use Rattle.proved_grammar.specs.Meaning.{entriesOf, meaning}
 use Rattle.block_grammar.specs.Close.{Closes, findClose}
 use Rattle.block_grammar.specs.declared.Place.{Place}
 use Rattle.block_grammar.specs.declared.Place.the-variants.{Nothing, At}
@@ -35,16 +35,19 @@ use Rattle.set_table.proofs.Table.{padded-length}
 use Rattle.set_table.specs.Filled.{limited}
 use Rattle.set_fill.specs.Fill as fills
 use Rattle.proved_sets.proofs.Zeroed.{table-zeroed}
+use Rattle.proved_sets.proofs.Limited.{over-classes, over-keys, fits}
+use Rattle.proved_sets.proofs.Limits.{exactly, not-utf8}
 use Rattle.proved_sets.proofs.Slots.{slots-fit}
 use Rattle.proved_sets.proofs.TableWhole.{table-means, empty-table, empty-means}
 use Rattle.read_brace.specs.declared.Answer.{Answer}
 use Rattle.read_brace.specs.declared.Answer.the-variants.{Refused, Next}
 use Rattle.read_brace.specs.declared.Read.{Read}
-use Rattle.read_brace.specs.Brace.{braceNo, refusingRead, braceAt, payloadOf, finished, readTo, atBrace, readAttrsAt}
-use Rattle.read_brace.specs.Table.{classCount, keyCount, BraceAt, BlockAt, Reads, Given}
-use Rattle.proved_reading.specs.AtBraces.{ByTable, TableAnswers, OneAnswer, UpToSeven, Means, SetMeansItems, MustRead}
+use Rattle.read_brace.specs.Brace.{bracePaper, refusingRead, braceAt, payloadOf, finished, readTo, atBrace, readAttrsAt}
+use Rattle.proved_reading.specs.Table.{BraceAt, BlockAt, Reads, Given}
+use Rattle.proved_sets.specs.Limits.{classCount, keyCount}
+use Rattle.proved_reading.specs.AtBraces.{AnswersSo, BraceByRules, UpToSeven}
 use Rattle.proved_reading.specs.HandedSets.{BraceRefused, Tidy, BraceTidy}
-use Rattle.proved_reading.proofs.Counts.{class-fill, key-fill}
+use Rattle.proved_sets.proofs.Counts.{class-fill, key-fill}
 use Rattle.proved_grammar.proofs.Close.{close-complete, no-close}
 use Rattle.proved_grammar.proofs.Payload.{no-reading}
 use Rattle.proved_grammar.proofs.Places.{Standing, standing}
@@ -60,13 +63,6 @@ opens t i e =
 opened : {t : List ℕ} {i : ℕ} → BraceAt t i → braceAt t i ≡ true
 unfolding braceAt
 opened {t} {i} o = rw (lt-ltb i (length t) (o .there), eq-eqb (getD t i 0) 123 (o .brace))
-
-not-utf8 : (s : List ℕ) → (WellFormed s → ⊥) → isUtf8 s ≡ false
-not-utf8 s n = go (isUtf8 s) refl
-  where
-    go : (x : Bool) → isUtf8 s ≡ x → x ≡ false
-    go true e = absurd (n (utf8.sound s e))
-    go false e = refl
 
 never-closes : (t : List ℕ) (i : ℕ) → findClose t (suc i) ≡ Nothing → (e : ℕ) → Closes (drop (suc i) t) (suc i) e → ⊥
 unfolding findClose
@@ -96,24 +92,28 @@ module _ {m : Mode} {t : List ℕ} {i e : ℕ} {is : List Placed} (h : Reads m t
   st : Standing t is
   st = stands (h .block) (h .payload)
 
-  reads-filled : {f : Read} → finished (limited (withPuts (one t) noRows (putsIn is))) (suc e) ≡ f → readAttrsAt m t i ≡ f
+  abbrev rows : Rows
+  rows = withPuts (one t) noRows (putsIn is)
+
+  reads-filled : {f : Read} → finished (limited rows) (suc e) ≡ f → readAttrsAt m t i ≡ f
   unfolding fills.filledOf
   reads-filled k = reads-to (h .block) m (rw (inside-is (h .block), utf8.complete (h .utf8), complete (h .payload)) k)
 
   reads-classes : maxClasses < classCount (entriesOf is) → readAttrsAt m t i ≡ refusingRead TooManyClasses
-  unfolding finished limited
-  reads-classes l = reads-filled (rw (class-fill st, lt-ltb maxClasses (classCount (entriesOf is)) l))
+  unfolding finished
+  reads-classes l = reads-filled (rw (over-classes rows (omega (arith, class-fill st, l))))
 
   module _ (l : classCount (entriesOf is) ≤ maxClasses) where
-    reads-keys : maxKeys < keyCount (entriesOf is) → readAttrsAt m t i ≡ refusingRead TooManyKeys
-    unfolding finished limited
-    reads-keys k = reads-filled (rw (class-fill st, le-ltb maxClasses (classCount (entriesOf is)) l, key-fill st, lt-ltb maxKeys (keyCount (entriesOf is)) k))
+    few : length (rows .classes) ≤ maxClasses
+    few = omega (arith, class-fill st)
 
-    reads-set : keyCount (entriesOf is) ≤ maxKeys → readAttrsAt m t i ≡ record { answer = Next (suc e); set = tableOf (withPuts (one t) noRows (putsIn is)) }
-    unfolding finished limited
-    reads-set k =
-        let o : length (withPuts (one t) noRows (putsIn is) .order) ≤ maxSlots = slots-fit (rows-shaped st (shaped-none (one t))) (omega (arith, key-fill st)) in
-        reads-filled (rw (class-fill st, le-ltb maxClasses (classCount (entriesOf is)) l, key-fill st, le-ltb maxKeys (keyCount (entriesOf is)) k, le-ltb maxSlots (length (withPuts (one t) noRows (putsIn is) .order)) o))
+    reads-keys : maxKeys < keyCount (entriesOf is) → readAttrsAt m t i ≡ refusingRead TooManyKeys
+    unfolding finished
+    reads-keys k = reads-filled (rw (over-keys rows few (omega (arith, key-fill st, k))))
+
+    reads-set : keyCount (entriesOf is) ≤ maxKeys → readAttrsAt m t i ≡ record { answer = Next (suc e); set = tableOf rows }
+    unfolding finished
+    reads-set k = reads-filled (rw (fits rows few (rows-shaped st (shaped-none (one t))) (omega (arith, key-fill st, k))))
 
 -- ======== what is given is by the rules
 abbrev Right : Mode → List ℕ → ℕ → Read → Type 0
@@ -147,7 +147,7 @@ module _ (m : Mode) (t : List ℕ) (i : ℕ) where
       go true p Reading.refused q = without (Given.unread b (utf8.sound (b .closes .inside) p) (no-reading m (suc i) (b .closes .inside) q)) (reads-to b m (rw (inside-is b, p, q)))
       go true p (Reading.items is) q = with-items (record { block = b; utf8 = utf8.sound (b .closes .inside) p; payload = sound m (suc i) (b .closes .inside) is q })
 
-  pub given : ByTable m t i
+  pub given : Right m t i (readAttrsAt m t i)
   unfolding readAttrsAt atBrace
   given = go (ltb maxText (length t)) refl (braceAt t i) refl (findClose t (suc i)) refl
     where
@@ -192,7 +192,7 @@ module _ {m : Mode} {t : List ℕ} {i : ℕ} where
   exact (Given.read h l k) = rw (reads-set h l k) (Out.yes h l k)
 
 module _ {m : Mode} {t : List ℕ} {i : ℕ} where
-  pub only : {a : Answer} {s : List Entry} → TableAnswers m t i a s
+  pub only : {a : Answer} {s : List Entry} → Given m t i a s → AnswersSo m t i a s
   only g = let z = exact g in record { answer = answers z; means = meant z }
     where
       answers : {a : Answer} {s : List Entry} {r : Read} → Out m t i a s r → r .answer ≡ a
@@ -203,11 +203,20 @@ module _ {m : Mode} {t : List ℕ} {i : ℕ} where
       meant (Out.no r) = empty-means (one t)
       meant (Out.yes {is = is} h l k) = table-means (withPuts (one t) noRows (putsIn is)) (one t) ∙ rows-mean (st h)
 
-  -- so any two that are allowed are the same
-  pub single : {a b : Answer} {r s : List Entry} → OneAnswer m t i a b r s
-  single g h = (sym (only g .answer) ∙ only h .answer, sym (only g .means) ∙ only h .means)
+pub brace-by-rules : BraceByRules
+brace-by-rules m t i = exactly (λ a s g. let z = only g in (z .answer, z .means)) (given m t i)
 
--- ======== what a caller asks
+-- ======== what a set says
+
+-- with the place n behind it, it is that of a block whose payload the grammar reads up to its close, and it means the payload's items
+pub record Means (m : Mode) (t : List ℕ) (i n : ℕ) (s : List Entry) : Type 0 where
+  pub close : ℕ
+  pub items : List Placed
+  pub reads : Reads m t i close items
+  pub next : n ≡ suc close
+  pub meant : s ≡ meaning items
+  pub classes : classCount (entriesOf items) ≤ maxClasses
+  pub keys : keyCount (entriesOf items) ≤ maxKeys
 
 module _ {m : Mode} {t : List ℕ} {i : ℕ} where
   by-next : {a : Answer} {s : List Entry} → Given m t i a s → (n : ℕ) → a ≡ Next n → Means m t i n s
@@ -220,11 +229,8 @@ module _ {m : Mode} {t : List ℕ} {i : ℕ} where
   by-next (Given.keys h l k) n e = contra true refl (cc)
   by-next (Given.read {e = c} {is = is} h l k) n e = record { close = c; items = is; reads = h; next = cc; meant = refl; classes = l; keys = k }
 
-  pub read-means : {n : ℕ} → SetMeansItems m t i n
+  pub read-means : {n : ℕ} → readAttrsAt m t i .answer ≡ Next n → Means m t i n (meaningOf (one t) (readAttrsAt m t i .set))
   read-means {n} e = by-next (given m t i) n e
-
-  pub must-read : {e : ℕ} {is : List Placed} → MustRead m t i e is
-  must-read h l k = only (Given.read h l k)
 
 -- ======== the set as it is handed out
 
@@ -259,7 +265,7 @@ module _ (m : Mode) (t : List ℕ) (i : ℕ) where
   unfolding numberOf
   up-to-seven = go (given m t i)
     where
-      go : {a : Answer} {s : List Entry} → Given m t i a s → braceNo a ≤ 7
+      go : {a : Answer} {s : List Entry} → Given m t i a s → bracePaper a .number ≤ 7
       go (Given.long l) = omega arith
       go (Given.none l n) = omega arith
       go (Given.unclosed l o n) = omega arith

@@ -4,13 +4,17 @@ use mathlib.Core.Path.{_≡_}
 use mathlib.Core.Bool.{true}
 use mathlib.Core.List.{List}
 use lib.ListN.{length}
+use lib.Seq.{slice}
 use Rattle.base_bytes.specs.declared.Mode.{Mode}
 use Rattle.base_refusals.specs.declared.Refusal.{Refusal}
 use Rattle.base_refusals.specs.declared.Outcome.the-variants as outcome
+use Rattle.text_utf8.specs.Utf8.{isUtf8}
 use Rattle.text_checks.specs.Check.{isText}
 use Rattle.text_line_start.specs.Starts.{placeOf}
+use Rattle.block_grammar.specs.Close.{noLf}
 use Rattle.set_table.specs.Types.{emptySet, maxClasses, maxKeys, maxSlots}
 use Rattle.set_table.specs.declared.Attrs.{Attrs}
+use Rattle.set_fill.specs.Fill.{fillAt}
 use Rattle.set_wellformed.specs.WellFormed.{wellFormed}
 use Rattle.proved_sets.specs.HandedOut.{Zeroed}
 use Rattle.read_brace.specs.declared.Answer.the-variants.{Refused}
@@ -57,6 +61,10 @@ BraceFormed = (m : Mode) (t : List ℕ) (i : ℕ) → isText t ≡ true → well
 
 abbrev pub LineFormed : Type 0
 LineFormed = (t : List ℕ) → isText t ≡ true → (n : ℕ) → wellFormed t (parseStandalone t n .set) ≡ true
+
+-- `fill`, which takes any part of a text: of one that is UTF-8 by itself and holds no LF
+abbrev pub FillFormed : Type 0
+FillFormed = (m : Mode) (t : List ℕ) (at end : ℕ) → isText t ≡ true → isUtf8 (slice at end t) ≡ true → noLf (slice at end t) ≡ true → wellFormed t (fillAt m t at end .set) ≡ true
 
 -- a block's set is well-formed over the lent text, that of a run over the joined one
 abbrev pub SetFormed : List ℕ → ℕ → Found → Type 0

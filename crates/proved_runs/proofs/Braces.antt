@@ -20,7 +20,7 @@ use Rattle.block_grammar.specs.declared.Place.{Place}
 use Rattle.block_grammar.specs.declared.Place.the-variants.{Nothing, At}
 use Rattle.run_scanners.specs.declared.Seek.{Seek}
 use Rattle.run_scanners.specs.Scanners.{passed, ignored, scanFrom, isBare, seekStep, seekFrom, seekStart, lastOpenBrace, cappedAt}
-use Rattle.run_scanners.specs.Rules.{noneBare, tabsSpaced, LastBrace}
+use Rattle.proved_runs.specs.Rules.{noneBare, tabsSpaced, LastBrace}
 use Rattle.run_scanners.proofs.Laws.{seek-append}
 use Rattle.run_lines.proofs.Bounds as bounds
 use Rattle.proved_runs.specs.Scanning.{BraceSound, BraceComplete, NoneFound, NoneStands, BraceCount, BraceWhole, LaterLine, FarBrace}

@@ -12,7 +12,7 @@ use Rattle.base_lists.proofs.Scan.{both}
 use Rattle.base_lists.proofs.More.{apart, among-not}
 use Rattle.base_bytes.specs.Bytes.{within, isQuote, isTail}
 use Rattle.text_tabs.specs.Columns.{columnAfter}
-use Rattle.text_utf8.specs.Grammar.{Char, one, two, three-E0, three-E1, three-ED, three-EE, four-F0, four-F1, four-F4, Octets, none, more}
+use Rattle.proved_texts.specs.Utf8Rules.{one, two, three-E0, three-E1, three-ED, three-EE, four-F0, four-F1, four-F4, none, more, Char, Octets}
 use Rattle.proved_texts.proofs.Utf8Shape.{starts, shape}
 use Rattle.block_grammar.specs.Close.{uncovered, fresh, turned}
 use Rattle.block_grammar.specs.declared.Quote.{Quote}
@@ -23,7 +23,7 @@ use Rattle.run_scanners.specs.declared.Held.{Held}
 use Rattle.run_scanners.specs.declared.Hold.{Hold}
 use Rattle.run_scanners.specs.declared.Hold.the-variants.{Dead, Live}
 use Rattle.run_scanners.specs.Scanners.{inQuote, takes, passed, honoured, ignored, scanFrom, isBare, openQuoteAtEnd, seekStep, seekFrom, seekStart, lastOpenBrace, live, heldStep, holdStep, holdFrom, holdStart, isHeld, holdsOpen}
-use Rattle.run_scanners.specs.Rules.{leads, isSound}
+use Rattle.proved_runs.specs.Rules.{leads, isSound}
 use Rattle.proved_runs.specs.Scanning.{ScansByCharacters}
 
 -- ---- a byte above 127 is no byte that the scanners look for

@@ -16,8 +16,8 @@ use Rattle.text_lines.specs.Lines.{lines}
 use Rattle.run_lines.specs.Runs.{asIs, sizes}
 use Rattle.run_lines.proofs.Bounds.{sizes-lines}
 use Rattle.run_spots.specs.Spots.{closesComment}
-use Rattle.run_refused.specs.declared.Answer.{Answer}
-use Rattle.run_refused.specs.declared.Answer.the-variants.{No, Lines, NoEnd, Refused}
+use Rattle.run_refused.specs.declared.RunReply.{RunReply}
+use Rattle.run_refused.specs.declared.RunReply.the-variants.{No, Lines, NoEnd, Refused}
 use Rattle.run_refused.specs.Refused.{RunTold, refusedOf}
 use Rattle.run_endings.specs.declared.Ends.the-variants as end
 use Rattle.run_endings.specs.Endings.{Ended, settled, openings, lastOf, tries, toldBy, triedIn, endsOf, endsBy, endsIn}
@@ -29,7 +29,7 @@ use Rattle.proved_runs.specs.Lookaheads.{isLastRun, runsMade, lookaheads
 -- ---- the sum
 
 -- what comes behind a run counts only where that run isn't the last one
-behind-ahead : (a : Answer) (count : ℕ) (buf : List ℕ) (next : Ended) → toldBy a count buf next .lookahead ≡ cond (isLastRun a count) 0 (next .lookahead)
+behind-ahead : (a : RunReply) (count : ℕ) (buf : List ℕ) (next : Ended) → toldBy a count buf next .lookahead ≡ cond (isLastRun a count) 0 (next .lookahead)
 behind-ahead (Refused r) count buf next = refl
 behind-ahead (No n) count buf next = refl
 behind-ahead NoEnd count buf next = refl

@@ -27,7 +27,7 @@ use Rattle.run_lines.proofs.Bounds.{run-by}
 use Rattle.run_joins.specs.Joins.{added}
 use Rattle.run_spots.specs.declared.Spot.{Spot}
 use Rattle.run_spots.specs.Spots.{isStray, spotAfter, opensComment}
-use Rattle.run_refused.specs.declared.Answer.the-variants.{No}
+use Rattle.run_refused.specs.declared.RunReply.the-variants.{No}
 use Rattle.run_refused.specs.Refused.{Stretch, ontoStretch, walkLine, On, halts, paddedLine, enteredAt, onAfter, behindLine, walkFrom, onFirst, RunTold, unjoined, foundIn, commentFrom, refusedOf, refusedBy, refusedRun}
 use Rattle.run_refused.specs.Inner.{linesTaken}
 use Rattle.proved_runs.specs.Lookaheads.{eachSpaced, oneSpaced, untrimmed, JoinedFirst, RunJoins, RefusedJoins, RefusedRunJoins}

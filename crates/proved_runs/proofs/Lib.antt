@@ -1,4 +1,4 @@
--- The proofs of what is said of runs of lines: the scanners, what runs join and count, their texts, pads, and the numbers of answers.
+-- The proofs of what is said of runs of lines: the scanners, what runs join and count, their texts, pads, and the count of an answer.
 pub mod Quotes
 pub mod Braces
 pub mod Characters
@@ -9,5 +9,4 @@ pub mod RefusedBounds
 pub mod EndingBounds
 pub mod Pads
 pub mod Copies
-pub mod RefusedNumbers
-pub mod EndingNumbers
+pub mod RefusedCounts

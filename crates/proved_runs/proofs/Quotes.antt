@@ -18,7 +18,7 @@ use Rattle.run_scanners.specs.declared.Held.{Held}
 use Rattle.run_scanners.specs.declared.Hold.{Hold}
 use Rattle.run_scanners.specs.declared.Hold.the-variants.{Dead, Live}
 use Rattle.run_scanners.specs.Scanners.{inQuote, passed, honoured, ignored, scanFrom, isBare, openQuoteAtEnd, live, heldStep, holdFrom}
-use Rattle.run_scanners.specs.Rules.{noneBare}
+use Rattle.proved_runs.specs.Rules.{noneBare}
 use Rattle.run_scanners.proofs.Laws as laws
 use Rattle.run_scanners.proofs.Laws.{dead-stays}
 use Rattle.proved_runs.specs.Scanning.{QuotesAgree, ScanCarried}

@@ -11,8 +11,8 @@ use Rattle.text_checks.specs.Check.{isText}
 use Rattle.text_lines.specs.Trim.{trim}
 use Rattle.text_lines.specs.Lines.{lines}
 use Rattle.run_lines.specs.Runs.{runAt}
-use Rattle.run_refused.specs.declared.Answer.{Answer}
-use Rattle.run_refused.specs.declared.Answer.the-variants.{No, Lines, NoEnd, Refused}
+use Rattle.run_refused.specs.declared.RunReply.{RunReply}
+use Rattle.run_refused.specs.declared.RunReply.the-variants.{No, Lines, NoEnd, Refused}
 use Rattle.run_refused.specs.Refused.{RunTold, refusedOf, refusedRun}
 use Rattle.run_endings.specs.Endings.{openings, lastOf, tries, endsIn}
 
@@ -63,7 +63,7 @@ RefusedLookahead = (cap : ℕ) (t : List ℕ) (n : ℕ) → refusedRun cap t n .
 -- ---- "`ends_in_refused_brace_run` reports its runs' sum"
 
 -- a run that is refused, or takes all lines, so many, is the last one
-abbrev pub isLastRun : Answer → ℕ → Bool
+abbrev pub isLastRun : RunReply → ℕ → Bool
 isLastRun (Refused r) count = true
 isLastRun (Lines n) count = eqb n count
 isLastRun (No n) count = false

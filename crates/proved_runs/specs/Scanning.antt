@@ -7,9 +7,10 @@ use lib.Dec.{ltb}
 use lib.ListN.{length}
 use Rattle.base_bytes.specs.Bytes.{backslash, openBrace}
 use Rattle.text_utf8.specs.Utf8.{charCount}
-use Rattle.text_utf8.specs.Grammar.{Octets}
+use Rattle.proved_texts.specs.Utf8Rules.{Octets}
 use Rattle.text_lines.specs.Trim.{trim}
-use Rattle.text_tabs.specs.Columns.{expandFrom, indentFrom, most}
+use Rattle.text_tabs.specs.Columns.{indentFrom, most}
+use Rattle.proved_texts.specs.Tabs.{expandFrom}
 use Rattle.block_grammar.specs.Close.{uncovered, fresh}
 use Rattle.block_grammar.specs.declared.Quote.{Quote}
 use Rattle.block_grammar.specs.declared.Scan.{Scan}
@@ -18,7 +19,7 @@ use Rattle.block_payloads.specs.Payloads.{continues}
 use Rattle.run_scanners.specs.declared.Held.{Held}
 use Rattle.run_scanners.specs.declared.Hold.the-variants.{Live}
 use Rattle.run_scanners.specs.Scanners.{inQuote, openQuoteAtEnd, lastOpenBrace, cappedAt, holdFrom, holdStart, isHeld, holdsOpen}
-use Rattle.run_scanners.specs.Rules.{noneBare, tabsSpaced, LastBrace, leads, isSound}
+use Rattle.proved_runs.specs.Rules.{noneBare, tabsSpaced, LastBrace, leads, isSound}
 use Rattle.run_joins.specs.Joins.{goesOn}
 
 -- ---- "the last open brace's column"

@@ -11,7 +11,8 @@ use Rattle.base_bytes.specs.declared.Mode.{Mode}
 use Rattle.base_bytes.specs.declared.Mode.the-variants.{Strict}
 use Rattle.block_grammar.specs.Meaning.{Entry}
 use Rattle.block_grammar.specs.Close.{Closes}
-use Rattle.set_canon.specs.Canon.{canon, wf}
+use Rattle.set_canon.specs.Canon.{canon}
+use Rattle.proved_sets.specs.Formed.{wf}
 use Rattle.proved_sets.proofs.CanonWellFormed.{read-wf, read-some}
 use Rattle.proved_sets.proofs.CanonBack.{back}
 use Rattle.proved_sets.proofs.CanonAtBrace.{Answer, AtBrace, readAt, by-rules, only}

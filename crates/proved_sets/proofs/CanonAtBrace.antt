@@ -1,4 +1,4 @@
--- Reading at a brace without sizes, limits and UTF-8, with which canonical text is read back; the table of refusals is read_brace/specs/Table.
+-- Reading at a brace without sizes, limits and UTF-8, with which canonical text is read back; the table of refusals is proved_reading/specs/Table.
 -- `readAt` answers what the rules of `AtBrace` say and nothing else: 3, 4, 5 or a meaning, each given exactly when document 01 gives it.
 -- Assumes nothing.
 use mathlib.Core.Path.{_≡_, refl, ap, sym}
@@ -11,7 +11,8 @@ use borrow.Author.Tests.{eqb-true, eqb-false, eq-eqb, ne-eqb}
 use Rattle.base_bytes.specs.declared.Mode.{Mode}
 use Rattle.block_grammar.specs.Grammar.{Placed, Payload}
 use Rattle.block_grammar.specs.Read.{Reading, readPayload}
-use Rattle.block_grammar.specs.Meaning.{Entry, meaning}
+use Rattle.block_grammar.specs.Meaning.{Entry}
+use Rattle.proved_grammar.specs.Meaning.{meaning}
 use Rattle.block_grammar.specs.declared.Place.{Place}
 use Rattle.block_grammar.specs.declared.Place.the-variants.{Nothing, At}
 use Rattle.block_grammar.specs.Close.{findClose, Closes}

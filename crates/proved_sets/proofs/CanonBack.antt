@@ -16,13 +16,15 @@ use Rattle.base_bytes.specs.Bytes.{isBlank, within, isLetter, isDigit, isAlnum,
 use Rattle.text_names.specs.Names.{isKey}
 use Rattle.block_grammar.specs.Grammar.{Item, Placed, IsToken}
 use Rattle.block_grammar.specs.Read.{readFrom, readPayload}
-use Rattle.block_grammar.specs.Meaning.{Entry, isClass, said, puts, entriesOf, meaning}
+use Rattle.block_grammar.specs.Meaning.{Entry}
+use Rattle.proved_grammar.specs.Meaning.{isClass, said, puts, entriesOf, meaning}
 use Rattle.block_grammar.specs.declared.Place.the-variants.{At}
 use Rattle.block_grammar.specs.Close.{scanStep, closeFrom, fresh, findClose, Covered, noLf}
 use Rattle.block_grammar.proofs.Bytes.{key-parts}
 use Rattle.block_grammar.proofs.Chain.{Chain, no-blanks, chain-payload}
 use Rattle.block_grammar.proofs.Payload.{complete}
-use Rattle.set_canon.specs.Canon.{escape, Pair, pairText, moreText, pairsText, pairsOf, pairs, canon, isClassValue, wf}
+use Rattle.set_canon.specs.Canon.{escape, Pair, pairText, moreText, pairsText, pairsOf, pairs, canon, isClassValue}
+use Rattle.proved_sets.specs.Formed.{wf}
 use Rattle.proved_sets.proofs.CanonValues.{inside-escape, unescape-escape, all-escape, values-whole}
 use Rattle.proved_sets.proofs.CanonParts.{okay, classes-some, some-value, split-wf}
 use Rattle.proved_sets.proofs.CanonPuts.{pairEntry, pairEntries, put-together}

@@ -7,9 +7,11 @@ use Prim.Native.Nat.{ℕ}
 use Rattle.base_lists.specs.Lists.{all, isSome}
 use Rattle.base_lists.proofs.Scan.{both}
 use Rattle.text_names.specs.Names.{isKey}
-use Rattle.block_grammar.specs.Meaning.{Entry, isClass, absent, distinct}
+use Rattle.block_grammar.specs.Meaning.{Entry}
+use Rattle.proved_grammar.specs.Meaning.{isClass, absent, distinct}
 use Rattle.block_grammar.specs.Close.{noLf}
-use Rattle.set_canon.specs.Canon.{isOne, isClassValue, valuesOk, entryOk, wf}
+use Rattle.set_canon.specs.Canon.{isClassValue}
+use Rattle.proved_sets.specs.Formed.{isOne, valuesOk, entryOk, wf}
 
 -- ---- one entry
 pub record Okay (n : List ℕ) (vs : List (List ℕ)) : Type 0 where

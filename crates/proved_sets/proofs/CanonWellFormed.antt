@@ -16,12 +16,14 @@ use Rattle.text_names.specs.Names.{isName, isKey}
 use Rattle.text_escapes.specs.Unescape.{unescape}
 use Rattle.text_escapes.proofs.Pieces.{no-lf}
 use Rattle.block_grammar.specs.Grammar.{Item, Placed, IsToken, Payload}
-use Rattle.block_grammar.specs.Meaning.{Entry, langName, idName, className, isClass, flush, piecesFrom, orWhole, classesOf, valuesOf, said, withValues, put, puts, entriesOf, meaning, distinct}
+use Rattle.block_grammar.specs.Meaning.{Entry, langName, idName, className, orWhole}
+use Rattle.proved_grammar.specs.Meaning.{isClass, flush, piecesFrom, classesOf, valuesOf, said, withValues, put, puts, entriesOf, meaning, distinct}
 use Rattle.block_grammar.specs.Close.{noLf}
 use Rattle.block_grammar.proofs.Bytes.{name-parts, bare-key}
 use Rattle.block_grammar.proofs.Chain.{Chain, payload-chain}
 use Rattle.proved_grammar.proofs.Views.{put-distinct, put-some}
-use Rattle.set_canon.specs.Canon.{isClassValue, entryOk, wf}
+use Rattle.set_canon.specs.Canon.{isClassValue}
+use Rattle.proved_sets.specs.Formed.{valuesOk, entryOk, wf}
 use Rattle.proved_sets.proofs.CanonParts.{Okay, okay, entry-ok, classes-some, classes-ok, value-ok, joined}
 
 abbrev pub notLf : ℕ → Bool
@@ -119,7 +121,7 @@ one-good : (n v : List ℕ) → isKey n ≡ true → noLf v ≡ true → (isClas
 unfolding all
 one-good n v k f w = entry-ok (record { name = n; values = v ∷ [] }) (record { key = k; flat = rw f; shape = go (isClass n) refl })
   where
-    go : (x : Bool) → isClass n ≡ x → Rattle.set_canon.specs.Canon.valuesOk n (v ∷ []) ≡ true
+    go : (x : Bool) → isClass n ≡ x → valuesOk n (v ∷ []) ≡ true
     go true p = classes-ok n (v ∷ []) p refl (rw (w p))
     go false p = value-ok n v p
 

@@ -16,7 +16,8 @@ use Rattle.base_bytes.specs.declared.Mode.{Mode}
 use Rattle.text_escapes.specs.Unescape.{unescape}
 use Rattle.block_grammar.specs.Grammar.{Item, Placed}
 use Rattle.block_grammar.specs.Read.{Reading, text, readFrom, readPayload}
-use Rattle.block_grammar.specs.Meaning.{Entry, PieceAt, pieceRanges, piecesFrom, classesOf, valuesOf, isClass, idName, className, said, withValues, put, puts, entriesOf, meaning, orWhole}
+use Rattle.block_grammar.specs.Meaning.{Entry, PieceAt, pieceRanges, idName, className, orWhole}
+use Rattle.proved_grammar.specs.Meaning.{piecesFrom, classesOf, valuesOf, isClass, said, withValues, put, puts, entriesOf, meaning}
 use Rattle.block_grammar.proofs.Payload.{sound}
 use Rattle.proved_grammar.proofs.Pieces.{cut, cut-pieces, unescapes, pieces-unescape}
 use Rattle.proved_grammar.proofs.Views.{puts-append, put-same, put-other, put-slots}

@@ -1,11 +1,14 @@
 -- The proofs of what specs/ states of sets, with the laws that they rest on.
 -- ---- what is read into a set means
 pub mod Slots
+pub mod Limited
 pub mod Shaping
 pub mod TableMeant
 pub mod TableWhole
 pub mod Items
 pub mod LineMeant
+pub mod Counts
+pub mod Limits
 -- ---- canonical text
 pub mod CanonAtBrace
 pub mod CanonValues
@@ -27,11 +30,8 @@ pub mod MergeByNames
 pub mod MergePuts
 pub mod MergeRest
 pub mod MergeMeans
+pub mod MergeRules
 -- ---- every set handed out
 pub mod Settled
 pub mod Zeroed
 pub mod NeverSlots
--- ---- numbers
-pub mod FillNumbers
-pub mod MergeNumbers
-pub mod WriterNumbers

@@ -17,8 +17,9 @@ use Rattle.base_refusals.specs.declared.Outcome.{Outcome}
 use Rattle.base_refusals.specs.declared.Outcome.the-variants.{Passed, Refused}
 use Rattle.base_refusals.specs.declared.Outcome.the-variants as outcome
 use Rattle.text_checks.proofs.Texts.{passed, text-passes}
-use Rattle.set_canon.specs.Canon.{entryOk, wf}
-use Rattle.block_grammar.specs.Meaning.{className, puts, lookup, slotNames, distinct}
+use Rattle.proved_sets.specs.Formed.{entryOk, wf, HasNothing}
+use Rattle.block_grammar.specs.Meaning.{className}
+use Rattle.proved_grammar.specs.Meaning.{puts, lookup, slotNames, distinct}
 use Rattle.set_table.specs.Types.{Texts, one, maxClasses, maxKeys, maxSlots, zeroRow}
 use Rattle.set_table.specs.Rows.{Rows, Put, noRows, isNamed, putRow, withPut, withPuts, tableOf, rowsIn, meant, meaningOf}
 use Rattle.set_table.specs.Shape.{Shaped}
@@ -32,7 +33,6 @@ use Rattle.set_table.proofs.Whole.{rows-table}
 use Rattle.set_wellformed.specs.WellFormed.{rowsOk, tableOk, wellFormed}
 use Rattle.set_wellformed.proofs.Shape.{table-passed, shaped}
 use Rattle.proved_sets.proofs.PutsKept.{putOk, rows-puts, table-ok, nothing-rows, empty-formed}
-use Rattle.proved_sets.specs.Formed.{HasNothing}
 use Rattle.proved_sets.specs.Merged.{mergeMeaning, MergeGives, EmptyMerges}
 use Rattle.set_table.specs.declared.Filled.{Filled}
 use Rattle.set_table.specs.Filled.{limited}
@@ -75,7 +75,7 @@ module _ (t : Texts) (k : ℕ) where
 
 -- ---- the rows that a merge comes to
 module _ (t : List ℕ) (a b : Attrs) where
-  abbrev whole : Rows
+  abbrev pub whole : Rows
   whole = withPuts (one t) (rowsIn a) (putsBy (rowsIn b))
 
   -- what a set handed out says of its making
@@ -95,13 +95,13 @@ module _ (t : List ℕ) (a b : Attrs) where
     allowed : all (isAllowed (one t)) (putsBy (rowsIn b)) ≡ true
     allowed = all-allowed (one t) (putsBy (rowsIn b)) good
 
-    whole-shaped : Shaped (one t) whole
+    pub whole-shaped : Shaped (one t) whole
     whole-shaped = shaped-puts (shaped (one t) a f) (putsBy (rowsIn b)) allowed
 
     whole-good : rowsOk (one t) whole ≡ true
     whole-good = rows-puts (one t) (rowsIn a) (putsBy (rowsIn b)) (passed-rows (table-passed (one t) a f)) good
 
-    whole-means : meant (one t) whole ≡ puts (meaningOf (one t) a) (meaningOf (one t) b)
+    pub whole-means : meant (one t) whole ≡ puts (meaningOf (one t) a) (meaningOf (one t) b)
     unfolding meaningOf
     whole-means = puts-meant (shaped (one t) a f) (putsBy (rowsIn b)) allowed ∙ says (table-passed (one t) b g) (meant (one t) (rowsIn a))
 

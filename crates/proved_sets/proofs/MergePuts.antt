@@ -9,7 +9,8 @@ use Rattle.base_lists.specs.Lists.{all, isSome}
 use Rattle.base_lists.proofs.Scan.{both}
 use Rattle.base_lists.proofs.More.{contra, all-weaker}
 use Rattle.base_lists.proofs.Flat.{all-flat}
-use Rattle.block_grammar.specs.Meaning.{Entry, put, puts, idName, className}
+use Rattle.block_grammar.specs.Meaning.{Entry, idName, className}
+use Rattle.proved_grammar.specs.Meaning.{put, puts}
 use Rattle.proved_grammar.proofs.Views.{puts-append}
 use Rattle.set_table.specs.Types.{Texts, valueBytes, zeroRow}
 use Rattle.set_table.specs.Rows.{Rows, Put, isThere, idValues, slotEntry, meant}

@@ -1,7 +1,7 @@
 -- Parts of a text whose ends are character boundaries: what stands on either side of an ASCII byte is one, so all that a payload's tokens hold is.
 -- Assumes nothing.
 use mathlib.Core.Path.{_≡_, refl, sym, _∙_, ap}
-use mathlib.Core.Bool.{Bool, true, false}
+use mathlib.Core.Bool.{Bool, true, false, not}
 use mathlib.Core.List.{List, [], _∷_, _++_, append-assoc}
 use Prim.Native.Nat.{ℕ, suc, _+_, _-_, _<_, _≤_}
 use native.Mathlib.Nat.{add-zero}
@@ -12,9 +12,11 @@ use lib.Seq.{slice, getD-drop, drop-append-seam, take-append-seam, getD-append-s
 use borrow.Author.Tests.{le-leb, leb-true, leb-false}
 use Rattle.base_lists.proofs.Parts.{slice-part, slice-add, drop-past, seam}
 use Rattle.base_lists.proofs.Scan.{both}
+use Rattle.base_bytes.specs.Bytes.{isTail}
 use Rattle.text_utf8.specs.Utf8.{isUtf8, isBoundary}
 use Rattle.text_utf8.proofs.Laws.{past-ascii}
 use Rattle.proved_texts.proofs.Utf8Boundaries.{parts, rest-boundary, before-ascii}
+use Rattle.proved_texts.proofs.Utf8Grammar.{utf8-append}
 use Rattle.set_table.specs.Types.{one, rangeBytes}
 use Rattle.set_values.specs.Values.{rangeOk}
 
@@ -100,13 +102,35 @@ module _ (w : List ℕ) (from to : ℕ) (u : isUtf8 w ≡ true) where
         back = parts w to u z .1;
       }
 
-  -- with an ASCII byte at either end
-  pub low-ends : {x : List ℕ} (y : List ℕ) {a z : ℕ} → slice from to w ≡ a ∷ x → slice from to w ≡ y ++ (z ∷ []) → a ≤ 0x7F → z ≤ 0x7F → Part w from (slice from to w) (drop to w)
-  low-ends {x} y {a} {z} h e l k =
-      let d = seam w from to (ordered w from to h) in
-      let g : drop from w ≡ a ∷ (x ++ drop to w) = d ∙ ap (λ s. s ++ drop to w) h in
-      let n : from < length w = omega (arith, length-drop from w, ap length g) in
-      let p : getD (drop from w) 0 0 ≡ getD w from 0 = rw (getD-drop, add-zero) in
-      let b : getD w from 0 ≤ 0x7F = rw (← p) (rw g l) in
-      let f : isUtf8 (slice from to w ++ drop to w) ≡ true = rw (← d) (parts w from u (before-ascii w from n b) .1) in
-      record { within = omega arith; stands = d; front = f; back = low-past y z (drop to w) k (rw (e, append-assoc y (z ∷ []) (drop to w)) at f) }
+  -- that isn't empty
+  module _ {a : ℕ} {x : List ℕ} (h : slice from to w ≡ a ∷ x) where
+    whole : drop from w ≡ slice from to w ++ drop to w
+    whole = seam w from to (ordered w from to h)
+
+    begun : drop from w ≡ a ∷ (x ++ drop to w)
+    begun = whole ∙ ap (λ s. s ++ drop to w) h
+
+    inside : from < length w
+    inside = omega (arith, length-drop from w, ap length begun)
+
+    first : getD w from 0 ≡ a
+    first = let p : getD (drop from w) 0 0 ≡ getD w from 0 = rw (getD-drop, add-zero) in sym p ∙ (rw begun)
+
+    -- it begins on a boundary, and what stands behind it is UTF-8
+    between : isBoundary w from ≡ true → (isUtf8 (slice from to w ++ drop to w) ≡ true → isUtf8 (drop to w) ≡ true) → Part w from (slice from to w) (drop to w)
+    between b z = let f = rw whole at (parts w from u b .1) in record { within = omega (arith, inside); stands = whole; front = f; back = z f }
+
+    -- with an ASCII byte at either end
+    pub low-ends : (y : List ℕ) {z : ℕ} → slice from to w ≡ y ++ (z ∷ []) → a ≤ 0x7F → z ≤ 0x7F → Part w from (slice from to w) (drop to w)
+    low-ends y {z} e l k =
+        between (before-ascii w from inside (omega (arith, first))) (λ f. low-past y z (drop to w) k (rw (e, append-assoc y (z ∷ []) (drop to w)) at f))
+
+    -- that is UTF-8 by itself
+    pub own-part : isUtf8 (slice from to w) ≡ true → Part w from (slice from to w) (drop to w)
+    unfolding isBoundary
+    own-part o = between start (λ f. sym (utf8-append (slice from to w) (drop to w) o) ∙ f)
+      where
+        start : isBoundary w from ≡ true
+        start =
+            let b = both (leb 0 (length (slice from to w))) (not (isTail (getD (slice from to w) 0 0))) (rest-boundary (slice from to w) 0 (omega arith) o) .1 in
+            rw (le-leb from (length w) (omega (arith, inside)), first) (rw h at b)

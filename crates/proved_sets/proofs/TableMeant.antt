@@ -11,7 +11,8 @@ use borrow.Author.Tests.{eqb-true, ltb-true, lt-ltb, le-ltb}
 use Rattle.base_lists.specs.Lists.{all, same}
 use Rattle.base_lists.proofs.Scan.{both}
 use Rattle.base_lists.proofs.More.{contra, same-sym}
-use Rattle.block_grammar.specs.Meaning.{Entry, put, puts}
+use Rattle.block_grammar.specs.Meaning.{Entry}
+use Rattle.proved_grammar.specs.Meaning.{put, puts}
 use Rattle.set_table.specs.Types.{Texts, nameBytes}
 use Rattle.set_table.specs.Rows.{Rows, Put, noRows, slotUnless, withPut, withPuts, slotEntry, meant}
 use Rattle.set_table.specs.Shape.{isSlot, times, isPresent, nameAt, isFree, Shaped}

@@ -14,8 +14,10 @@ use Rattle.base_lists.proofs.More.{contra, same-sym, all-weaker}
 use Rattle.base_bytes.specs.Bytes.{within, isLetter, isDigit, isAlnum, isKeyStart, isNamePart}
 use Rattle.text_names.specs.Names.{isKey}
 use Rattle.block_grammar.specs.Close.{noLf}
-use Rattle.block_grammar.specs.Meaning.{idName, className, isClass, absent, distinct}
-use Rattle.set_canon.specs.Canon.{isClassValue, entryOk, wf}
+use Rattle.block_grammar.specs.Meaning.{idName, className}
+use Rattle.proved_grammar.specs.Meaning.{isClass, absent, distinct}
+use Rattle.set_canon.specs.Canon.{isClassValue}
+use Rattle.proved_sets.specs.Formed.{entryOk, wf, MeansFormed, MeansNothing, CountsZero}
 use Rattle.proved_sets.proofs.CanonParts.{entry-ok, classes-ok, value-ok, joined}
 use Rattle.proved_sets.proofs.Shaping.{free-parts}
 use Rattle.set_table.specs.Types.{Texts, one, valueBytes, zeroRow}
@@ -30,7 +32,6 @@ use Rattle.set_table.proofs.Slots.{times-le, times-head}
 use Rattle.set_values.specs.Values.{textOk, valueOk, identOk, classOk, keyOk}
 use Rattle.base_lists.proofs.Each.{all-map, all-at}
 use Rattle.set_wellformed.proofs.Shape.{slots-named, Passed, keyed, passed-shaped, table-passed, shaped}
-use Rattle.proved_sets.specs.Formed.{MeansFormed, MeansNothing, CountsZero}
 use Rattle.set_table.specs.declared.Id as ids
 use Rattle.set_table.specs.declared.Id.the-variants as id
 

@@ -8,9 +8,11 @@ use Rattle.base_bytes.specs.Bytes.{openBrace, closeBrace}
 use Rattle.base_bytes.specs.declared.Mode.{Mode}
 use Rattle.base_bytes.specs.declared.Mode.the-variants.{Strict}
 use Rattle.block_grammar.specs.Grammar.{Placed, Payload}
-use Rattle.block_grammar.specs.Meaning.{Entry, meaning}
+use Rattle.block_grammar.specs.Meaning.{Entry}
+use Rattle.proved_grammar.specs.Meaning.{meaning}
 use Rattle.block_grammar.specs.Close.{Covered, noLf}
-use Rattle.set_canon.specs.Canon.{canon, wf}
+use Rattle.set_canon.specs.Canon.{canon}
+use Rattle.proved_sets.specs.Formed.{wf}
 
 -- "Reading at a brace: the payload ends before the first `}` that no quote or backslash covers; .. An LF before it means no close."
 -- The block whose brace stands at i of the text s means a, and `next` is the place behind its close.

@@ -1,15 +1,18 @@
 -- Which tables are well-formed, and what that says of their meaning.
 use mathlib.Core.Path.{_≡_}
-use mathlib.Core.Bool.{Bool, true, _&&_}
-use mathlib.Core.List.{List, []}
+use mathlib.Core.Bool.{Bool, true, false, cond, not, _&&_}
+use mathlib.Core.List.{List, [], _∷_}
 use Prim.Native.Nat.{ℕ, _≤_, _<_}
 use lib.ListN.{length, getD}
-use Rattle.base_lists.specs.Lists.{all}
+use Rattle.base_lists.specs.Lists.{all, isSome}
 use Rattle.base_refusals.specs.declared.Outcome.the-variants.{Passed}
 use Rattle.text_utf8.specs.Utf8.{isUtf8}
 use Rattle.text_checks.specs.Check.{checkOf}
+use Rattle.text_names.specs.Names.{isKey}
 use Rattle.block_grammar.specs.Meaning.{Entry}
-use Rattle.set_canon.specs.Canon.{canon, wf}
+use Rattle.proved_grammar.specs.Meaning.{isClass, distinct}
+use Rattle.block_grammar.specs.Close.{noLf}
+use Rattle.set_canon.specs.Canon.{canon, isClassValue}
 use Rattle.set_table.specs.Types.{Texts, one, maxClasses, maxKeys, maxSlots, zeroValue, zeroRow}
 use Rattle.set_table.specs.Rows.{Rows, Put, noRows, withPuts, tableOf, rowsIn, meaningOf}
 use Rattle.set_table.specs.Shape.{Shaped}
@@ -38,6 +41,23 @@ abbrev pub Decides : Type 0
 Decides = (t : List ℕ) (a : Attrs) → (wellFormed t a ≡ true → Formed t a) × (Formed t a → wellFormed t a ≡ true)
 
 -- ---- what it says of the meaning
+
+abbrev pub isOne : List (List ℕ) → Bool
+isOne [] = false
+isOne (v ∷ vs) = not (isSome vs)
+
+-- one or more classes, or one id or one value of a key
+unfoldable pub valuesOk : List ℕ → List (List ℕ) → Bool
+valuesOk n vs = cond (isClass n) (isSome vs && all isClassValue vs) (isOne vs)
+
+-- "keys by the grammar, ..; no LF in an unescaped id, class or key value"
+unfoldable pub entryOk : Entry → Bool
+entryOk e = isKey (e .name) && (all noLf (e .values) && valuesOk (e .name) (e .values))
+
+-- ".. distinct, ..; slots name exactly the Id, Class and keys present, once each"
+unfoldable pub wf : List Entry → Bool
+wf m = all entryOk m && distinct m
+
 -- What a well-formed table means is a meaning of which canonical text is read back (Canonical).
 abbrev pub MeansFormed : Texts → Attrs → Type 0
 MeansFormed t a = tableOk t a ≡ true → wf (meaningOf t a) ≡ true

@@ -1,6 +1,7 @@
 -- What is proved of sets, each statement under the sentence of document 01 that it renders: what is read into a set means, which tables are well-formed,
 -- what a merge comes to, what is handed out, and how canonical text is read back.
 pub mod Read
+pub mod Limits
 pub mod Formed
 pub mod Merged
 pub mod HandedOut

@@ -4,14 +4,18 @@ use mathlib.Core.Bool.{true, false, cond}
 use mathlib.Core.List.{List, [], _∷_, _++_}
 use Prim.Native.Nat.{ℕ, _<_}
 use lib.ListN.{length, getD}
-use Rattle.base_refusals.specs.declared.Outcome.the-variants.{Passed}
-use Rattle.block_grammar.specs.Meaning.{Entry, className, isClass, puts, lookup, slotNames, absent}
+use Rattle.base_refusals.specs.declared.Refusal.the-variants.{NotWellFormed}
+use Rattle.base_refusals.specs.declared.Outcome.{Outcome}
+use Rattle.base_refusals.specs.declared.Outcome.the-variants.{Passed, Refused}
+use Rattle.block_grammar.specs.Meaning.{Entry, className}
+use Rattle.proved_grammar.specs.Meaning.{isClass, puts, lookup, slotNames, absent}
 use Rattle.set_table.specs.Types.{one, zeroRow}
 use Rattle.set_table.specs.Rows.{tableOf, rowsIn, meaningOf}
 use Rattle.set_table.specs.declared.Attrs.{Attrs}
 use Rattle.set_wellformed.specs.WellFormed.{wellFormed}
 use Rattle.set_merge.specs.Merge.{mergeOf}
 use Rattle.proved_sets.specs.Formed.{HasNothing}
+use Rattle.proved_sets.specs.Limits.{Exactly, SizeGiven, Utf8Given, LimitGiven}
 
 -- the names of the second meaning that the first hasn't, in their order
 unfoldable pub newSlots : List Entry → List Entry → List (List ℕ)
@@ -39,6 +43,17 @@ pub record MergedWell (t : List ℕ) (a b : Attrs) : Type 0 where
 
 abbrev pub MergeGives : Type 0
 MergeGives = (t : List ℕ) (a b : Attrs) → mergeOf t a b .outcome ≡ Passed → MergedWell t a b
+
+-- ---- "merge 1, 2, 11 (either set), 6, 7, ..": where the text gives neither 1 nor 2
+pub data MergeGiven (t : List ℕ) (a b : Attrs) : Outcome → List Entry → Type 0 where
+  -- 11: "table not well-formed over its text"
+  malformed : (wellFormed t a ≡ true → wellFormed t b ≡ true → ⊥) → MergeGiven t a b (Refused NotWellFormed) []
+  -- 6 and 7, counted over both meanings; else the one put into the other
+  formed : {o : Outcome} {s : List Entry} → wellFormed t a ≡ true → wellFormed t b ≡ true
+      → LimitGiven (meaningOf (one t) a ++ meaningOf (one t) b) (puts (meaningOf (one t) a) (meaningOf (one t) b)) o s → MergeGiven t a b o s
+
+abbrev pub MergeByRules : Type 0
+MergeByRules = (t : List ℕ) (a b : Attrs) → Exactly (SizeGiven t (Utf8Given t (MergeGiven t a b))) (mergeOf t a b .outcome) (mergeMeaning t a b)
 
 -- ---- "An empty set is well-formed and merges as nothing."
 pub record AsNothing (t : List ℕ) (e a : Attrs) : Type 0 where

@@ -9,8 +9,9 @@ use Rattle.base_lists.specs.Lists.{same}
 use Rattle.base_refusals.specs.declared.Outcome.the-variants.{Passed}
 use Rattle.block_grammar.specs.Grammar.{Placed}
 use Rattle.block_grammar.specs.Read.{Reading, readPayload}
-use Rattle.block_grammar.specs.Meaning.{isClass, said, meaning, lookup, slotNames, absent}
-use Rattle.block_chain.specs.Chain.{Blocks, blockItems, merged}
+use Rattle.proved_grammar.specs.Meaning.{isClass, said, meaning, absent, lookup, slotNames}
+use Rattle.block_chain.specs.Chain.{Blocks}
+use Rattle.proved_grammar.specs.Merged.{merged, blockItems}
 use Rattle.set_table.specs.Types.{one}
 use Rattle.set_table.specs.Rows.{noRows, withPuts, meant, meaningOf}
 use Rattle.set_table.specs.Puts.{putsIn}

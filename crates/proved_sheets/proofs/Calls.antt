@@ -1,4 +1,4 @@
--- Call by call: a refusal lays nothing, the calls come to an end, and what they lay is the report, each byte once and nothing else.
+-- Call by call: what a refusal lays, the calls come to an end, and what they lay is the report, each byte once and nothing else.
 -- Assumes nothing.
 use mathlib.Core.Path.{_≡_, refl, sym, _∙_, ap}
 use mathlib.Core.Bool.{Bool, true, false, cond}
@@ -13,6 +13,7 @@ use Rattle.text_utf8.specs.Utf8.{isUtf8}
 use Rattle.base_refusals.specs.Numbers.{maxText}
 use Rattle.base_refusals.specs.declared.Refusal.the-variants.{TextTooLong, NotUtf8, JoinFull, NothingThere, CanonTooLong}
 use Rattle.text_checks.specs.Check.{checkOf}
+use Rattle.text_checks.proofs.Texts.{passed, refused}
 use Rattle.base_refusals.specs.declared.Outcome as outcomes
 use Rattle.base_refusals.specs.declared.Outcome.the-variants as outcome
 use Rattle.text_lines.specs.Lines.{lineFrom}
@@ -31,7 +32,7 @@ use Rattle.sheet_report.proofs.Entries.{part-lays}
 use Rattle.sheet_report.proofs.Lays.{lay-on, lay-here, lay-stop}
 use Rattle.proved_sheets.proofs.Rooms.{blocks-are}
 use Rattle.proved_sheets.proofs.Begins.{Begins, next-begins, past-begins, begins-at}
-use Rattle.proved_sheets.specs.Calls.{laidIn, Leaves, Goes-on, PartGoes, Lent, firstCall, callAt, Calls, AllLaid, AllEnd, AtOnce, RefusedUntouched}
+use Rattle.proved_sheets.specs.Calls.{laidIn, Leaves, Goes-on, PartGoes, Lent, firstCall, callAt, Calls, AllLaid, AllEnd, AtOnce, NoMore, refusedLays, RefusedLaid}
 use Rattle.base_refusals.specs.declared.Refusal.{Refusal}
 
 -- ---- the report of tries
@@ -128,7 +129,7 @@ module _ (t : List ℕ) (fits : length t ≤ maxText) where
   goes-by n at out h s R e (Led.whole d p) =
       record {
         rest = [];
-        leaves = Leaves.nothing d;
+        leaves = Leaves.nothing (λ m. let z : _≡_ {A = ℕ} 0 1 = cc in absurd (omega arith));
         sum = append-nil (laidIn out R) ∙ laid-text out R ∙ rw (← p) e;
         farther = λ m. let z : _≡_ {A = ℕ} 0 1 = cc in absurd (omega arith);
       }
@@ -146,7 +147,7 @@ part-goes t fits n at join out h b w i j s =
     rw (part-lays t at n (length join) (length out) fits j (begins-at t at n w h b i) s)
     (goes-by t fits n at out h s _ (lay-text t (length out) (triesAt t maxText n at)) (led t maxText (length t) (length out) n at (omega arith) b (λ l. i)))
 
--- ---- a refusal lays nothing
+-- ---- what a refusal lays
 
 never-refused : (t : List ℕ) (room : ℕ) (xs : List Try) (r : Refusal) → layFrom t room xs .told ≡ Refused r → ⊥
 unfolding layFrom
@@ -175,21 +176,16 @@ part-quiet t at n cap size r = go (ltb maxText (length t)) (ltb cap maxText) (ma
     go false false true true e = refl
     go false false true false e = absurd (never-refused t size (triesAt t maxText n at) r e)
 
-start-quiet : (t : List ℕ) (cap size : ℕ) (r : Refusal) → startOf t cap size .told ≡ Refused r → startOf t cap size .text ≡ []
+start-lays : (t : List ℕ) (cap size : ℕ) (r : Refusal) → startOf t cap size .told ≡ Refused r → startOf t cap size .text ≡ refusedLays t size r
 unfolding startOf
-start-quiet t cap size r = go (checkOf t)
+start-lays t cap size r = go (checkOf t) refl
   where
-    go : (c : outcomes.Outcome) → startBy t cap size c .told ≡ Refused r → startBy t cap size c .text ≡ []
-    go (outcome.Refused q) e = no-room (ltb size maxLine) e
-      where
-        no-room : (b : Bool) → cond b (laidNone (Refused q)) (laidBehind [] (refusedLine 0 0 q) (laidNone Done)) .told ≡ Refused r
-            → cond b (laidNone (Refused q)) (laidBehind [] (refusedLine 0 0 q) (laidNone Done)) .text ≡ []
-        no-room true e = refl
-        no-room false e = let z : _≡_ {A = ℕ} 0 1 = cc in absurd (omega arith)
-    go outcome.Passed e = part-quiet t 0 1 cap size r e
+    go : (c : outcomes.Outcome) → c ≡ checkOf t → startBy t cap size c .told ≡ Refused r → startBy t cap size c .text ≡ refusedLays t size r
+    go (outcome.Refused q) e d = let k : q ≡ r = cc in rw (← (refused t e refl), k)
+    go outcome.Passed e d = rw (← (passed t e refl)) (part-quiet t 0 1 cap size r d)
 
-pub refused-untouched : RefusedUntouched
-refused-untouched t out at n cap r = (λ e. rw (part-quiet t at n cap (length out) r e), λ e. rw (start-quiet t cap (length out) r e))
+pub refused-laid : RefusedLaid
+refused-laid t out at n cap r = (λ e. rw (part-quiet t at n cap (length out) r e), λ e. rw (start-lays t cap (length out) r e))
 
 -- ---- the calls for a sheet
 
@@ -201,8 +197,8 @@ module _ (t : List ℕ) (lend : ℕ → Lent) where
   -- they lay what was left, and nothing else
   calls-lay : {k : ℕ} {p : Part} {xs ys : List ℕ} → Calls t lend k p xs → Leaves t p ys → xs ≡ ys
   calls-lay (Calls.last d) (Leaves.nothing e) = refl
-  calls-lay (Calls.last d) (Leaves.more e fits h b w i) = let z : _≡_ {A = ℕ} 0 1 = cc in absurd (omega arith)
-  calls-lay (Calls.next d c) (Leaves.nothing e) = let z : _≡_ {A = ℕ} 0 1 = cc in absurd (omega arith)
+  calls-lay (Calls.last d) (Leaves.more e fits h b w i) = absurd (d e)
+  calls-lay (Calls.next d c) (Leaves.nothing e) = absurd (e d)
   calls-lay (Calls.next {k} {p} {xs} d c) (Leaves.more e fits h b w i) =
       let g = call-goes k p fits h b w i in
       ap (λ (l : List ℕ). laidIn (lend k .out) (callAt t lend k p) ++ l) (calls-lay c (g .leaves)) ∙ g .sum
@@ -226,6 +222,10 @@ check-fits t e = go (ltb maxText (length t)) (isUtf8 t) refl e
     go true y q e = let z : _≡_ {A = ℕ} 0 1 = cc in absurd (omega arith)
     go false y q e = ltb-false maxText (length t) q
 
+-- the one line of a text that is refused
+abbrev laidOnce : Refusal → Laid
+laidOnce r = record { told = Refused r; text = refusedLine 0 0 r; past = []; at = 0; line = 0 }
+
 first-goes : (t : List ℕ) (lend : ℕ → Lent) → Goes-on t 0 (lend 0 .out) (firstCall t lend) (report t)
 unfolding startOf report
 first-goes t lend = go (checkOf t) refl
@@ -238,8 +238,8 @@ first-goes t lend = go (checkOf t) refl
         rw (le-ltb size maxLine (lend 0 .lines))
         (record {
           rest = [];
-          leaves = Leaves.nothing refl;
-          sum = append-nil (laidIn (lend 0 .out) (laidBehind [] (refusedLine 0 0 r) (laidNone Done))) ∙ laid-text (lend 0 .out) (laidBehind [] (refusedLine 0 0 r) (laidNone Done)) ∙ append-nil (refusedLine 0 0 r);
+          leaves = Leaves.nothing (λ m. let z : _≡_ {A = ℕ} 0 1 = cc in absurd (omega arith));
+          sum = append-nil (laidIn (lend 0 .out) (laidOnce r)) ∙ laid-text (lend 0 .out) (laidOnce r);
           farther = λ m. let z : _≡_ {A = ℕ} 0 1 = cc in absurd (omega arith);
         })
     go outcome.Passed e =
@@ -261,11 +261,11 @@ at-once t lent h = go (checkOf t) refl h
     size : ℕ
     size = length (lent .out)
 
-    go : (c : outcomes.Outcome) → checkOf t ≡ c → length (reportBy t c) + maxLine ≤ size → (startBy t (length (lent .join)) size c .told ≡ Done) × (startBy t (length (lent .join)) size c .text ≡ reportBy t c)
-    go (outcome.Refused r) e h = rw (le-ltb size maxLine (lent .lines)) (refl, append-nil (refusedLine 0 0 r))
+    go : (c : outcomes.Outcome) → checkOf t ≡ c → length (reportBy t c) + maxLine ≤ size → NoMore (startBy t (length (lent .join)) size c .told) × (startBy t (length (lent .join)) size c .text ≡ reportBy t c)
+    go (outcome.Refused r) e h = rw (le-ltb size maxLine (lent .lines)) (λ m. let z : _≡_ {A = ℕ} 0 1 = cc in absurd (omega arith), refl)
     go outcome.Passed e h =
         let k = check-fits t e in
         let b = blocks-are t maxText k k in
         let w = one-call t size (triesAt t maxText 1 0) (rw b at h) in
         rw (part-lays t 0 1 (length (lent .join)) size k (lent .joins) (begins-at t 0 1 (omega arith) (omega arith) (omega arith) refl) (lent .lines))
-        (w .0, lay-text t size (triesAt t maxText 1 0) ∙ rw (w .1, b))
+        (λ m. let d = w .0 in let z : _≡_ {A = ℕ} 0 1 = cc in absurd (omega arith), lay-text t size (triesAt t maxText 1 0) ∙ rw (w .1, b))

@@ -7,4 +7,3 @@ pub mod Said
 pub mod Decimals
 pub mod Begins
 pub mod Calls
-pub mod ReportNumbers

@@ -8,7 +8,7 @@ use borrow.Author.Tests.{eqb-true, eqb-false, ne-eqb}
 use lib.Dec.{eqb}
 use Rattle.base_bytes.specs.Bytes.{isPunct}
 use Rattle.text_escapes.specs.Unescape.{unescape, unescapeFrom}
-use Rattle.text_escapes.specs.Rules.{Other, StandsFor}
+use Rattle.proved_texts.specs.EscapeRules.{Other, StandsFor}
 use Rattle.text_escapes.proofs.Pieces.{punct-not, byte-at, end-at}
 use Rattle.proved_texts.specs.Escapes.{StandsForUnescaped, StandsForNoOther, PieceIsNext, PieceIsLast}
 

@@ -8,5 +8,3 @@ pub mod Escapes
 pub mod Tabs
 pub mod Lines
 pub mod Trim
-pub mod CheckNumbers
-pub mod StartNumbers

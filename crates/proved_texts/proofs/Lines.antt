@@ -1,37 +1,29 @@
--- The lines by places have the bytes of the lines, in order; and the line of a number is that line, or is missing exactly where there is none.
+-- The lines by places have the bytes of the lines, in order; and the line of a number is that line, or 3 exactly where there is none.
 -- Assumes nothing.
-use mathlib.Core.Path.{_≡_, refl, sym, _∙_, ap}
-use mathlib.Core.Bool.{Bool, true, false}
-use mathlib.Core.List.{List, [], _∷_, map}
-use mathlib.Core.Logic.{inl, inr}
-use Prim.Native.Nat.{ℕ, zero, suc, _+_, _-_, _<_, _≤_}
+use mathlib.Core.Path.{_≡_, refl}
+use mathlib.Core.Bool.{Bool, true, false, cond}
+use mathlib.Core.List.{List}
+use Prim.Native.Nat.{ℕ}
 use native.Mathlib.Omega.{arith}
-use borrow.Author.Tests.{ltb-true, ltb-false}
-use lib.Dec.{ltb, eqb·suc-zero}
-use lib.ListN.{length, drop, length-map}
-use Rattle.base_refusals.specs.Numbers.{numberOf}
-use Rattle.text_lines.specs.declared.Range.{Range}
-use Rattle.text_lines.specs.declared.Line.the-variants.{Missing}
-use Rattle.text_lines.specs.Lines.{lines, lineFrom, ranges, bytesOf, pick, lineOf}
-use Rattle.text_lines.proofs.Lines.{after, line-at, lines-end, next-beyond, pick-on, pick-zero, ranges-at, ranges-end}
+use borrow.Author.Tests.{ltb-false}
+use lib.ListN.{length}
+use Rattle.base_refusals.specs.Numbers.{maxText, tooLong, numberOf}
+use Rattle.base_refusals.specs.declared.Refusal.the-variants.{TextTooLong, NotUtf8}
+use Rattle.base_refusals.specs.declared.Outcome.the-variants as outcome
+use Rattle.text_utf8.specs.Utf8.{isUtf8}
+use Rattle.text_checks.specs.Check.{checkOf, isText}
+use Rattle.text_checks.proofs.Texts.{is-text, text-passes}
+use Rattle.text_lines.specs.declared.Line.{Line}
+use Rattle.text_lines.specs.declared.Line.the-variants.{Missing, At}
+use Rattle.text_lines.specs.Lines.{lineOf, linePaper}
 use Rattle.text_lines.proofs.Lines as found
-use Rattle.proved_texts.specs.Lines.{LinesByPlaces, LineHoldsNoLf, LineOfNumber, MissingIsNone, NoneIsMissing, NoLineGives3}
+use Rattle.text_lines.proofs.Counted as counted
+use Rattle.text_line_start.specs.Starts.{begun, startAt, startPaper}
+use Rattle.proved_texts.specs.Lines.{LinesByPlaces, LineHoldsNoLf, LineOfNumber, NoSuchLine, LineThree, StartThree}
 
 -- the two ways to say the lines of a text agree
-abbrev Agree : List ℕ → ℕ → Type 0
-Agree t at = map (bytesOf t) (after at (drop at t)) ≡ lines (drop at t)
-
-agree : (fuel : ℕ) (t : List ℕ) (at : ℕ) → length t ≤ at + fuel → Agree t at
-agree zero t at h = rw (ranges-end t at (omega arith), lines-end t at (omega arith))
-agree (suc fuel) t at h = go (ltb at (length t)) refl (agree fuel t)
-  where
-    go : (x : Bool) → ltb at (length t) ≡ x → ((k : ℕ) → length t ≤ k + fuel → Agree t k) → Agree t at
-    go false x ih = let k = ltb-false at (length t) x in rw (ranges-end t at k, lines-end t at k)
-    go true x ih = let k = ltb-true at (length t) x in rw (ranges-at t at k, line-at t at k, ih (lineFrom t at .next) (omega (arith, next-beyond t at k)))
-
 pub ranges-lines : LinesByPlaces
-unfolding ranges
-ranges-lines t = agree (length t) t 0 (omega arith)
+ranges-lines = counted.ranges-lines
 
 -- no line holds an LF
 pub no-lf : LineHoldsNoLf
@@ -41,32 +33,29 @@ no-lf = found.no-lf
 pub line-found : LineOfNumber
 line-found n t r e = let f = found.line-found n t r e in record { counted = f .some; there = f .within; bytes = f .bytes }
 
-count : (t : List ℕ) → length (ranges t) ≡ length (lines t)
-count t = sym (length-map (ranges t) (bytesOf t)) ∙ ap length (ranges-lines t)
+-- 3 is no such line
+none : (n : ℕ) (t : List ℕ) → linePaper (lineOf n t) .number ≡ 3 → NoSuchLine n t
+none n t = go (lineOf n t) refl
+  where
+    go : (l : Line) → lineOf n t ≡ l → linePaper l .number ≡ 3 → NoSuchLine n t
+    go Missing e q = counted.line-missing n t e
+    go (At r) e q = absurd (omega arith)
 
--- line 0 and a line past the last are missing, and no others are
-pick-past : (n : ℕ) (ls : List Range) → length ls < n → pick n ls ≡ Missing
-unfolding pick
-pick-past n [] h = refl
-pick-past n (l ∷ ls) h = pick-on n l ls (omega arith) ∙ pick-past (n - 1) ls (omega arith)
-
-pick-none : (n : ℕ) (ls : List Range) → 0 < n → pick n ls ≡ Missing → length ls < n
-unfolding pick
-pick-none n [] h e = h
-pick-none zero (l ∷ ls) h e = absurd (omega arith)
-pick-none (suc zero) (l ∷ ls) h e = let z : _≡_ {A = ℕ} 0 1 = cc in absurd (omega arith)
-pick-none (suc (suc n)) (l ∷ ls) h e = omega (arith, pick-none (suc n) ls (omega arith) (rw (eqb·suc-zero n) at e))
-
-pub line-missing : MissingIsNone
-unfolding lineOf
-line-missing zero t q = inl refl
-line-missing (suc n) t q = inr (omega (arith, count t, pick-none (suc n) (ranges t) (omega arith) q))
-
-pub missing-line : NoneIsMissing
-unfolding lineOf
-missing-line n t (inl e) = rw e (pick-zero (ranges t))
-missing-line n t (inr h) = pick-past n (ranges t) (omega (arith, count t))
-
-pub line-no : NoLineGives3
+pub line-three : LineThree
 unfolding numberOf
-line-no n t h = rw (missing-line n t h)
+line-three n t = (none n t, λ h. rw (counted.missing-line n t h))
+
+-- .. of a text that gives neither 1 nor 2
+pub start-three : StartThree
+unfolding startAt checkOf numberOf
+start-three n t = (go (tooLong t) refl (isUtf8 t) refl, λ h. rw (text-passes t (h .0), counted.missing-line n t (h .1)))
+  where
+    of-line : (l : Line) → startPaper (begun outcome.Passed l) .number ≡ 3 → linePaper l .number ≡ 3
+    of-line Missing q = q
+    of-line (At r) q = q
+
+    go : (x : Bool) → tooLong t ≡ x → (y : Bool) → isUtf8 t ≡ y → startPaper (begun (cond x (outcome.Refused TextTooLong) (cond y outcome.Passed (outcome.Refused NotUtf8))) (lineOf n t)) .number ≡ 3
+        → (isText t ≡ true) × NoSuchLine n t
+    go true e y u q = absurd (omega arith)
+    go false e true u q = (is-text t (ltb-false maxText (length t) e) u, none n t (of-line (lineOf n t) q))
+    go false e false u q = absurd (omega arith)

@@ -13,8 +13,8 @@ use Rattle.base_lists.specs.Lists.{all, run, isIn}
 use Rattle.base_lists.proofs.Scan.{both}
 use Rattle.base_bytes.specs.Bytes.{isIndent, isTail, within}
 use Rattle.text_utf8.specs.Utf8.{charCount}
-use Rattle.text_tabs.specs.Columns.{tabStop, columnAfter, columnsFrom, indentFrom, indentColumns, expandFrom}
-use Rattle.proved_texts.specs.Tabs.{TabGoesToStop, NoTabLeft, SameColumn, ColumnCounts, IndentCounts, IndentIsSpaces}
+use Rattle.text_tabs.specs.Columns.{tabStop, columnAfter, columnsFrom, indentFrom, indentColumns}
+use Rattle.proved_texts.specs.Tabs.{expandFrom, TabGoesToStop, NoTabLeft, SameColumn, ColumnCounts, IndentCounts, IndentIsSpaces}
 
 -- ---- the next multiple of 4
 pub next-stop : TabGoesToStop

@@ -9,7 +9,7 @@ use borrow.Author.Tests.{not-true}
 use Rattle.base_lists.specs.Lists.{all, headed}
 use Rattle.base_lists.proofs.Scan.{both}
 use Rattle.base_bytes.specs.Bytes.{isTail}
-use Rattle.text_utf8.specs.Grammar.{none, more}
+use Rattle.proved_texts.specs.Utf8Rules.{none, more}
 use Rattle.text_utf8.specs.Utf8.{charCount}
 use Rattle.proved_texts.specs.Utf8.{CountsCharacters}
 use Rattle.proved_texts.proofs.Utf8Shape.{starts, shape}

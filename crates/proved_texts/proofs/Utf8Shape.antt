@@ -8,7 +8,7 @@ use native.Mathlib.Omega.{arith}
 use borrow.Author.Tests.{le-leb, lt-leb}
 use Rattle.base_lists.specs.Lists.{all, headed}
 use Rattle.base_bytes.specs.Bytes.{within, isTail}
-use Rattle.text_utf8.specs.Grammar.{Byte, Tail, Char, one, two, three-E0, three-E1, three-ED, three-EE, four-F0, four-F1, four-F4}
+use Rattle.proved_texts.specs.Utf8Rules.{one, two, three-E0, three-E1, three-ED, three-EE, four-F0, four-F1, four-F4, Byte, Tail, Char}
 
 abbrev pub starts : ℕ → Bool
 starts b = not (isTail b)

@@ -1,9 +1,9 @@
--- "`unescape_title`: a backslash before an ASCII punctuation byte is dropped; any other stays (CommonMark 2.4)." The rules are in text_escapes/specs/Rules.
+-- "`unescape_title`: a backslash before an ASCII punctuation byte is dropped; any other stays (CommonMark 2.4)." The rules are in EscapeRules.
 use mathlib.Core.Path.{_≡_}
 use mathlib.Core.List.{List, [], _∷_}
 use Prim.Native.Nat.{ℕ}
 use lib.ListN.{drop}
-use Rattle.text_escapes.specs.Rules.{StandsFor}
+use Rattle.proved_texts.specs.EscapeRules.{StandsFor}
 use Rattle.text_escapes.specs.Unescape.{unescape, pieceAt}
 use Rattle.text_escapes.specs.declared.Piece.the-variants.{End, Byte}
 

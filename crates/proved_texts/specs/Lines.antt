@@ -10,8 +10,10 @@ use lib.ListN.{length, getD}
 use Rattle.base_lists.specs.Lists.{all}
 use Rattle.base_bytes.specs.Bytes.{lf}
 use Rattle.text_lines.specs.declared.Range.{Range}
-use Rattle.text_lines.specs.declared.Line.the-variants.{Missing, At}
-use Rattle.text_lines.specs.Lines.{lines, ranges, bytesOf, lineOf, lineNo}
+use Rattle.text_lines.specs.declared.Line.the-variants.{At}
+use Rattle.text_lines.specs.Lines.{lines, ranges, bytesOf, lineOf, linePaper}
+use Rattle.text_checks.specs.Check.{isText}
+use Rattle.text_line_start.specs.Starts.{startAt, startPaper}
 
 -- the places where lines lie have the lines' bytes, in order
 abbrev pub LinesByPlaces : Type 0
@@ -35,14 +37,14 @@ LineOfNumber = (n : ℕ) (t : List ℕ) (r : Range) → lineOf n t ≡ At r → 
 abbrev pub NoSuchLine : ℕ → List ℕ → Type 0
 NoSuchLine n t = (n ≡ 0) ⊎ (length (lines t) < n)
 
--- a line is missing only where there is none, ..
-abbrev pub MissingIsNone : Type 0
-MissingIsNone = (n : ℕ) (t : List ℕ) → lineOf n t ≡ Missing → NoSuchLine n t
+-- "Given exactly when": either follows from the other
+abbrev pub Exactly : Type 0 → Type 0 → Type 0
+Exactly P Q = (P → Q) × (Q → P)
 
--- .. where there is none, it is missing, ..
-abbrev pub NoneIsMissing : Type 0
-NoneIsMissing = (n : ℕ) (t : List ℕ) → NoSuchLine n t → lineOf n t ≡ Missing
+-- `line_of` gives 3 exactly where there is no such line, ..
+abbrev pub LineThree : Type 0
+LineThree = (n : ℕ) (t : List ℕ) → Exactly (linePaper (lineOf n t) .number ≡ 3) (NoSuchLine n t)
 
--- .. and that gives number 3
-abbrev pub NoLineGives3 : Type 0
-NoLineGives3 = (n : ℕ) (t : List ℕ) → NoSuchLine n t → lineNo (lineOf n t) ≡ 3
+-- .. and `line_start` exactly where the text gives neither 1 nor 2 besides
+abbrev pub StartThree : Type 0
+StartThree = (n : ℕ) (t : List ℕ) → Exactly (startPaper (startAt t n) .number ≡ 3) ((isText t ≡ true) × NoSuchLine n t)

@@ -1,13 +1,14 @@
 -- "`indent_columns`: leading spaces and tabs; a tab goes to the next multiple of 4 (CommonMark 2.2)."
 use mathlib.Core.Path.{_≡_}
-use mathlib.Core.Bool.{true, not}
-use mathlib.Core.List.{List}
-use Prim.Native.Nat.{ℕ, _+_, _%_, _<_, _≤_}
+use mathlib.Core.Bool.{true, cond, not}
+use mathlib.Core.List.{List, [], _∷_, _++_}
+use Prim.Native.Nat.{ℕ, _+_, _-_, _%_, _<_, _≤_}
 use lib.Dec.{eqb}
+use lib.ListN.{replicate}
 use Rattle.base_lists.specs.Lists.{all, run}
 use Rattle.base_bytes.specs.Bytes.{space, tab}
 use Rattle.text_utf8.specs.Utf8.{charCount}
-use Rattle.text_tabs.specs.Columns.{tabStop, columnsFrom, indentFrom, indentColumns, expandFrom}
+use Rattle.text_tabs.specs.Columns.{tabStop, columnAfter, columnsFrom, indentFrom, indentColumns}
 
 -- "a tab goes to the next multiple of 4": from column c on, the first one behind it
 pub record NextStop (c : ℕ) : Type 0 where
@@ -18,6 +19,11 @@ pub record NextStop (c : ℕ) : Type 0 where
 -- .. from every column
 abbrev pub TabGoesToStop : Type 0
 TabGoesToStop = (c : ℕ) → NextStop c
+
+-- CommonMark 2.2, word for word: tabs "behave as if they were replaced by spaces with a tab stop of 4 characters"
+unfoldable pub expandFrom : ℕ → List ℕ → List ℕ
+expandFrom c [] = []
+expandFrom c (b ∷ s) = cond (eqb b tab) (replicate (4 - c % 4) space ++ expandFrom (tabStop c) s) (b ∷ expandFrom (columnAfter c b) s)
 
 -- CommonMark 2.2: tabs "behave as if they were replaced by spaces with a tab stop of 4 characters". So replaced, no tab is left, ..
 abbrev pub NoTabLeft : Type 0

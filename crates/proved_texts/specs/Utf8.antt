@@ -4,7 +4,7 @@ use mathlib.Core.Bool.{true}
 use mathlib.Core.List.{List}
 use Prim.Native.Nat.{ℕ, _≤_}
 use lib.ListN.{length, take, drop}
-use Rattle.text_utf8.specs.Grammar.{Octets, WellFormed}
+use Rattle.proved_texts.specs.Utf8Rules.{Octets, WellFormed}
 use Rattle.text_utf8.specs.Utf8.{isUtf8, isBoundary, charCount}
 
 -- RFC 3629: "UTF8-octets = *( UTF8-char )". A text that passes the check is such octets, ..

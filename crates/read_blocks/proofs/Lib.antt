@@ -3,3 +3,4 @@ pub mod Finds
 pub mod ByLine
 pub mod Places
 pub mod Wraps
+pub mod BlockNumbers

@@ -103,6 +103,10 @@ blockOf t at f = blockBy (filledFound t at f) (linesOf f) (lookaheadOf f) (lengt
 unfoldable pub sized : List ℕ → Found → Found
 sized t f = cond (tooLong t) (nothing TextTooLong) f
 
+-- its order: 1, and then that of the place
+abbrev pub sizedOrder : List ℕ → List Ground → List Ground
+sizedOrder t gs = Ground.given TextTooLong (tooLong t) ∷ gs
+
 -- ---- the orders, where g is that of a good line from a place up to one of a text
 module _ (g : List ℕ → ℕ → ℕ → List Ground) where
   -- "9 or 5 as the run meets them", then what the joined text gives

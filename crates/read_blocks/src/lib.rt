@@ -6,8 +6,9 @@ use set_table::Filled;
 ghost use mathlib.Core.Path.{_≡_};
 ghost use Prim.Native.Nat.{_≤_};
 ghost use lib.ListN.{length};
-ghost use Rattle.base_refusals.specs.Numbers.{maxText};
-ghost use Rattle.read_blocks.specs.Blocks.{runFound, found, wrapped, joinHolds, blockBy, unread, blockOf, sized};
+ghost use Rattle.base_refusals.specs.Numbers.{maxText, numberOf, outcomeNo};
+ghost use Rattle.base_refusals.specs.Orders.{orderNo};
+ghost use Rattle.read_blocks.specs.Blocks.{runFound, found, wrapped, joinHolds, blockBy, unread, blockOf, sized, sizedOrder, foundOrder, wrappedOrder, readOrder};
 ghost use Rattle.read_blocks.specs.Inner.{isUnread};
 ghost use Rattle.set_table.specs.Filled.{refusing};
 
@@ -24,6 +25,7 @@ pub struct Block {
 // Why nothing is read, with what was joined by then.
 pub fn no_block(r: Refusal, lookahead: usize, joined: usize, at: usize) -> Block
     ensures { λ b. ⌜ b ≡ unread r lookahead joined at ⌝ }
+    ensures { λ b. ⌜ outcomeNo (b .outcome) ≡ numberOf r ⌝ }
 {
     block_of(set_fill::refusing(r), 0, lookahead, joined, at)
 }
@@ -81,6 +83,7 @@ fn read_run(text: &[u8], at: usize, base: usize, join: &mut [u8]) -> Block
 pub fn read_at(text: &[u8], at: usize, join: &mut [u8]) -> Block
     ensures { λ r. ⌜ r ≡ blockOf (now (text .entry)) at (sized (now (text .entry)) (found (now (text .entry)) at 0 (length (now (join .entry))))) ⌝ }
     ensures { λ r. ⌜ now (join .exit) ≡ joinHolds (now (join .entry)) (sized (now (text .entry)) (found (now (text .entry)) at 0 (length (now (join .entry))))) ⌝ }
+    ensures { λ r. ⌜ outcomeNo (r .outcome) ≡ orderNo (sizedOrder (now (text .entry)) (foundOrder readOrder (now (text .entry)) at 0 (length (now (join .entry))))) ⌝ }
 {
     if base_refusals::MAX_TEXT < text.len() {
         return no_block(Refusal::TextTooLong, 0, 0, at);
@@ -104,6 +107,7 @@ pub fn read_at(text: &[u8], at: usize, join: &mut [u8]) -> Block
 pub fn wrapped_at(text: &[u8], at: usize, base: usize, join: &mut [u8]) -> Block
     ensures { λ r. ⌜ r ≡ blockOf (now (text .entry)) at (sized (now (text .entry)) (wrapped (now (text .entry)) at base (length (now (join .entry))))) ⌝ }
     ensures { λ r. ⌜ now (join .exit) ≡ joinHolds (now (join .entry)) (sized (now (text .entry)) (wrapped (now (text .entry)) at base (length (now (join .entry))))) ⌝ }
+    ensures { λ r. ⌜ outcomeNo (r .outcome) ≡ orderNo (sizedOrder (now (text .entry)) (wrappedOrder readOrder (now (text .entry)) at base (length (now (join .entry))))) ⌝ }
 {
     if base_refusals::MAX_TEXT < text.len() {
         return no_block(Refusal::TextTooLong, 0, 0, at);

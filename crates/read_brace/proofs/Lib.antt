@@ -1,2 +1,3 @@
 -- The laws that the proofs of read_brace cite.
 pub mod Laws
+pub mod Numbers

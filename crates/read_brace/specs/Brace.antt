@@ -8,7 +8,7 @@ use lib.Seq.{slice}
 use Rattle.base_bytes.specs.declared.Mode.{Mode}
 use Rattle.base_bytes.specs.Bytes.{openBrace}
 use Rattle.text_utf8.specs.Utf8.{isUtf8}
-use Rattle.base_refusals.specs.Numbers.{tooLong, numberOf}
+use Rattle.base_refusals.specs.Numbers.{tooLong, Paper, refusedPaper, passedPaper}
 use Rattle.base_refusals.specs.Orders.{Ground}
 use Rattle.base_refusals.specs.declared.Refusal.{Refusal}
 use Rattle.base_refusals.specs.declared.Refusal.the-variants.{TextTooLong, NotUtf8, NothingThere, NoClose}
@@ -26,10 +26,10 @@ use Rattle.read_brace.specs.declared.Answer.{Answer}
 use Rattle.read_brace.specs.declared.Answer.the-variants.{Refused, Next}
 use Rattle.read_brace.specs.declared.Read.{Read}
 
--- the number of an answer, 0 where a set is handed out
-abbrev pub braceNo : Answer → ℕ
-braceNo (Refused r) = numberOf r
-braceNo (Next n) = 0
+-- the number of an answer, and the place behind the block
+abbrev pub bracePaper : Answer → Paper
+bracePaper (Refused r) = refusedPaper r
+bracePaper (Next n) = passedPaper (n ∷ [])
 
 -- the set of a refusal is the empty one
 abbrev pub refusingRead : Refusal → Read
@@ -75,6 +75,11 @@ closeOrder m t i (At e) = Ground.lacking NotUtf8 (isUtf8 (payloadOf t i e)) ∷ 
 
 abbrev pub braceOrder : Mode → List ℕ → ℕ → List Ground
 braceOrder m t i = Ground.given TextTooLong (tooLong t) ∷ Ground.lacking NothingThere (braceAt t i) ∷ closeOrder m t i (findClose t (suc i))
+
+-- the place behind the close, if there is one
+abbrev pub behindClose : Place → List ℕ
+behindClose Nothing = []
+behindClose (At e) = suc e ∷ []
 
 -- ---- "the payload is handed back as that part of the caller's text, on a refusal as the empty part at the text's front"
 

@@ -1,3 +1,2 @@
 -- The definitions that the contracts of read_brace cite.
 pub mod Brace
-pub mod Table

@@ -12,9 +12,10 @@ ghost use lib.ListN.{length};
 ghost use lib.Seq.{slice};
 ghost use Rattle.base_bytes.specs.declared.Mode.the-variants.{Strict};
 ghost use Rattle.base_refusals.specs.Numbers.{maxText};
+ghost use Rattle.base_refusals.specs.Orders.{onPaper};
 ghost use Rattle.block_grammar.specs.Close.{findClose};
 ghost use Rattle.block_grammar.specs.declared.Place.the-variants.{At};
-ghost use Rattle.read_brace.specs.Brace.{refusingRead, braceAt, answerAt, finished, readTo, readAttrsAt, partTo, payloadAt};
+ghost use Rattle.read_brace.specs.Brace.{bracePaper, refusingRead, braceAt, answerAt, finished, readTo, readAttrsAt, braceOrder, behindClose, partTo, payloadAt};
 
 // A refusal, or the place behind the block.
 pub enum Answer {
@@ -86,6 +87,7 @@ fn read_payload(text: &[u8], place: usize, end: usize, mode: Mode) -> Read
 // The block whose brace stands at the place, in either mode.
 pub fn read_attrs_at_with(text: &[u8], place: usize, mode: Mode) -> Read
     ensures { λ r. ⌜ r ≡ readAttrsAt mode (now (text .entry)) place ⌝ }
+    ensures { λ r. ⌜ bracePaper (r .answer) ≡ onPaper (braceOrder mode (now (text .entry)) place) (behindClose (findClose (now (text .entry)) (suc place))) ⌝ }
 {
     if base_refusals::MAX_TEXT < text.len() {
         return refused(Refusal::TextTooLong);
@@ -102,6 +104,7 @@ pub fn read_attrs_at_with(text: &[u8], place: usize, mode: Mode) -> Read
 // The inline block: only spaces part its tokens.
 pub fn read_attrs_at(text: &[u8], place: usize) -> Read
     ensures { λ r. ⌜ r ≡ readAttrsAt Strict (now (text .entry)) place ⌝ }
+    ensures { λ r. ⌜ bracePaper (r .answer) ≡ onPaper (braceOrder Strict (now (text .entry)) place) (behindClose (findClose (now (text .entry)) (suc place))) ⌝ }
 {
     read_attrs_at_with(text, place, Mode::Strict)
 }

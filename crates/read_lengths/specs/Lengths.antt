@@ -5,7 +5,7 @@ use mathlib.Core.List.{List, [], _∷_}
 use lib.Dec.{eqb}
 use lib.ListN.{length}
 use Rattle.text_lines.specs.Lines.{lineAt}
-use Rattle.base_refusals.specs.Numbers.{numberOf}
+use Rattle.base_refusals.specs.Numbers.{Paper, refusedPaper, passedPaper}
 use Rattle.base_refusals.specs.Orders.{Ground}
 use Rattle.base_refusals.specs.declared.Refusal.the-variants.{NothingThere, NoReading}
 use Rattle.run_lines.specs.Runs.{pastLines}
@@ -25,9 +25,12 @@ lengthOf (Found.run r) = lengthIs.Lines (r .lines)
 lengthOf (Found.none q x n) = lengthIs.Refused q
 
 -- the number of an answer, 0 where a block is there, and its lines
+abbrev pub lengthPaper : lengths.Length → Paper
+lengthPaper (lengthIs.Refused r) = refusedPaper r
+lengthPaper (lengthIs.Lines n) = passedPaper (n ∷ [])
+
 abbrev pub lengthNo : lengths.Length → ℕ
-lengthNo (lengthIs.Refused r) = numberOf r
-lengthNo (lengthIs.Lines n) = 0
+lengthNo l = lengthPaper l .number
 
 abbrev pub linesIn : lengths.Length → ℕ
 linesIn (lengthIs.Refused r) = 0

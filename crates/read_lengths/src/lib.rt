@@ -3,11 +3,13 @@ use base_refusals::Outcome;
 use base_refusals::Refusal;
 use text_line_start::Start;
 ghost use mathlib.Core.Path.{_≡_};
+ghost use mathlib.Core.List.{[], _∷_};
 ghost use lib.ListN.{length};
+ghost use Rattle.base_refusals.specs.Orders.{onPaper};
 ghost use Rattle.text_line_start.specs.Starts.{placeOf};
-ghost use Rattle.read_blocks.specs.Blocks.{runFound, found, joinHolds};
+ghost use Rattle.read_blocks.specs.Blocks.{runFound, found, linesOf, joinHolds};
 ghost use Rattle.read_blocks.specs.ByLine.{blockFound};
-ghost use Rattle.read_lengths.specs.Lengths.{measured, unlessLine, standaloneFound, indentedFound};
+ghost use Rattle.read_lengths.specs.Lengths.{lengthPaper, measured, unlessLine, standaloneFound, indentedFound, lengthOrder, flushOrder, indentedOrder};
 ghost use Rattle.read_lengths.specs.Inner.{unmeasured};
 
 // How many lines a block has, or why none is there.
@@ -114,6 +116,7 @@ fn measure_wrapped_at(text: &[u8], at: usize, join: &mut [u8]) -> Measure
 pub fn standalone_attrs_block_len(text: &[u8], line: usize, join: &mut [u8]) -> Measure
     ensures { λ r. ⌜ r ≡ measured (now (text .entry)) (placeOf (now (text .entry)) line) (standaloneFound (now (text .entry)) line (length (now (join .entry)))) ⌝ }
     ensures { λ r. ⌜ now (join .exit) ≡ joinHolds (now (join .entry)) (standaloneFound (now (text .entry)) line (length (now (join .entry)))) ⌝ }
+    ensures { λ r. ⌜ lengthPaper (r .length) ≡ onPaper (flushOrder (now (text .entry)) line (length (now (join .entry)))) (linesOf (standaloneFound (now (text .entry)) line (length (now (join .entry)))) ∷ []) ⌝ }
 {
     match text_line_start::line_start(text, line) {
         Start::Refused(r) => no_measure(r, 0),
@@ -130,6 +133,7 @@ pub fn standalone_attrs_block_len(text: &[u8], line: usize, join: &mut [u8]) -> 
 pub fn indented_wrapped_attrs_block_len(text: &[u8], line: usize, join: &mut [u8]) -> Measure
     ensures { λ r. ⌜ r ≡ measured (now (text .entry)) (placeOf (now (text .entry)) line) (indentedFound (now (text .entry)) line (length (now (join .entry)))) ⌝ }
     ensures { λ r. ⌜ now (join .exit) ≡ joinHolds (now (join .entry)) (indentedFound (now (text .entry)) line (length (now (join .entry)))) ⌝ }
+    ensures { λ r. ⌜ lengthPaper (r .length) ≡ onPaper (indentedOrder (now (text .entry)) line (length (now (join .entry)))) (linesOf (indentedFound (now (text .entry)) line (length (now (join .entry)))) ∷ []) ⌝ }
 {
     match text_line_start::line_start(text, line) {
         Start::Refused(r) => no_measure(r, 0),
@@ -141,6 +145,7 @@ pub fn indented_wrapped_attrs_block_len(text: &[u8], line: usize, join: &mut [u8
 pub fn attrs_block_len_at(text: &[u8], line: usize, column: usize, join: &mut [u8]) -> Measure
     ensures { λ r. ⌜ r ≡ measured (now (text .entry)) (placeOf (now (text .entry)) line) (blockFound (now (text .entry)) line column (length (now (join .entry)))) ⌝ }
     ensures { λ r. ⌜ now (join .exit) ≡ joinHolds (now (join .entry)) (blockFound (now (text .entry)) line column (length (now (join .entry)))) ⌝ }
+    ensures { λ r. ⌜ lengthPaper (r .length) ≡ onPaper (lengthOrder (now (text .entry)) line column (length (now (join .entry)))) (linesOf (blockFound (now (text .entry)) line column (length (now (join .entry)))) ∷ []) ⌝ }
 {
     match text_line_start::line_start(text, line) {
         Start::Refused(r) => no_measure(r, 0),

@@ -2,7 +2,7 @@
 use crate::reply;
 use crate::reply::Reply;
 use run_endings::Ends;
-use run_refused::Answer;
+use run_refused::RunReply;
 
 // The run at a line.
 pub(crate) fn run(text: &[u8], line: usize, join: &mut [u8]) -> Reply {
@@ -18,12 +18,12 @@ pub(crate) fn ends(text: &[u8], join: &mut [u8]) -> Reply {
     reply::with_run(ended(answer), r.lookahead, join)
 }
 
-fn answered(answer: Answer) -> Reply {
+fn answered(answer: RunReply) -> Reply {
     match answer {
-        Answer::No(n) => reply::numbered(reply::NO_AT, n),
-        Answer::Lines(n) => reply::numbered(reply::LINES, n),
-        Answer::NoEnd => reply::alone(reply::NO_END),
-        Answer::Refused(r) => reply::refused(reply::REFUSED, r),
+        RunReply::No(n) => reply::numbered(reply::NO_AT, n),
+        RunReply::Lines(n) => reply::numbered(reply::LINES, n),
+        RunReply::NoEnd => reply::alone(reply::NO_END),
+        RunReply::Refused(r) => reply::refused(reply::REFUSED, r),
     }
 }
 

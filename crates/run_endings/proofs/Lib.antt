@@ -2,3 +2,4 @@
 pub mod Openings
 pub mod Bounds
 pub mod Upwards
+pub mod Numbers

@@ -12,8 +12,8 @@ use Rattle.base_lists.specs.Lists.{all, over}
 use Rattle.base_lists.proofs.More.{contra}
 use Rattle.text_lines.specs.Trim.{isBlankLine}
 use Rattle.run_refused.specs.Refused.{RunTold, refusedOf}
-use Rattle.run_refused.specs.declared.Answer.{Answer}
-use Rattle.run_refused.specs.declared.Answer.the-variants.{No, Lines, NoEnd, Refused}
+use Rattle.run_refused.specs.declared.RunReply.{RunReply}
+use Rattle.run_refused.specs.declared.RunReply.the-variants.{No, Lines, NoEnd, Refused}
 use Rattle.run_endings.specs.declared.Ends as ends
 use Rattle.run_endings.specs.declared.Ends.the-variants as end
 use Rattle.run_endings.specs.declared.Verdict.the-variants as verdict
@@ -28,11 +28,11 @@ End a look x = record { answer = a; lookahead = look; join = x }
 
 -- ---- an answer tells, or leaves it to the next run
 
-data Speaks (a : Answer) (count : ℕ) : Type 0 where
+data Speaks (a : RunReply) (count : ℕ) : Type 0 where
   tells : (e : ends.Ends) → ((again tried : Bool) → verdictOf a count again tried ≡ verdict.Told e) → ((y : List ℕ) (next : Ended) → toldBy a count y next ≡ settled e y) → Speaks a count
   goes : ((again tried : Bool) → verdictOf a count again tried ≡ nextOr again tried) → ((y : List ℕ) (next : Ended) → toldBy a count y next ≡ next) → Speaks a count
 
-speaks : (a : Answer) (count : ℕ) → Speaks a count
+speaks : (a : RunReply) (count : ℕ) → Speaks a count
 speaks (Refused r) count = Speaks.tells (end.Refused r) (λ again tried. refl) (λ y next. refl)
 speaks (No n) count = Speaks.goes (λ again tried. refl) (λ y next. refl)
 speaks NoEnd count = Speaks.goes (λ again tried. refl) (λ y next. refl)

@@ -175,10 +175,10 @@ module _ {t : List ℕ} {again : Bool} {buf₀ buf : List ℕ} {at count : ℕ} 
       backs-pass o = at-this refl (over-this ∙ rw (← q, ← o))
 
       module _ (o : true ≡ opens here) (short : length t ≤ maxText) {r : RefusedRun} {buf′ : List ℕ} (long : length buf′ ≡ length buf)
-          (w : (r ≡ handedOut (refusedAt (length buf) t p)) × (buf′ ≡ over (refusedAt (length buf) t p .text) buf))
+          {P : Type 0} (w : (r ≡ handedOut (refusedAt (length buf) t p)) × ((buf′ ≡ over (refusedAt (length buf) t p .text) buf) × P))
           {v : verdicts.Verdict} (u : v ≡ verdictOf (r .answer) (count + 1) again tried) where
         tried-this : backFrom again buf₀ (lines (drop p t)) ≡ triedBy v (look + r .lookahead) buf′
-        tried-this = let c : count + 1 ≡ suc (length (lines (drop at t))) = omega (arith, inv .counted) in over-this ∙ rw (u, w .1, w .0, at-short (length buf) t p short, c, first, ← q, ← o)
+        tried-this = let c : count + 1 ≡ suc (length (lines (drop at t))) = omega (arith, inv .counted) in over-this ∙ rw (u, w .1 .0, w .0, at-short (length buf) t p short, c, first, ← q, ← o)
 
         pub backs-told : {a : ends.Ends} → v ≡ verdict.Told a → {g : EndsRun} → Gives a (look + r .lookahead) g → Tells g buf′
         backs-told k = told-here (tried-this ∙ rw k)

@@ -4,10 +4,10 @@ use Prim.Native.Nat.{ℕ, _+_}
 use mathlib.Core.Bool.{Bool, cond, _&&_, not}
 use mathlib.Core.List.{List, [], _∷_, _++_}
 use lib.Dec.{eqb}
-use lib.ListN.{length, take}
+use lib.ListN.{length, take, getD}
 use Rattle.block_payloads.specs.Payloads.{opens}
 use Rattle.base_lists.specs.Lists.{all, isIn, over}
-use Rattle.base_refusals.specs.Numbers.{numberOf}
+use Rattle.base_refusals.specs.Numbers.{Paper, refusedPaper, passedPaper}
 use Rattle.base_refusals.specs.Orders.{Ground}
 use Rattle.text_checks.specs.Check.{textOrder, checkOf}
 use Rattle.base_refusals.specs.declared.Outcome as outcomes
@@ -15,19 +15,19 @@ use Rattle.base_refusals.specs.declared.Outcome.the-variants as outcome
 use Rattle.text_lines.specs.Trim.{isBlankLine}
 use Rattle.text_lines.specs.Lines.{lines}
 use Rattle.run_spots.specs.Spots.{closesComment}
-use Rattle.run_refused.specs.Refused.{RunTold, refusedOf, linesOrder}
-use Rattle.run_refused.specs.declared.Answer.{Answer}
-use Rattle.run_refused.specs.declared.Answer.the-variants.{No, Lines, NoEnd, Refused}
+use Rattle.run_refused.specs.Refused.{replyPaper, RunTold, refusedOf, linesOrder}
+use Rattle.run_refused.specs.declared.RunReply.{RunReply}
+use Rattle.run_refused.specs.declared.RunReply.the-variants.{No, Lines, NoEnd, Refused}
 use Rattle.run_endings.specs.declared.Ends as ends
 use Rattle.run_endings.specs.declared.Ends.the-variants as end
 use Rattle.run_endings.specs.declared.EndsRun.{EndsRun}
 use Rattle.base_bytes.specs.Bytes.{closeBrace}
 
--- "says yes or no, or 1, 2, 9": the number of a refusal, 0 where the answer is yes or no
-abbrev pub endsNo : ends.Ends → ℕ
-endsNo end.Yes = 0
-endsNo end.No = 0
-endsNo (end.Refused r) = numberOf r
+-- "says yes or no, or 1, 2, 9": yes and no are 1 and 0
+abbrev pub endsPaper : ends.Ends → Paper
+endsPaper end.Yes = passedPaper (1 ∷ [])
+endsPaper end.No = passedPaper (0 ∷ [])
+endsPaper (end.Refused r) = refusedPaper r
 
 -- with the lookahead, and what the join buffer holds at the end
 pub record Ended : Type 0 where
@@ -59,10 +59,13 @@ lastOf (l ∷ m ∷ ls) = lastOf (m ∷ ls)
 abbrev pub tries : List ℕ → ℕ
 tries l = cond (isIn l closeBrace) (cond (closesComment l) 2 1) 0
 
+abbrev pub triesOf : List (List ℕ) → List (List (List ℕ))
+triesOf ls = take (tries (lastOf ls)) (openings ls)
+
 -- ---- what they say
 
 -- the run has to take all lines, so many; if it doesn't, the next one tells
-abbrev pub toldBy : Answer → ℕ → List ℕ → Ended → Ended
+abbrev pub toldBy : RunReply → ℕ → List ℕ → Ended → Ended
 toldBy (Refused r) count buf next = settled (end.Refused r) buf
 toldBy (Lines n) count buf next = cond (eqb n count) (settled end.Yes buf) next
 toldBy (No n) count buf next = next
@@ -81,7 +84,7 @@ triedIn buf [] = settled end.No buf
 triedIn buf (ls ∷ more) = tryRun (length ls) buf (refusedOf (length buf) ls) (λ x. triedIn x more)
 
 unfoldable pub endsOf : List ℕ → List (List ℕ) → Ended
-endsOf buf ls = triedIn buf (take (tries (lastOf ls)) (openings ls))
+endsOf buf ls = triedIn buf (triesOf ls)
 
 -- ---- the entry
 
@@ -98,7 +101,7 @@ endsShown e = record { answer = e .answer; lookahead = e .lookahead }
 -- ---- the order: "says yes or no, or 1, 2, 9"
 
 -- that of a run, or that of the next ones where it doesn't settle the answer
-abbrev pub orNext : Answer → ℕ → List Ground → List Ground → List Ground
+abbrev pub orNext : RunReply → ℕ → List Ground → List Ground → List Ground
 orNext (Refused r) count here next = here
 orNext (Lines n) count here next = cond (eqb n count) [] next
 orNext (No n) count here next = next
@@ -110,4 +113,12 @@ triedOrder buf (ls ∷ more) =
     orNext (refusedOf (length buf) ls .answer) (length ls) (linesOrder (length buf) ls) (triedOrder (over (refusedOf (length buf) ls .text) buf) more)
 
 abbrev pub endsOrder : List ℕ → List ℕ → List Ground
-endsOrder buf t = textOrder t ++ triedOrder buf (take (tries (lastOf (lines t))) (openings (lines t)))
+endsOrder buf t = textOrder t ++ triedOrder buf (triesOf (lines t))
+
+-- Lines of them all, so many, on paper
+abbrev pub takesAll : RunReply → ℕ → Bool
+takesAll a count = eqb (getD (replyPaper a .values) 0 0) 1 && eqb (getD (replyPaper a .values) 1 0) count
+
+-- no where none of the runs that are tried takes all lines, with a join buffer of `cap` bytes
+abbrev pub yesNo : ℕ → List (List (List ℕ)) → List ℕ
+yesNo cap rs = cond (all (λ ls. not (takesAll (refusedOf cap ls .answer) (length ls))) rs) 0 1 ∷ []

@@ -11,8 +11,8 @@ use Rattle.base_lists.specs.Lists.{over}
 use Rattle.text_lines.specs.Trim.{isBlankLine}
 use Rattle.text_lines.specs.Lines.{lineFrom}
 use Rattle.run_refused.specs.Refused.{RunTold, refusedOf}
-use Rattle.run_refused.specs.declared.Answer.{Answer}
-use Rattle.run_refused.specs.declared.Answer.the-variants.{No, Lines, NoEnd, Refused}
+use Rattle.run_refused.specs.declared.RunReply.{RunReply}
+use Rattle.run_refused.specs.declared.RunReply.the-variants.{No, Lines, NoEnd, Refused}
 use Rattle.run_endings.specs.declared.Ends as ends
 use Rattle.run_endings.specs.declared.Ends.the-variants as end
 use Rattle.run_endings.specs.declared.Verdict as verdicts
@@ -40,7 +40,7 @@ pub data Back : Type 0 where
 abbrev pub nextOr : Bool → Bool → verdicts.Verdict
 nextOr again tried = cond (again && not tried) verdict.Next (verdict.Told end.No)
 
-abbrev pub verdictOf : Answer → ℕ → Bool → Bool → verdicts.Verdict
+abbrev pub verdictOf : RunReply → ℕ → Bool → Bool → verdicts.Verdict
 verdictOf (Refused r) count again tried = verdict.Told (end.Refused r)
 verdictOf (Lines n) count again tried = cond (eqb n count) (verdict.Told end.Yes) (nextOr again tried)
 verdictOf (No n) count again tried = nextOr again tried

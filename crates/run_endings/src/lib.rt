@@ -1,13 +1,14 @@
 // Whether a text ends in a run that is refused only for a line too far left.
 use base_refusals::Outcome;
 use base_refusals::Refusal;
-use run_refused::Answer;
+use run_refused::RunReply;
 ghost use mathlib.Core.Path.{_≡_};
 ghost use Prim.Native.Nat.{_<_, _≤_};
 ghost use lib.ListN.{length};
 ghost use Rattle.base_refusals.specs.Numbers.{maxText};
+ghost use Rattle.base_refusals.specs.Orders.{onPaper};
 ghost use Rattle.text_lines.specs.Lines.{lines};
-ghost use Rattle.run_endings.specs.Endings.{endsOf, endsIn, endsShown};
+ghost use Rattle.run_endings.specs.Endings.{endsPaper, triesOf, endsOf, endsIn, endsShown, endsOrder, yesNo};
 ghost use Rattle.run_endings.specs.Inner.{Edge, Before, nextOr, verdictOf, backFrom, endedBy};
 
 pub enum Ends {
@@ -57,19 +58,19 @@ fn next_or(again: bool, tried: bool) -> Verdict
 }
 
 // What the answer of a run says, which began so many lines before the text's end.
-fn verdict_of(answer: Answer, count: usize, again: bool, tried: bool) -> Verdict
+fn verdict_of(answer: RunReply, count: usize, again: bool, tried: bool) -> Verdict
     ensures { λ r. ⌜ r ≡ verdictOf answer count again tried ⌝ }
 {
     match answer {
-        Answer::Refused(r) => Verdict::Told(Ends::Refused(r)),
-        Answer::Lines(n) => {
+        RunReply::Refused(r) => Verdict::Told(Ends::Refused(r)),
+        RunReply::Lines(n) => {
             if n == count {
                 return Verdict::Told(Ends::Yes);
             }
             next_or(again, tried)
         }
-        Answer::No(_) => next_or(again, tried),
-        Answer::NoEnd => next_or(again, tried),
+        RunReply::No(_) => next_or(again, tried),
+        RunReply::NoEnd => next_or(again, tried),
     }
 }
 
@@ -140,6 +141,7 @@ fn ends_in(text: &[u8], join: &mut [u8]) -> EndsRun
 pub fn ends_in_refused_brace_run(text: &[u8], join: &mut [u8]) -> EndsRun
     ensures { λ r. ⌜ r ≡ endsShown (endsIn (now (join .entry)) (now (text .entry))) ⌝ }
     ensures { λ r. ⌜ now (join .exit) ≡ endsIn (now (join .entry)) (now (text .entry)) .join ⌝ }
+    ensures { λ r. ⌜ endsPaper (r .answer) ≡ onPaper (endsOrder (now (join .entry)) (now (text .entry))) (yesNo (length (now (join .entry))) (triesOf (lines (now (text .entry))))) ⌝ }
 {
     match text_checks::check_text(text) {
         Outcome::Refused(r) => ended(Ends::Refused(r), 0),

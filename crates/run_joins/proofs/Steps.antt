@@ -1,7 +1,7 @@
 -- One line of a run: its tests, its bytes in the lent memory, and the state behind it.
 -- Assumes nothing.
 use mathlib.Core.Path.{_≡_, refl, sym, _∙_, ap}
-use mathlib.Core.Bool.{Bool, true, false, not}
+use mathlib.Core.Bool.{Bool, true, false, cond, not}
 use mathlib.Core.List.{List, [], _∷_}
 use Prim.Native.Nat.{ℕ, suc, _+_, _-_, _<_, _≤_}
 use native.Mathlib.Nat.{zero-add}
@@ -12,6 +12,8 @@ use lib.Dec.{eqb, ltb, leb}
 use lib.ListN.{length, set, length-set}
 use lib.Seq.{sets, length-sets}
 use Rattle.base_lists.specs.Lists.{isIn}
+use Rattle.base_refusals.specs.Orders.{Ground, onPaper}
+use Rattle.base_refusals.specs.declared.Refusal.the-variants.{NoReading, JoinFull}
 use Rattle.text_lines.specs.Trim.{trim, isBlankLine}
 pub use Rattle.text_lines.proofs.Trim.{core-from, core-to, core-is}
 use Rattle.text_tabs.specs.Columns.{indentFrom, capped, most}
@@ -24,9 +26,9 @@ use Rattle.block_grammar.specs.declared.Quote.the-variants.{Out, In}
 use Rattle.block_grammar.specs.declared.Place.{Place}
 use Rattle.block_grammar.specs.declared.Place.the-variants.{Nothing, At}
 use Rattle.run_joins.specs.declared.State.{State}
-use Rattle.run_joins.specs.declared.Step.{Step}
-use Rattle.run_joins.specs.declared.Step.the-variants.{Broken, Full, Go, Closes}
-use Rattle.run_joins.specs.Joins.{goesOn, passes, spaced, added, braceAfter, nextState, isLast, closesOr, lengthAfter, joinStep, joinAfter}
+use Rattle.run_joins.specs.declared.Effect.{Effect}
+use Rattle.run_joins.specs.declared.Effect.the-variants.{Broken, Full, Go, Closes}
+use Rattle.run_joins.specs.Joins.{goesOn, passes, spaced, added, braceAfter, nextState, isLast, closesOr, lengthAfter, joinStep, joinAfter, effectPaper, joinOrder, joinValues}
 
 -- ---- a line's own tests
 
@@ -156,18 +158,35 @@ module _ (len : ℕ) (st : State) (pad : ℕ) (l : List ℕ) {core : List ℕ} (
 
 -- ---- the line itself
 
+pub step-paper : (cap : ℕ) (st : State) (pad : ℕ) (l : List ℕ) → effectPaper (joinStep cap st pad l) ≡ onPaper (joinOrder cap st pad l) (joinValues st l)
+unfolding joinStep onPaper
+step-paper cap st pad l = go (passes (eqb (st .len) 0) (st .brace) (st .quote) pad l) (ltb cap (lengthAfter st l)) (isLast l (n .hold))
+  where
+    n : State
+    n = nextState (lengthAfter st l) st pad l
+
+    go : (x y z : Bool) → effectPaper (cond x (cond y Full (cond z (Closes n) (Go n))) Broken)
+        ≡ onPaper (Ground.lacking NoReading x ∷ Ground.given JoinFull y ∷ []) (cond z 1 0 ∷ lengthAfter st l ∷ [])
+    go false y z = refl
+    go true true z = refl
+    go true false true = refl
+    go true false false = refl
+
 module _ (st : State) (pad : ℕ) (l buf : List ℕ) where
-  abbrev Answers : Step → List ℕ → Type 0
-  Answers r b = (r ≡ joinStep (length buf) st pad l) × (b ≡ joinAfter st pad l buf)
+  abbrev Answers : Effect → List ℕ → Type 0
+  Answers r b = (r ≡ joinStep (length buf) st pad l) × ((b ≡ joinAfter st pad l buf) × (effectPaper r ≡ onPaper (joinOrder (length buf) st pad l) (joinValues st l)))
+
+  said : {r : Effect} {b : List ℕ} → r ≡ joinStep (length buf) st pad l → b ≡ joinAfter st pad l buf → Answers r b
+  said e q = (e, (q, ap effectPaper e ∙ step-paper (length buf) st pad l))
 
   pub step-broken : Passes st pad l false → Answers Broken buf
   unfolding joinStep joinAfter
-  step-broken p = (rw (← p), rw (← p))
+  step-broken p = said (rw (← p)) (rw (← p))
 
   module _ (p : Passes st pad l true) {core : List ℕ} (c : core ≡ trim l) where
     pub step-full : Lacks (length buf) (st .len) core true → Answers Full buf
     unfolding joinStep joinAfter
-    step-full q = (rw (← p, ← c, ← q), rw (← p, ← c, ← q))
+    step-full q = said (rw (← p, ← c, ← q)) (rw (← p, ← c, ← q))
 
     pub step-room : Lacks (length buf) (st .len) core false → st .len + length (spaced (eqb (st .len) 0) core) ≤ length buf
     step-room q = ltb-false (length buf) _ (sym q)
@@ -188,8 +207,8 @@ module _ (st : State) (pad : ℕ) (l buf : List ℕ) where
 
       pub step-closes : true ≡ isLast l (next .hold) → Answers (Closes next) b
       unfolding joinAfter
-      step-closes x = (rw (← joined, ← x), rw (← joined, ← x) written)
+      step-closes x = said (rw (← joined, ← x)) (rw (← joined, ← x) written)
 
       pub step-go : false ≡ isLast l (next .hold) → Answers (Go next) b
       unfolding joinAfter
-      step-go x = (rw (← joined, ← x), rw (← joined, ← x) written)
+      step-go x = said (rw (← joined, ← x)) (rw (← joined, ← x) written)

@@ -1,7 +1,7 @@
 -- "Runs of lines": what is asked of one line, what it adds, and what it does to a run.
 use Prim.Native.Nat.{ℕ, _+_}
 use mathlib.Core.Bool.{Bool, cond, _&&_, _||_, not}
-use mathlib.Core.List.{List, _∷_}
+use mathlib.Core.List.{List, [], _∷_}
 use lib.Dec.{eqb, ltb}
 use lib.ListN.{length}
 use lib.Seq.{sets}
@@ -15,11 +15,12 @@ use Rattle.block_grammar.specs.declared.Quote.{Quote}
 use Rattle.block_grammar.specs.declared.Quote.the-variants.{Out}
 use Rattle.block_grammar.specs.declared.Place.{Place}
 use Rattle.block_grammar.specs.declared.Place.the-variants.{Nothing, At}
-use Rattle.base_refusals.specs.Numbers.{numberOf}
+use Rattle.base_refusals.specs.Numbers.{Paper, refusedPaper, passedPaper}
+use Rattle.base_refusals.specs.Orders.{Ground}
 use Rattle.base_refusals.specs.declared.Refusal.the-variants.{NoReading, JoinFull}
 use Rattle.run_joins.specs.declared.State.{State}
-use Rattle.run_joins.specs.declared.Step.{Step}
-use Rattle.run_joins.specs.declared.Step.the-variants.{Broken, Full, Go, Closes}
+use Rattle.run_joins.specs.declared.Effect.{Effect}
+use Rattle.run_joins.specs.declared.Effect.the-variants.{Broken, Full, Go, Closes}
 use Rattle.base_bytes.specs.Bytes.{closeBrace, space}
 
 -- ---- a line's own tests
@@ -64,20 +65,20 @@ nextState len st pad l =
 abbrev pub isLast : List ℕ → Hold → Bool
 isLast l hold = isIn l closeBrace && not (isHeld hold)
 
-abbrev pub closesOr : List ℕ → State → Step
+abbrev pub closesOr : List ℕ → State → Effect
 closesOr l st = cond (isLast l (st .hold)) (Closes st) (Go st)
 
 abbrev pub lengthAfter : State → List ℕ → ℕ
 lengthAfter st l = st .len + length (added (eqb (st .len) 0) l)
 
-unfoldable pub joinStep : ℕ → State → ℕ → List ℕ → Step
+unfoldable pub joinStep : ℕ → State → ℕ → List ℕ → Effect
 joinStep cap st pad l =
     cond (passes (eqb (st .len) 0) (st .brace) (st .quote) pad l)
     (cond (ltb cap (lengthAfter st l)) Full (closesOr l (nextState (lengthAfter st l) st pad l)))
     Broken
 
 -- a line that refuses the run, or doesn't fit, writes nothing
-abbrev pub laid : Step → List ℕ → List ℕ → List ℕ
+abbrev pub laid : Effect → List ℕ → List ℕ → List ℕ
 laid Broken buf written = buf
 laid Full buf written = buf
 laid (Go st) buf written = written
@@ -87,9 +88,17 @@ laid (Closes st) buf written = written
 unfoldable pub joinAfter : State → ℕ → List ℕ → List ℕ → List ℕ
 joinAfter st pad l buf = laid (joinStep (length buf) st pad l) buf (sets buf (st .len) (added (eqb (st .len) 0) l))
 
--- the number of an answer: 5 where the line refuses the run, 9 where it has no room, else 0
-abbrev pub stepNo : Step → ℕ
-stepNo Broken = numberOf NoReading
-stepNo Full = numberOf JoinFull
-stepNo (Go st) = 0
-stepNo (Closes st) = 0
+-- ---- this paper's number and values
+
+-- 5 where the line refuses the run, 9 where it has no room; else whether it closes the run, and the joined text's length
+abbrev pub effectPaper : Effect → Paper
+effectPaper Broken = refusedPaper NoReading
+effectPaper Full = refusedPaper JoinFull
+effectPaper (Go st) = passedPaper (0 ∷ st .len ∷ [])
+effectPaper (Closes st) = passedPaper (1 ∷ st .len ∷ [])
+
+abbrev pub joinOrder : ℕ → State → ℕ → List ℕ → List Ground
+joinOrder cap st pad l = Ground.lacking NoReading (passes (eqb (st .len) 0) (st .brace) (st .quote) pad l) ∷ Ground.given JoinFull (ltb cap (lengthAfter st l)) ∷ []
+
+abbrev pub joinValues : State → List ℕ → List ℕ
+joinValues st l = cond (isLast l (holdFrom (st .hold) (added (eqb (st .len) 0) l))) 1 0 ∷ lengthAfter st l ∷ []

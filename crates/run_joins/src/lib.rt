@@ -7,11 +7,12 @@ ghost use Prim.Native.Nat.{_+_, _≤_};
 ghost use lib.Dec.{eqb, ltb};
 ghost use lib.ListN.{length};
 ghost use lib.Seq.{sets};
+ghost use Rattle.base_refusals.specs.Orders.{onPaper};
 ghost use Rattle.text_lines.specs.Trim.{trim};
 ghost use Rattle.text_tabs.specs.Columns.{indentFrom, capped};
 ghost use Rattle.run_scanners.specs.Scanners.{holdFrom, lastOpenBrace};
 ghost use Rattle.block_grammar.specs.declared.Quote.the-variants.{Out};
-ghost use Rattle.run_joins.specs.Joins.{goesOn, passes, spaced, braceAfter, isLast, nextState, joinStep, joinAfter};
+ghost use Rattle.run_joins.specs.Joins.{goesOn, passes, spaced, braceAfter, isLast, nextState, joinStep, joinAfter, effectPaper, joinOrder, joinValues};
 
 // What a run has when the next line comes: the length of the joined text, the column of the last open brace, what is added to the
 // first line's brace column, the quote that is left open, and the scan of the joined text for an open block.
@@ -24,7 +25,7 @@ pub struct State {
 }
 
 // What a line does to a run: it refuses it, doesn't fit, is joined, or closes it.
-pub enum Step {
+pub enum Effect {
     Broken,
     Full,
     Go(State),
@@ -157,25 +158,26 @@ fn state_after(len: usize, st: State, pad: usize, line: &[u8], core: &[u8]) -> S
 }
 
 // Joins one line, before whose bytes `pad` columns stand, behind what is joined already.
-pub fn join_line(line: &[u8], pad: usize, st: State, join: &mut [u8]) -> Step
+pub fn join_line(line: &[u8], pad: usize, st: State, join: &mut [u8]) -> Effect
     ensures { λ r. ⌜ r ≡ joinStep (length (now (join .entry))) st pad (now (line .entry)) ⌝ }
     ensures { λ r. ⌜ now (join .exit) ≡ joinAfter st pad (now (line .entry)) (now (join .entry)) ⌝ }
+    ensures { λ r. ⌜ effectPaper r ≡ onPaper (joinOrder (length (now (join .entry))) st pad (now (line .entry))) (joinValues st (now (line .entry))) ⌝ }
 {
     let r = text_lines::trim_ascii(line);
     let from = r.from;
     let to = r.to;
     let core = &line[from..to];
     if !passes_tests(st, pad, line, core) {
-        return Step::Broken;
+        return Effect::Broken;
     }
     if lacks_room(join.len(), st.len, core) {
-        return Step::Full;
+        return Effect::Full;
     }
     let len = put_line(join, st.len, core);
     let next = state_after(len, st, pad, line, core);
     let hold = next.hold;
     if is_last(line, hold) {
-        return Step::Closes(next);
+        return Effect::Closes(next);
     }
-    Step::Go(next)
+    Effect::Go(next)
 }

@@ -26,14 +26,16 @@ use Rattle.run_scanners.proofs.Laws.{hold-append, capped-twice}
 use Rattle.block_grammar.specs.declared.Quote.the-variants.{Out}
 use Rattle.block_grammar.specs.declared.Place.{Place}
 use Rattle.block_grammar.specs.declared.Place.the-variants.{Nothing, At}
+use Rattle.base_refusals.specs.Numbers.{outcomeNo}
+use Rattle.base_refusals.specs.Orders.{Ground, orderNo}
 use Rattle.base_refusals.specs.declared.Refusal.the-variants.{NoReading, JoinFull}
 use Rattle.base_refusals.specs.declared.Outcome.{Outcome}
 use Rattle.base_refusals.specs.declared.Outcome.the-variants.{Passed, Refused}
 use Rattle.run_joins.specs.declared.State.{State}
-use Rattle.run_joins.specs.declared.Step.{Step}
-use Rattle.run_joins.specs.declared.Step.the-variants.{Broken, Full, Go, Closes}
+use Rattle.run_joins.specs.declared.Effect.{Effect}
+use Rattle.run_joins.specs.declared.Effect.the-variants.{Broken, Full, Go, Closes}
 use Rattle.run_lines.specs.declared.Joined.{Joined}
-use Rattle.run_lines.specs.Runs.{Lined, asIs, So, start, Run, ended, isFirst, mayJoin, after, runFrom, runAt, pastLines, joinedOf}
+use Rattle.run_lines.specs.Runs.{Lined, asIs, So, start, Run, ended, isFirst, mayJoin, after, isClosing, runFrom, runAt, orderFrom, runOrder, pastLines, joinedOf}
 use Rattle.run_joins.specs.Joins.{passes, spaced, added, braceAfter, nextState, isLast, lengthAfter, joinStep, laid, joinAfter}
 
 -- ---- one line, by code and by definition
@@ -99,7 +101,7 @@ module _ (cap : ℕ) (so : So) (l : Lined) (ls : List Lined) where
   Joined-by v = Shows (after so l) v × (length (after so l .text) ≤ cap)
 
   -- what the definition says where code takes a step
-  abbrev pub Meets : Step → Type 0
+  abbrev pub Meets : Effect → Type 0
   Meets Broken = runFrom cap so (l ∷ ls) ≡ ended (Refused NoReading) so
   Meets Full = runFrom cap so (l ∷ ls) ≡ ended (Refused JoinFull) so
   Meets (Closes v) = (runFrom cap so (l ∷ ls) ≡ ended Passed (after so l)) × Joined-by v
@@ -117,6 +119,26 @@ module _ (cap : ℕ) (so : So) (l : Lined) (ls : List Lined) where
       go true true z p q r = rw (p, q)
       go true false true p q r = (rw (p, q, r), (shows-after s l p, ltb-false cap _ q))
       go true false false p q r = (rw (p, q, r), (shows-after s l p, ltb-false cap _ q))
+
+-- ---- the number
+
+stop-no : (cap : ℕ) (so : So) (ls : List Lined) → outcomeNo (runFrom cap so ls .stop) ≡ orderNo (orderFrom cap so ls)
+unfolding runFrom orderFrom orderNo
+stop-no cap so [] = refl
+stop-no cap so (l ∷ ls) = go (mayJoin so l) (ltb cap (length (after so l .text))) (isClosing l (after so l)) (stop-no cap (after so l) ls)
+  where
+    go : (x y z : Bool) → outcomeNo (runFrom cap (after so l) ls .stop) ≡ orderNo (orderFrom cap (after so l) ls)
+        → outcomeNo (cond x (cond y (ended (Refused JoinFull) so) (cond z (ended Passed (after so l)) (runFrom cap (after so l) ls))) (ended (Refused NoReading) so) .stop)
+        ≡ orderNo (Ground.lacking NoReading x ∷ Ground.given JoinFull y ∷ cond z [] (orderFrom cap (after so l) ls))
+    go false y z ih = refl
+    go true true z ih = refl
+    go true false true ih = refl
+    go true false false ih = ih
+
+pub joins-no : (cap base : ℕ) (t : List ℕ) (at : ℕ) {r : Joined} {A : Type 0} → (r ≡ joinedOf t at (runAt cap base t at)) × A
+    → (r ≡ joinedOf t at (runAt cap base t at)) × (A × (outcomeNo (r .stop) ≡ orderNo (runOrder cap base t at)))
+unfolding runAt
+joins-no cap base t at w = (w .0, (w .1, ap (λ j. outcomeNo (j .stop)) (w .0) ∙ stop-no cap (start base) (map asIs (lines (drop at t)))))
 
 -- ---- the lent memory
 
@@ -214,18 +236,18 @@ module _ {t : List ℕ} {at : ℕ} {buf₀ : List ℕ} {R : Run} {buf : List ℕ
     abbrev here : List ℕ
     here = line (inv .has) h e
 
-    module _ {step : Step} {buf′ : List ℕ} (w : (step ≡ joinStep (length buf) st 0 here) × (buf′ ≡ joinAfter st 0 here buf)) where
+    module _ {step : Effect} {buf′ : List ℕ} {P : Type 0} (w : (step ≡ joinStep (length buf) st 0 here) × ((buf′ ≡ joinAfter st 0 here buf) × P)) where
       met : Meets (length buf₀) (inv .so) (asIs here) (map asIs (lines (drop (r .next) t))) step
       met = rw (w .0, has-long (inv .has)) (meets (length buf₀) (inv .so) (asIs here) (map asIs (lines (drop (r .next) t))) (inv .has .shows))
 
       laid-by : buf′ ≡ laid step buf (sets buf (st .len) (added (eqb (st .len) 0) here))
       unfolding joinAfter
-      laid-by = rw (w .0) (w .1)
+      laid-by = rw (w .0) (w .1 .0)
 
       pub joins-long : length buf′ ≡ length buf₀
       joins-long = rw laid-by (go step)
         where
-          go : (x : Step) → length (laid x buf (sets buf (st .len) (added (eqb (st .len) 0) here))) ≡ length buf₀
+          go : (x : Effect) → length (laid x buf (sets buf (st .len) (added (eqb (st .len) 0) here))) ≡ length buf₀
           go Broken = has-long (inv .has)
           go Full = has-long (inv .has)
           go (Go v) = length-sets buf (st .len) (added (eqb (st .len) 0) here) ∙ has-long (inv .has)

@@ -1,6 +1,6 @@
 -- "Runs of lines": "trimmed lines joined by one space", up to the line that closes the run or refuses it.
 use Prim.Native.Nat.{ℕ, zero, suc, _+_}
-use mathlib.Core.Bool.{Bool, cond, _&&_, not}
+use mathlib.Core.Bool.{Bool, true, cond, _&&_, not}
 use mathlib.Core.List.{List, [], _∷_, _++_, map}
 use lib.Dec.{eqb, ltb}
 use lib.ListN.{length, drop}
@@ -10,7 +10,7 @@ use Rattle.text_lines.specs.Lines.{lines, lineFrom}
 use Rattle.run_scanners.specs.Scanners.{openQuoteAtEnd, lastOpenBrace, holdsOpen}
 use Rattle.block_grammar.specs.declared.Quote.{Quote}
 use Rattle.block_grammar.specs.declared.Quote.the-variants.{Out}
-use Rattle.base_refusals.specs.Numbers.{numberOf}
+use Rattle.base_refusals.specs.Orders.{Ground}
 use Rattle.base_refusals.specs.declared.Refusal.the-variants.{NoReading, JoinFull}
 use Rattle.run_joins.specs.Joins.{passes, added, braceAfter}
 use Rattle.base_refusals.specs.declared.Outcome.{Outcome}
@@ -76,8 +76,11 @@ after so l =
 -- ---- the run
 
 -- "The run ends at the first line with a `}` after which the joined text holds no open block"
+abbrev pub isClosing : Lined → So → Bool
+isClosing l so = isIn (l .line) closeBrace && not (holdsOpen (so .text))
+
 abbrev pub closing : Lined → So → (So → Run) → Run
-closing l so rest = cond (isIn (l .line) closeBrace && not (holdsOpen (so .text))) (ended Passed so) (rest so)
+closing l so rest = cond (isClosing l so) (ended Passed so) (rest so)
 
 -- "the next line to join doesn't fit the join buffer": the line that doesn't fit is not joined, and not counted
 abbrev pub fitting : ℕ → So → Lined → (So → Run) → Run
@@ -94,6 +97,17 @@ runOf cap base ls = runFrom cap (start base) ls
 -- the run over the lines of a text, from the line on that begins at `at`
 unfoldable pub runAt : ℕ → ℕ → List ℕ → ℕ → Run
 runAt cap base t at = runOf cap base (map asIs (lines (drop at t)))
+
+-- ---- the order: "9 or 5 as the run meets them"
+
+-- line by line: 5 where a line may not be joined, 9 where it doesn't fit, and 5 where none is left
+unfoldable pub orderFrom : ℕ → So → List Lined → List Ground
+orderFrom cap so [] = Ground.given NoReading true ∷ []
+orderFrom cap so (l ∷ ls) =
+    Ground.lacking NoReading (mayJoin so l) ∷ Ground.given JoinFull (ltb cap (length (after so l .text))) ∷ cond (isClosing l (after so l)) [] (orderFrom cap (after so l) ls)
+
+abbrev pub runOrder : ℕ → ℕ → List ℕ → ℕ → List Ground
+runOrder cap base t at = orderFrom cap (start base) (map asIs (lines (drop at t)))
 
 -- ---- what is handed out
 

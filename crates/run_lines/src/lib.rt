@@ -2,13 +2,15 @@
 use base_refusals::Outcome;
 use base_refusals::Refusal;
 use block_grammar::Quote;
+use run_joins::Effect;
 use run_joins::State;
-use run_joins::Step;
 ghost use mathlib.Core.Path.{_≡_};
 ghost use lib.ListN.{length};
 ghost use Rattle.base_lists.specs.Lists.{over};
+ghost use Rattle.base_refusals.specs.Numbers.{outcomeNo};
+ghost use Rattle.base_refusals.specs.Orders.{orderNo};
 ghost use Rattle.base_refusals.specs.declared.Outcome.the-variants.{Passed, Refused};
-ghost use Rattle.run_lines.specs.Runs.{runAt, joinedOf};
+ghost use Rattle.run_lines.specs.Runs.{runAt, runOrder, joinedOf};
 
 // How many bytes and lines are joined, of how many untrimmed bytes, and where the line behind them begins.
 pub struct Joined {
@@ -47,6 +49,7 @@ fn refused(no: Refusal, len: usize, lines: usize, lookahead: usize, next: usize)
 pub fn join_run(text: &[u8], at: usize, base: usize, join: &mut [u8]) -> Joined
     ensures { λ r. ⌜ r ≡ joinedOf (now (text .entry)) at (runAt (length (now (join .entry))) base (now (text .entry)) at) ⌝ }
     ensures { λ r. ⌜ now (join .exit) ≡ over (runAt (length (now (join .entry))) base (now (text .entry)) at .text) (now (join .entry)) ⌝ }
+    ensures { λ r. ⌜ outcomeNo (r .stop) ≡ orderNo (runOrder (length (now (join .entry))) base (now (text .entry)) at) ⌝ }
 {
     let mut st = State {
         len: 0,
@@ -65,21 +68,21 @@ pub fn join_run(text: &[u8], at: usize, base: usize, join: &mut [u8]) -> Joined
         let l = text_lines::line_from(text, from);
         let to = l.to;
         match run_joins::join_line(&text[from..to], 0, st, join) {
-            Step::Broken => break 'lines refused(
+            Effect::Broken => break 'lines refused(
                 Refusal::NoReading,
                 st.len,
                 count,
                 lookahead,
                 from,
             ),
-            Step::Full => break 'lines refused(Refusal::JoinFull, st.len, count, lookahead, from),
-            Step::Closes(v) => break 'lines closed(
+            Effect::Full => break 'lines refused(Refusal::JoinFull, st.len, count, lookahead, from),
+            Effect::Closes(v) => break 'lines closed(
                 v.len,
                 count + 1,
                 lookahead + (to - from),
                 l.next,
             ),
-            Step::Go(v) => {
+            Effect::Go(v) => {
                 st = v;
                 count += 1;
                 lookahead += to - from;

@@ -30,12 +30,12 @@ use Rattle.text_tabs.specs.Columns.{indentColumns, capped}
 use Rattle.text_tabs.proofs.Laws.{indent-le, indent-whole}
 use Rattle.block_chain.specs.Chain.{goodLine}
 use Rattle.run_lines.specs.Runs.{Run, runOf}
-use Rattle.run_refused.specs.declared.Answer.{Answer}
-use Rattle.run_refused.specs.declared.Answer.the-variants.{No, Refused}
+use Rattle.run_refused.specs.declared.RunReply.{RunReply}
+use Rattle.run_refused.specs.declared.RunReply.the-variants.{No, Refused}
 use Rattle.run_refused.specs.declared.RefusedRun.{RefusedRun}
 use Rattle.run_refused.specs.declared.Ran.{Ran}
-use Rattle.run_refused.specs.declared.Walk.{Walk}
-use Rattle.run_refused.specs.declared.Walk.the-variants as walks
+use Rattle.run_refused.specs.declared.RefusedWalk.{RefusedWalk}
+use Rattle.run_refused.specs.declared.RefusedWalk.the-variants as walks
 use Rattle.run_refused.specs.Refused.{Stretch, commentFrom, RunTold, unjoined, runAnswer, judged, foundIn, refusedOf, refusedAt, refusedRun, handedOut}
 use Rattle.run_refused.specs.Inner.{walkAt, shownWalk, isStretch, linesTaken, paddedRun, ranOf, maxColumn}
 use Rattle.run_refused.proofs.Walking.{line, line-in, line-first, line-long}
@@ -49,25 +49,25 @@ good-over xs buf = rw (take-at xs (drop (length xs) buf) (length xs) refl, take-
 abbrev pub Tells : RunTold → List ℕ → RefusedRun → List ℕ → Type 0
 Tells T buf g buf′ = (g ≡ handedOut T) × (buf′ ≡ over (T .text) buf)
 
-pub block-told : (P : Run) (count : ℕ) (buf : List ℕ) {r : Ran} {buf′ : List ℕ} {a : Answer} → (r ≡ ranOf P) × (buf′ ≡ over (P .text) buf)
+pub block-told : (P : Run) (count : ℕ) (buf : List ℕ) {r : Ran} {buf′ : List ℕ} {a : RunReply} → (r ≡ ranOf P) × (buf′ ≡ over (P .text) buf)
     → a ≡ runAnswer (r .stop) (eqb (r .lines) count && goodLine buf′ 0 (r .len)) count
     → Tells (judged count P) buf (record { answer = a; lookahead = r .lookahead; joined = r .len }) buf′
 block-told P count buf w q = (rw (q, w .1, w .0, good-over (P .text) buf), w .1)
 
-pub unjoined-told : (T : RunTold) (buf : List ℕ) {a : Answer} {g : RefusedRun} → T ≡ unjoined a → g ≡ handedOut (unjoined a) → Tells T buf g buf
+pub unjoined-told : (T : RunTold) (buf : List ℕ) {a : RunReply} {g : RefusedRun} → T ≡ unjoined a → g ≡ handedOut (unjoined a) → Tells T buf g buf
 unjoined-told T buf q e = rw q (e, refl)
 
 -- ---- what the first walk shows
 
-abbrev isNo : Walk → Bool
+abbrev isNo : RefusedWalk → Bool
 isNo (walks.No n) = true
 isNo (walks.Block n s) = false
 
-abbrev countOf : Walk → ℕ
+abbrev countOf : RefusedWalk → ℕ
 countOf (walks.No n) = n
 countOf (walks.Block n s) = n
 
-abbrev shallowOf : Walk → Bool
+abbrev shallowOf : RefusedWalk → Bool
 shallowOf (walks.No n) = false
 shallowOf (walks.Block n s) = s
 
@@ -107,7 +107,7 @@ module _ (cap : ℕ) (t : List ℕ) (at : ℕ) (h : at < length t) {l : LineEnd}
     pub opener-low : c ≤ maxColumn
     opener-low = omega (arith, column, indent-le here, line-long t at h e, line-in t at h e)
 
-    pub told-comment : true ≡ beginsPair 123 37 (trimStart here) → {a : Answer} → a ≡ commentFrom c 0 false (lines (drop at t)) → told-at ≡ unjoined a
+    pub told-comment : true ≡ beginsPair 123 37 (trimStart here) → {a : RunReply} → a ≡ commentFrom c 0 false (lines (drop at t)) → told-at ≡ unjoined a
     unfolding refusedOf
     told-comment k z = rw (z, column, line-first t at h e, ← q, ← k)
 

@@ -14,9 +14,9 @@ use Rattle.base_lists.specs.Lists.{run, beginsPair}
 use Rattle.base_bytes.specs.Bytes.{isSpace}
 use Rattle.text_tabs.specs.Columns.{indentColumns}
 use Rattle.run_lines.specs.Runs.{Lined, asIs, runOf, sizes, start}
-use Rattle.run_lines.proofs.Bounds.{lookahead-sum, sizes-take, costs, grows}
+use Rattle.run_lines.proofs.Bounds.{lookahead-sum, sizes-take, text-le, costs, grows}
 use Rattle.run_spots.specs.declared.Spot.{Spot}
-use Rattle.run_refused.specs.declared.Answer.the-variants.{No}
+use Rattle.run_refused.specs.declared.RunReply.the-variants.{No}
 use Rattle.run_spots.specs.Spots.{isStray, spotAfter}
 use Rattle.run_refused.specs.Refused.{Stretch, ontoStretch, walkLine, On, halts, paddedLine, enteredAt, onAfter, behindLine, walkFrom, onFirst, RunTold, unjoined, foundIn, commentFrom, refusedOf}
 use Rattle.run_refused.specs.Inner.{linesTaken}
@@ -112,6 +112,12 @@ found-text cap Stretch.none = zero-le
 found-text cap (Stretch.block true ls) = omega (arith, grows cap (start 0) ls (λ e. refl))
 found-text cap (Stretch.block false ls) = zero-le
 
+found-fits : (cap : ℕ) (f : Stretch) → length (foundIn cap f .text) ≤ cap
+unfolding foundIn
+found-fits cap Stretch.none = zero-le
+found-fits cap (Stretch.block true ls) = text-le cap 0 ls
+found-fits cap (Stretch.block false ls) = zero-le
+
 module _ (cap : ℕ) (l : List ℕ) (ls : List (List ℕ)) (P : RunTold → Type 0) (none : (a : _) → P (unjoined a)) (found : P (foundIn cap (walkFrom (indentColumns l) (onFirst (indentColumns l)) (l ∷ ls)))) where
   told-by : P (refusedOf cap (l ∷ ls))
   unfolding refusedOf
@@ -121,6 +127,11 @@ module _ (cap : ℕ) (l : List ℕ) (ls : List (List ℕ)) (P : RunTold → Type
       go false y = none _
       go true true = none _
       go true false = found
+
+pub told-fits : (cap : ℕ) (ls : List (List ℕ)) → length (refusedOf cap ls .text) ≤ cap
+unfolding refusedOf
+told-fits cap [] = zero-le
+told-fits cap (l ∷ ls) = told-by cap l ls (λ r. length (r .text) ≤ cap) (λ a. zero-le) (found-fits cap (walkFrom (indentColumns l) (onFirst (indentColumns l)) (l ∷ ls)))
 
 -- the run from l on, where the walk doesn't go beyond `pre`
 module _ (cap : ℕ) (l : List ℕ) (pre rest : List (List ℕ)) where

@@ -15,18 +15,18 @@ use Rattle.text_lines.specs.declared.LineEnd.{LineEnd}
 use Rattle.text_lines.proofs.Lines.{lines-end}
 use Rattle.text_tabs.specs.Columns.{indentColumns, capped}
 use Rattle.text_tabs.proofs.Laws.{indent-whole}
-use Rattle.run_refused.specs.declared.Answer.{Answer}
-use Rattle.run_refused.specs.declared.Answer.the-variants.{NoEnd}
+use Rattle.run_refused.specs.declared.RunReply.{RunReply}
+use Rattle.run_refused.specs.declared.RunReply.the-variants.{NoEnd}
 use Rattle.run_spots.specs.Spots.{shallowOr, closesComment}
 use Rattle.run_refused.specs.Refused.{commentBy, commentFrom}
 use Rattle.run_refused.proofs.Walking.{line, line-in, line-first, line-long}
 
 -- before the line that begins at `at`, behind n lines
-pub record Comments (t : List ℕ) (r : Answer) (opener n at : ℕ) (sh : Bool) : Type 0 where
+pub record Comments (t : List ℕ) (r : RunReply) (opener n at : ℕ) (sh : Bool) : Type 0 where
   pub few : n ≤ at
   pub rest : commentFrom opener n sh (lines (drop at t)) ≡ r
 
-module _ {t : List ℕ} {r : Answer} {opener n at : ℕ} {sh : Bool} (inv : Comments t r opener n at sh) where
+module _ {t : List ℕ} {r : RunReply} {opener n at : ℕ} {sh : Bool} (inv : Comments t r opener n at sh) where
   pub comment-end : length t ≤ at → NoEnd ≡ r
   unfolding commentFrom
   comment-end h = rw (lines-end t at h) at (inv .rest)
@@ -41,7 +41,7 @@ module _ {t : List ℕ} {r : Answer} {opener n at : ℕ} {sh : Bool} (inv : Comm
       column : c ≡ indentColumns (line t at h e)
       column = w ∙ indent-whole (line t at h e) (omega (arith, line-long t at h e, line-in t at h e))
 
-      pub comment-closes : true ≡ closesComment (line t at h e) → {a : Answer} → a ≡ commentBy sh′ (n + 1) → a ≡ r
+      pub comment-closes : true ≡ closesComment (line t at h e) → {a : RunReply} → a ≡ commentBy sh′ (n + 1) → a ≡ r
       unfolding commentFrom
       comment-closes k z = z ∙ rw (x, column, add-one n) (rw (line-first t at h e, ← q, ← k) at (inv .rest))
 

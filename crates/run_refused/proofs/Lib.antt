@@ -5,3 +5,4 @@ pub mod Comments
 pub mod Padding
 pub mod Answers
 pub mod Bounds
+pub mod Numbers

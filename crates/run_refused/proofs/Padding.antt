@@ -27,8 +27,8 @@ use Rattle.base_refusals.specs.declared.Refusal.the-variants.{NoReading, JoinFu
 use Rattle.base_refusals.specs.declared.Outcome.{Outcome}
 use Rattle.base_refusals.specs.declared.Outcome.the-variants.{Passed, Refused}
 use Rattle.run_joins.specs.declared.State.{State}
-use Rattle.run_joins.specs.declared.Step.{Step}
-use Rattle.run_joins.specs.declared.Step.the-variants.{Broken, Full, Go, Closes}
+use Rattle.run_joins.specs.declared.Effect.{Effect}
+use Rattle.run_joins.specs.declared.Effect.the-variants.{Broken, Full, Go, Closes}
 use Rattle.run_lines.specs.Runs.{Lined, So, start, Run, ended, isFirst, after, runFrom}
 use Rattle.run_joins.specs.Joins.{added, joinStep, laid, joinAfter}
 use Rattle.run_lines.proofs.Joining.{Shows, Meets, meets, over-sets}
@@ -176,8 +176,8 @@ module _ {t : List ℕ} {opener : ℕ} {buf₀ : List ℕ} {R : Run} {buf : List
         whole : runFrom (length buf₀) (inv .so) (lined ∷ linesTaken next-found) ≡ R
         whole = rw (next-block .1) at (inv .rest)
 
-        module _ {pad : ℕ} (d : pad ≡ padOf (eqb n 0) (p .column) br opener) {step : Step} {buf′ : List ℕ}
-            (w : (step ≡ joinStep (length buf) st pad (take (l .to - i) (drop i t))) × (buf′ ≡ joinAfter st pad (take (l .to - i) (drop i t)) buf)) where
+        module _ {pad : ℕ} (d : pad ≡ padOf (eqb n 0) (p .column) br opener) {step : Effect} {buf′ : List ℕ} {P : Type 0}
+            (w : (step ≡ joinStep (length buf) st pad (take (l .to - i) (drop i t))) × ((buf′ ≡ joinAfter st pad (take (l .to - i) (drop i t)) buf) × P)) where
           pad-is : pad ≡ lined .pad
           pad-is = d ∙ rw s
 
@@ -186,12 +186,12 @@ module _ {t : List ℕ} {opener : ℕ} {buf₀ : List ℕ} {R : Run} {buf : List
 
           laid-by : buf′ ≡ laid step buf (sets buf (st .len) (added (eqb (st .len) 0) (trimStart here)))
           unfolding joinAfter
-          laid-by = rw (w .0, ← rest-is) (w .1)
+          laid-by = rw (w .0, ← rest-is) (w .1 .0)
 
           pub pads-same : length buf′ ≡ length buf₀
           pads-same = rw laid-by (go step)
             where
-              go : (x : Step) → length (laid x buf (sets buf (st .len) (added (eqb (st .len) 0) (trimStart here)))) ≡ length buf₀
+              go : (x : Effect) → length (laid x buf (sets buf (st .len) (added (eqb (st .len) 0) (trimStart here)))) ≡ length buf₀
               go Broken = pads-long
               go Full = pads-long
               go (Go v) = length-sets buf (st .len) (added (eqb (st .len) 0) (trimStart here)) ∙ pads-long

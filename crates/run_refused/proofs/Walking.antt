@@ -22,8 +22,8 @@ use Rattle.text_lines.proofs.Lines.{lines-end, line-at, to-from, to-next, next-
 use Rattle.text_tabs.proofs.Laws.{indent-le}
 use Rattle.run_lines.specs.Runs.{Lined}
 use Rattle.run_spots.specs.declared.Spot.{Spot}
-use Rattle.run_refused.specs.declared.Walk.{Walk}
-use Rattle.run_refused.specs.declared.Walk.the-variants.{No, Block}
+use Rattle.run_refused.specs.declared.RefusedWalk.{RefusedWalk}
+use Rattle.run_refused.specs.declared.RefusedWalk.the-variants.{No, Block}
 use Rattle.run_spots.specs.Spots.{isStray, opensBy, spotAfter, shallowOr}
 use Rattle.run_refused.specs.Refused.{Stretch, ontoStretch, walkLine, On, halts, paddedLine, enteredAt, onAfter, behindLine, walkFrom, onFirst}
 use Rattle.run_refused.specs.Inner.{walkAt, shownWalk, maxColumn}
@@ -54,7 +54,7 @@ module _ (t : List ℕ) (at : ℕ) (h : at < length t) {r : LineEnd} (e : r ≡ 
 
 -- ---- what is shown of a walk behind n lines
 
-abbrev countFrom : ℕ → Stretch → Walk
+abbrev countFrom : ℕ → Stretch → RefusedWalk
 countFrom n Stretch.none = No 0
 countFrom n (Stretch.block s ls) = Block (n + length ls) s
 
@@ -73,13 +73,13 @@ abbrev pub on : ℕ → Bool → ℕ → On
 on n sh br = record { first = eqb n 0; shallow = sh; brace = br }
 
 -- before the line that begins at `at`
-pub record Outer (t : List ℕ) (r : Walk) (opener n at br : ℕ) (sh : Bool) : Type 0 where
+pub record Outer (t : List ℕ) (r : RefusedWalk) (opener n at br : ℕ) (sh : Bool) : Type 0 where
   pub few : n ≤ at
   pub low : br ≤ 524280
   pub rest : countFrom n (walkFrom opener (on n sh br) (lines (drop at t))) ≡ r
 
 -- in line n, which ends at e and has the next one behind it at `next`, before byte i: what comes after the line is K
-pub record Inner (t : List ℕ) (r : Walk) (opener n e next : ℕ) (sh : Bool) (p : Spot) (i : ℕ) : Type 0 where
+pub record Inner (t : List ℕ) (r : RefusedWalk) (opener n e next : ℕ) (sh : Bool) (p : Spot) (i : ℕ) : Type 0 where
   pub upto : i ≤ e
   pub within : e ≤ length t
   pub column : p .column + 4 * (e - i) ≤ 524280
@@ -92,7 +92,7 @@ pub start : (t : List ℕ) (at opener : ℕ) → opener ≤ maxColumn → Outer 
 unfolding walkAt
 start t at opener h = record { few = omega arith; low = omega arith; rest = counts (walkFrom opener (onFirst opener) (lines (drop at t))) }
 
-module _ {t : List ℕ} {r : Walk} {opener n at br : ℕ} {sh : Bool} (inv : Outer t r opener n at br sh) where
+module _ {t : List ℕ} {r : RefusedWalk} {opener n at br : ℕ} {sh : Bool} (inv : Outer t r opener n at br sh) where
   pub end : length t ≤ at → No 0 ≡ r
   unfolding walkFrom
   end h = rw (lines-end t at h) at (inv .rest)
@@ -117,7 +117,7 @@ module _ {t : List ℕ} {r : Walk} {opener n at br : ℕ} {sh : Bool} (inv : Out
             rest = rw (line-rest t at h e f, s) (rw (line-first t at h e, ← q) at (inv .rest));
           }
 
-module _ {t : List ℕ} {r : Walk} {opener n e next : ℕ} {sh : Bool} {p : Spot} {i : ℕ} (inv : Inner t r opener n e next sh p i) where
+module _ {t : List ℕ} {r : RefusedWalk} {opener n e next : ℕ} {sh : Bool} {p : Spot} {i : ℕ} (inv : Inner t r opener n e next sh p i) where
   module _ (h : i < e) where
     pub stray : true ≡ isStray p (getD t i 0) → No 0 ≡ r
     unfolding walkLine

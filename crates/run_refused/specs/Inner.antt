@@ -6,8 +6,8 @@ use lib.ListN.{length, drop}
 use Rattle.text_lines.specs.Lines.{lines}
 use Rattle.run_lines.specs.Runs.{Lined, Run, runOf}
 use Rattle.run_spots.specs.declared.Spot.{Spot}
-use Rattle.run_refused.specs.declared.Walk.{Walk}
-use Rattle.run_refused.specs.declared.Walk.the-variants as walks
+use Rattle.run_refused.specs.declared.RefusedWalk.{RefusedWalk}
+use Rattle.run_refused.specs.declared.RefusedWalk.the-variants as walks
 use Rattle.run_refused.specs.declared.Ran.{Ran}
 use Rattle.run_refused.specs.Refused.{Stretch, onFirst, walkFrom}
 use Rattle.run_spots.specs.Spots.{spotAfter}
@@ -29,7 +29,7 @@ unfoldable pub walkAt : ℕ → List ℕ → ℕ → Stretch
 walkAt opener t at = walkFrom opener (onFirst opener) (lines (drop at t))
 
 -- the padded lines are many and needn't be kept
-abbrev pub shownWalk : Stretch → Walk
+abbrev pub shownWalk : Stretch → RefusedWalk
 shownWalk Stretch.none = walks.No 0
 shownWalk (Stretch.block shallow ls) = walks.Block (length ls) shallow
 

@@ -8,7 +8,7 @@ use Rattle.block_payloads.specs.Payloads.{opens}
 use Rattle.text_checks.specs.Check.{textOrder, checkOf}
 use Rattle.base_refusals.specs.declared.Outcome as outcomes
 use Rattle.base_refusals.specs.declared.Outcome.the-variants as outcome
-use Rattle.base_refusals.specs.Numbers.{tooLong, numberOf, outcomeNo}
+use Rattle.base_refusals.specs.Numbers.{tooLong, numberOf, outcomeNo, Paper, refusedPaper, passedPaper}
 use Rattle.base_refusals.specs.Orders.{Ground}
 use Rattle.base_refusals.specs.declared.Refusal.the-variants.{TextTooLong, JoinFull}
 use Rattle.text_lines.specs.Trim.{trimStart, isBlankLine}
@@ -21,25 +21,18 @@ use Rattle.block_chain.specs.Chain.{goodLine}
 use Rattle.run_lines.specs.Runs.{Lined, Run, runOf}
 use Rattle.run_spots.specs.declared.Spot.{Spot}
 use Rattle.run_spots.specs.Spots.{isStray, spotAfter, shallowOr, closesComment, opensComment}
-use Rattle.run_refused.specs.declared.Answer.{Answer}
-use Rattle.run_refused.specs.declared.Answer.the-variants.{No, Lines, NoEnd, Refused}
+use Rattle.run_refused.specs.declared.RunReply.{RunReply}
+use Rattle.run_refused.specs.declared.RunReply.the-variants.{No, Lines, NoEnd, Refused}
 use Rattle.run_refused.specs.declared.RefusedRun.{RefusedRun}
 
--- ---- this paper's numbers and values
+-- ---- this paper's number and values
 
--- "gives its own answers, or 1, 2, 9": the number of a refusal, 0 where the answer is its own
-abbrev pub runAnswerNo : Answer → ℕ
-runAnswerNo (No n) = 0
-runAnswerNo (Lines n) = 0
-runAnswerNo NoEnd = 0
-runAnswerNo (Refused r) = numberOf r
-
--- "Lines, No with a count, or No to the end (`usize::MAX` in 000)"
-abbrev pub answerLines : Answer → ℕ
-answerLines (No n) = n
-answerLines (Lines n) = n
-answerLines NoEnd = most
-answerLines (Refused r) = 0
+-- "gives its own answers, or 1, 2, 9": "Lines, No with a count, or No to the end (`usize::MAX` in 000)" are 1, 0 and 2, with the count
+abbrev pub replyPaper : RunReply → Paper
+replyPaper (Lines n) = passedPaper (1 ∷ n ∷ [])
+replyPaper (No n) = passedPaper (0 ∷ n ∷ [])
+replyPaper NoEnd = passedPaper (2 ∷ most ∷ [])
+replyPaper (Refused r) = refusedPaper r
 
 -- ---- the walk over lines
 
@@ -100,15 +93,15 @@ onFirst opener = record { first = true; shallow = false; brace = opener }
 
 -- with the lookahead and the joined text
 pub record RunTold : Type 0 where
-  pub answer : Answer
+  pub answer : RunReply
   pub lookahead : ℕ
   pub text : List ℕ
 
-abbrev pub unjoined : Answer → RunTold
+abbrev pub unjoined : RunReply → RunTold
 unjoined a = record { answer = a; lookahead = 0; text = [] }
 
 -- the padded lines, so many, must be a good run that takes them all; of "1, 2, 9" only 9 can arise here, where a line doesn't fit the join buffer
-abbrev pub runAnswer : outcomes.Outcome → Bool → ℕ → Answer
+abbrev pub runAnswer : outcomes.Outcome → Bool → ℕ → RunReply
 runAnswer outcome.Passed good count = cond good (Lines count) (No 0)
 runAnswer (outcome.Refused r) good count = cond (eqb (numberOf r) (numberOf JoinFull)) (Refused r) (No 0)
 
@@ -127,11 +120,11 @@ foundIn cap (Stretch.block shallow ls) = cond shallow (judged (length ls) (runOf
 
 -- ---- comments (000): `{%` up to the first line with `%}`, or to a blank line or the text's end, which both answer No to the end
 
-abbrev pub commentBy : Bool → ℕ → Answer
+abbrev pub commentBy : Bool → ℕ → RunReply
 commentBy shallow n = cond shallow (Lines n) (No n)
 
 -- behind n lines
-unfoldable pub commentFrom : ℕ → ℕ → Bool → List (List ℕ) → Answer
+unfoldable pub commentFrom : ℕ → ℕ → Bool → List (List ℕ) → RunReply
 commentFrom opener n shallow [] = NoEnd
 commentFrom opener n shallow (l ∷ ls) =
     cond (isBlankLine l) NoEnd
@@ -180,6 +173,10 @@ abbrev pub linesOrder : ℕ → List (List ℕ) → List Ground
 linesOrder cap [] = []
 linesOrder cap (l ∷ ls) =
     cond (opens l) (cond (opensComment l) [] (stretchOrder cap (walkFrom (indentColumns l) (onFirst (indentColumns l)) (l ∷ ls)))) []
+
+-- by a place
+abbrev pub placeOrder : ℕ → List ℕ → ℕ → List Ground
+placeOrder cap t at = Ground.given TextTooLong (tooLong t) ∷ linesOrder cap (lines (drop at t))
 
 abbrev pub fromLine : ℕ → List ℕ → places.Line → List Ground
 fromLine cap t place.Missing = []

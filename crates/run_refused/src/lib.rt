@@ -3,8 +3,8 @@ use base_refusals::Outcome;
 use base_refusals::Refusal;
 use block_grammar::Quote;
 use block_grammar::Scan;
+use run_joins::Effect;
 use run_joins::State;
-use run_joins::Step;
 use run_spots::Spot;
 use text_lines::Line;
 ghost use mathlib.Core.Path.{_≡_};
@@ -14,19 +14,20 @@ ghost use lib.Dec.{eqb};
 ghost use lib.ListN.{length, drop};
 ghost use Rattle.base_lists.specs.Lists.{over};
 ghost use Rattle.base_refusals.specs.Numbers.{maxText};
+ghost use Rattle.base_refusals.specs.Orders.{onPaper};
 ghost use Rattle.text_lines.specs.Lines.{lines};
 ghost use Rattle.block_chain.specs.Chain.{goodLine};
 ghost use Rattle.base_refusals.specs.declared.Outcome.the-variants.{Passed, Refused};
 ghost use Rattle.run_scanners.specs.Scanners.{holdStart};
 ghost use Rattle.block_grammar.specs.declared.Quote.the-variants.{Out};
 ghost use Rattle.run_spots.specs.Spots.{spotAfter};
-ghost use Rattle.run_refused.specs.Refused.{halts, padOf, enteredAt, commentBy, commentFrom, runAnswer, unjoined, judged, refusedOf, refusedAt, refusedRun, handedOut};
-ghost use Rattle.run_refused.specs.declared.Walk.the-variants.{No};
+ghost use Rattle.run_refused.specs.Refused.{replyPaper, halts, padOf, enteredAt, commentBy, commentFrom, runAnswer, unjoined, judged, refusedOf, refusedAt, refusedRun, handedOut, placeOrder, refusedOrder};
+ghost use Rattle.run_refused.specs.declared.RefusedWalk.the-variants.{No};
 ghost use Rattle.run_refused.specs.Inner.{spotsFrom, walkAt, shownWalk, isStretch, paddedRun, ranOf, farColumn, maxColumn};
 
 // What is said of a run: it is refused and takes so many lines; it isn't, and a comment run was looked at over so many lines, or to the
 // end; or a refusal.
-pub enum Answer {
+pub enum RunReply {
     No(usize),
     Lines(usize),
     NoEnd,
@@ -35,13 +36,13 @@ pub enum Answer {
 
 // The answer, with the lookahead and how many bytes are joined.
 pub struct RefusedRun {
-    pub answer: Answer,
+    pub answer: RunReply,
     pub lookahead: usize,
     pub joined: usize,
 }
 
 // What the first walk finds: no block, or one of so many lines, and whether one of them stands too far left.
-enum Walk {
+enum RefusedWalk {
     No(usize),
     Block(usize, bool),
 }
@@ -145,14 +146,14 @@ fn spot_at(n: usize, brace: usize, line: &[u8]) -> Spot
 }
 
 // No block closes.
-fn no_block() -> Walk
+fn no_block() -> RefusedWalk
     ensures { λ r. ⌜ r ≡ No 0 ⌝ }
 {
-    Walk::No(0)
+    RefusedWalk::No(0)
 }
 
 // The first walk: up to the line behind which no block is open. A stray close leaves both loops at once.
-fn walk_run(text: &[u8], start: usize, opener: usize) -> Walk
+fn walk_run(text: &[u8], start: usize, opener: usize) -> RefusedWalk
     requires { ⌜ (length (now text) ≤ maxText) × (opener ≤ maxColumn) ⌝ }
     ensures { λ r. ⌜ r ≡ shownWalk (walkAt opener (now (text .entry)) start) ⌝ }
 {
@@ -174,14 +175,14 @@ fn walk_run(text: &[u8], start: usize, opener: usize) -> Walk
         let mut i = at + text_lines::trim_ascii_start(&text[at..to]);
         while i < to {
             if run_spots::is_stray(spot, text[i]) {
-                break 'lines Walk::No(0);
+                break 'lines RefusedWalk::No(0);
             }
             spot = spot_after(spot, text[i]);
             i += 1;
         }
         n += 1;
         if !spot.inside {
-            break 'lines Walk::Block(n, shallow);
+            break 'lines RefusedWalk::Block(n, shallow);
         }
         brace = spot.brace;
         at = l.next;
@@ -189,17 +190,17 @@ fn walk_run(text: &[u8], start: usize, opener: usize) -> Walk
 }
 
 // What is said of a comment that closes in line n.
-fn comment_answer(shallow: bool, n: usize) -> Answer
+fn comment_answer(shallow: bool, n: usize) -> RunReply
     ensures { λ r. ⌜ r ≡ commentBy shallow n ⌝ }
 {
     if shallow {
-        return Answer::Lines(n);
+        return RunReply::Lines(n);
     }
-    Answer::No(n)
+    RunReply::No(n)
 }
 
 // The walk over a comment, up to the line with its close.
-fn comment_run(text: &[u8], start: usize, opener: usize) -> Answer
+fn comment_run(text: &[u8], start: usize, opener: usize) -> RunReply
     requires { ⌜ length (now text) ≤ maxText ⌝ }
     ensures { λ r. ⌜ r ≡ commentFrom opener 0 false (lines (drop start (now (text .entry)))) ⌝ }
 {
@@ -208,12 +209,12 @@ fn comment_run(text: &[u8], start: usize, opener: usize) -> Answer
     let mut shallow = false;
     'lines: loop {
         if text.len() <= at {
-            break 'lines Answer::NoEnd;
+            break 'lines RunReply::NoEnd;
         }
         let l = text_lines::line_from(text, at);
         let to = l.to;
         if text_lines::is_blank_line(&text[at..to]) {
-            break 'lines Answer::NoEnd;
+            break 'lines RunReply::NoEnd;
         }
         let column = text_tabs::indent_columns(&text[at..to]);
         shallow = run_spots::shallow_or(shallow, n, column, opener);
@@ -280,10 +281,10 @@ fn join_padded(text: &[u8], start: usize, opener: usize, join: &mut [u8]) -> Ran
         let spot = spot_at(n, brace, &text[at..to]);
         let pad = pad_of(n, spot.column, brace, opener);
         match run_joins::join_line(&text[from..to], pad, st, join) {
-            Step::Broken => break 'lines stopped(Refusal::NoReading, st.len, n, lookahead),
-            Step::Full => break 'lines stopped(Refusal::JoinFull, st.len, n, lookahead),
-            Step::Closes(v) => break 'lines closed_run(v.len, n + 1, lookahead + (to - at)),
-            Step::Go(v) => {
+            Effect::Broken => break 'lines stopped(Refusal::NoReading, st.len, n, lookahead),
+            Effect::Full => break 'lines stopped(Refusal::JoinFull, st.len, n, lookahead),
+            Effect::Closes(v) => break 'lines closed_run(v.len, n + 1, lookahead + (to - at)),
+            Effect::Go(v) => {
                 let end = pass_over(&text[from..to], spot);
                 n += 1;
                 lookahead += to - at;
@@ -300,31 +301,31 @@ fn join_padded(text: &[u8], start: usize, opener: usize, join: &mut [u8]) -> Ran
 }
 
 // What the run over the padded lines, so many, says of it.
-fn answer_of(r: Ran, count: usize, join: &[u8]) -> Answer
+fn answer_of(r: Ran, count: usize, join: &[u8]) -> RunReply
     ensures { λ a. ⌜ a ≡ runAnswer (r .stop) (eqb (r .lines) count && goodLine (now (join .entry)) 0 (r .len)) count ⌝ }
 {
     let stop = r.stop;
     match stop {
         Outcome::Passed => {
             if r.lines != count {
-                return Answer::No(0);
+                return RunReply::No(0);
             }
             if block_chain::good_line(join, 0, r.len) {
-                return Answer::Lines(count);
+                return RunReply::Lines(count);
             }
-            Answer::No(0)
+            RunReply::No(0)
         }
         Outcome::Refused(x) => {
             if base_refusals::number(x) == base_refusals::number(Refusal::JoinFull) {
-                return Answer::Refused(x);
+                return RunReply::Refused(x);
             }
-            Answer::No(0)
+            RunReply::No(0)
         }
     }
 }
 
 // Nothing is joined.
-fn unjoined_run(answer: Answer) -> RefusedRun
+fn unjoined_run(answer: RunReply) -> RefusedRun
     ensures { λ r. ⌜ r ≡ handedOut (unjoined answer) ⌝ }
 {
     RefusedRun {
@@ -357,19 +358,19 @@ fn refused_at(text: &[u8], at: usize, join: &mut [u8]) -> RefusedRun
     let l = text_lines::line_from(text, at);
     let to = l.to;
     if !run_spots::opens_brace(&text[at..to]) {
-        return unjoined_run(Answer::No(0));
+        return unjoined_run(RunReply::No(0));
     }
     let opener = text_tabs::indent_columns(&text[at..to]);
     if run_spots::opens_comment(&text[at..to]) {
         return unjoined_run(comment_run(text, at, opener));
     }
     match walk_run(text, at, opener) {
-        Walk::No(n) => unjoined_run(Answer::No(n)),
-        Walk::Block(count, shallow) => {
+        RefusedWalk::No(n) => unjoined_run(RunReply::No(n)),
+        RefusedWalk::Block(count, shallow) => {
             if shallow {
                 return refused_block(text, at, opener, count, join);
             }
-            unjoined_run(Answer::No(0))
+            unjoined_run(RunReply::No(0))
         }
     }
 }
@@ -378,12 +379,13 @@ fn refused_at(text: &[u8], at: usize, join: &mut [u8]) -> RefusedRun
 pub fn refused_run_at(text: &[u8], at: usize, join: &mut [u8]) -> RefusedRun
     ensures { λ r. ⌜ r ≡ handedOut (refusedAt (length (now (join .entry))) (now (text .entry)) at) ⌝ }
     ensures { λ r. ⌜ now (join .exit) ≡ over (refusedAt (length (now (join .entry))) (now (text .entry)) at .text) (now (join .entry)) ⌝ }
+    ensures { λ r. ⌜ replyPaper (r .answer) ≡ onPaper (placeOrder (length (now (join .entry))) (now (text .entry)) at) (replyPaper (refusedAt (length (now (join .entry))) (now (text .entry)) at .answer) .values) ⌝ }
 {
     if base_refusals::MAX_TEXT < text.len() {
-        return unjoined_run(Answer::Refused(Refusal::TextTooLong));
+        return unjoined_run(RunReply::Refused(Refusal::TextTooLong));
     }
     if text.len() <= at {
-        return unjoined_run(Answer::No(0));
+        return unjoined_run(RunReply::No(0));
     }
     refused_at(text, at, join)
 }
@@ -392,11 +394,12 @@ pub fn refused_run_at(text: &[u8], at: usize, join: &mut [u8]) -> RefusedRun
 pub fn refused_brace_run(text: &[u8], line: usize, join: &mut [u8]) -> RefusedRun
     ensures { λ r. ⌜ r ≡ handedOut (refusedRun (length (now (join .entry))) (now (text .entry)) line) ⌝ }
     ensures { λ r. ⌜ now (join .exit) ≡ over (refusedRun (length (now (join .entry))) (now (text .entry)) line .text) (now (join .entry)) ⌝ }
+    ensures { λ r. ⌜ replyPaper (r .answer) ≡ onPaper (refusedOrder (length (now (join .entry))) (now (text .entry)) line) (replyPaper (refusedRun (length (now (join .entry))) (now (text .entry)) line .answer) .values) ⌝ }
 {
     match text_checks::check_text(text) {
-        Outcome::Refused(r) => unjoined_run(Answer::Refused(r)),
+        Outcome::Refused(r) => unjoined_run(RunReply::Refused(r)),
         Outcome::Passed => match text_lines::line_of(text, line) {
-            Line::Missing => unjoined_run(Answer::No(0)),
+            Line::Missing => unjoined_run(RunReply::No(0)),
             Line::At(r) => refused_at(text, r.from, join),
         },
     }

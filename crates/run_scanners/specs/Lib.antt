@@ -1,4 +1,3 @@
 -- The definitions that the contracts of run_scanners cite, and the last open brace by rules.
 pub mod Scanners
-pub mod Rules
 pub mod Inner

@@ -1,9 +1,10 @@
 -- The three scanners of wrapped runs, each a left fold over the bytes. They are defined for any bytes; on UTF-8 text they go by characters: what
 -- a character's first byte does, the character does, and its later bytes do nothing.
 use mathlib.Core.Bool.{Bool, true, false, cond, not, _&&_, _||_}
-use mathlib.Core.List.{List, foldl}
+use mathlib.Core.List.{List, [], _∷_, foldl}
 use Prim.Native.Nat.{ℕ}
 use lib.Dec.{eqb}
+use Rattle.base_refusals.specs.Numbers.{Paper, passedPaper}
 use Rattle.text_tabs.specs.Columns.{columnAfter, capped}
 use Rattle.block_grammar.specs.Close.{uncovered, fresh, turned}
 use Rattle.block_grammar.specs.declared.Quote.{Quote}
@@ -53,6 +54,14 @@ isBare st b c = cond (st .escaped) false (not (inQuote (st .quote)) && eqb b c)
 unfoldable pub openQuoteAtEnd : List ℕ → Quote
 openQuoteAtEnd s = scanFrom honoured fresh s .quote
 
+-- on paper: the quote, or that there is none; before it, of a scan, 1 where a backslash covers the next byte
+abbrev pub quotePaper : Quote → Paper
+quotePaper Out = passedPaper []
+quotePaper (In k) = passedPaper (k ∷ [])
+
+abbrev pub scanPaper : Scan → Paper
+scanPaper st = passedPaper (cond (st .escaped) 1 0 ∷ quotePaper (st .quote) .values)
+
 -- ---- "the last open brace's column": that of the last `{` outside quotes
 
 -- 000: in quotes a backslash and the character behind it are two columns, a tab too; so a tab that a backslash covers takes one column, as a space does
@@ -82,6 +91,10 @@ abbrev pub cappedAt : Place → Place
 cappedAt Nothing = Nothing
 cappedAt (At c) = At (capped c)
 
+abbrev pub columnPaper : Place → Paper
+columnPaper Nothing = passedPaper []
+columnPaper (At c) = passedPaper (c ∷ [])
+
 -- ---- "the joined text holds no open block"
 
 abbrev pub live : Scan → Bool → Hold
@@ -103,6 +116,11 @@ holdFrom h s = foldl holdStep h s
 
 abbrev pub holdStart : Hold
 holdStart = live fresh false
+
+-- on paper: 1 where a block is open, and the scan
+abbrev pub holdPaper : Hold → Paper
+holdPaper Dead = passedPaper []
+holdPaper (Live h) = passedPaper (cond (h .inside) 1 0 ∷ scanPaper (h .scan) .values)
 
 abbrev pub isHeld : Hold → Bool
 isHeld Dead = false

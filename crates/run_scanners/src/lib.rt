@@ -3,7 +3,7 @@ ghost use mathlib.Core.Path.{_≡_};
 ghost use Rattle.base_lists.specs.Lists.{isIn};
 ghost use Rattle.text_tabs.specs.Columns.{capped};
 ghost use Rattle.block_grammar.specs.Close.{turned};
-ghost use Rattle.run_scanners.specs.Scanners.{takes, passed, isBare, openQuoteAtEnd, columnBehind, seekStep, lastOpenBrace, cappedAt, heldStep, holdFrom, holdStart, isHeld, holdsOpen};
+ghost use Rattle.run_scanners.specs.Scanners.{takes, passed, isBare, openQuoteAtEnd, columnBehind, seekStep, lastOpenBrace, cappedAt, heldStep, holdFrom, holdStart, isHeld, holdsOpen, quotePaper, scanPaper, columnPaper, holdPaper};
 ghost use Rattle.run_scanners.specs.Inner.{cappedSeek};
 use block_grammar::Place;
 use block_grammar::Quote;
@@ -67,6 +67,7 @@ fn covers(outside: bool, q: Quote, b: u8) -> bool
 // A byte of a scan in which a backslash covers the next one in quotes and, if `outside` says so, anywhere.
 pub fn pass(outside: bool, st: Scan, b: u8) -> Scan
     ensures { λ r. ⌜ r ≡ passed outside st b ⌝ }
+    ensures { λ r. ⌜ scanPaper r ≡ scanPaper (passed outside st b) ⌝ }
 {
     let q = st.quote;
     if st.escaped {
@@ -104,6 +105,7 @@ pub fn is_bare(st: Scan, b: u8, c: u8) -> bool
 // The quote that is left open at the end.
 pub fn open_quote_at_end(s: &[u8]) -> Quote
     ensures { λ r. ⌜ r ≡ openQuoteAtEnd (now (s .entry)) ⌝ }
+    ensures { λ r. ⌜ quotePaper r ≡ quotePaper (openQuoteAtEnd (now (s .entry))) ⌝ }
 {
     let mut st = Scan {
         quote: Quote::Out,
@@ -156,6 +158,7 @@ fn seek_step(k: Seek, b: u8) -> Seek
 // The column of the last `{` outside quotes, where the line's first byte stands in column `start` and in the quote `quote`.
 pub fn last_open_brace_column(line: &[u8], quote: Quote, start: usize) -> Place
     ensures { λ r. ⌜ r ≡ cappedAt (lastOpenBrace quote start (now (line .entry))) ⌝ }
+    ensures { λ r. ⌜ columnPaper r ≡ columnPaper (cappedAt (lastOpenBrace quote start (now (line .entry)))) ⌝ }
 {
     let mut k = Seek {
         scan: Scan {
@@ -206,6 +209,7 @@ fn held_step(h: Held, b: u8) -> Hold
 // The scan goes on over s.
 pub fn hold_on(s: &[u8], from: Hold) -> Hold
     ensures { λ r. ⌜ r ≡ holdFrom from (now (s .entry)) ⌝ }
+    ensures { λ r. ⌜ holdPaper r ≡ holdPaper (holdFrom from (now (s .entry))) ⌝ }
 {
     let Hold::Live(first) = from else {
         return Hold::Dead;
@@ -225,6 +229,7 @@ pub fn hold_on(s: &[u8], from: Hold) -> Hold
 // Nothing was read yet.
 pub fn hold_start() -> Hold
     ensures { λ r. ⌜ r ≡ holdStart ⌝ }
+    ensures { λ r. ⌜ holdPaper r ≡ holdPaper holdStart ⌝ }
 {
     Hold::Live(Held {
         scan: Scan {

@@ -1,12 +1,10 @@
--- The canonical text of a meaning, and which meanings are well-formed.
-use mathlib.Core.Bool.{Bool, false, cond, not, _&&_, _||_}
+-- The canonical text of a meaning, and what a class may be.
+use mathlib.Core.Bool.{Bool, cond, not, _||_}
 use mathlib.Core.List.{List, [], _∷_, _++_, map, flatMap}
 use Prim.Native.Nat.{ℕ}
-use Rattle.base_lists.specs.Lists.{all, isSome}
+use Rattle.base_lists.specs.Lists.{all}
 use Rattle.base_bytes.specs.Bytes.{isSpace, isMarked, backslash, closeBrace, equals, openBrace, quote, space}
-use Rattle.text_names.specs.Names.{isKey}
-use Rattle.block_grammar.specs.Meaning.{Entry, isClass, distinct}
-use Rattle.block_grammar.specs.Close.{noLf}
+use Rattle.block_grammar.specs.Meaning.{Entry}
 
 -- ---- canonical text
 
@@ -45,24 +43,6 @@ pairs m = flatMap (λ e. pairsOf (e .name) (e .values)) m
 unfoldable pub canon : List Entry → List ℕ
 canon m = openBrace ∷ (pairsText (pairs m) ++ (closeBrace ∷ []))
 
--- ---- well-formed
-
-abbrev pub isOne : List (List ℕ) → Bool
-isOne [] = false
-isOne (v ∷ vs) = not (isSome vs)
-
 -- "a class is free of whitespace or nothing but whitespace"
 unfoldable pub isClassValue : List ℕ → Bool
 isClassValue v = all (λ b. not (isSpace b)) v || all isSpace v
-
--- one or more classes, or one id or one value of a key
-unfoldable pub valuesOk : List ℕ → List (List ℕ) → Bool
-valuesOk n vs = cond (isClass n) (isSome vs && all isClassValue vs) (isOne vs)
-
--- "keys by the grammar, ..; no LF in an unescaped id, class or key value"
-unfoldable pub entryOk : Entry → Bool
-entryOk e = isKey (e .name) && (all noLf (e .values) && valuesOk (e .name) (e .values))
-
--- ".. distinct, ..; slots name exactly the Id, Class and keys present, once each"
-unfoldable pub wf : List Entry → Bool
-wf m = all entryOk m && distinct m

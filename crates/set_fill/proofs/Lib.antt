@@ -5,3 +5,4 @@ pub mod Chains
 pub mod Limits
 pub mod Fills
 pub mod Whole
+pub mod Numbers

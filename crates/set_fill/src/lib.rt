@@ -22,12 +22,13 @@ ghost use Rattle.base_lists.specs.Lists.{run};
 ghost use Rattle.base_bytes.specs.Bytes.{isSpace};
 ghost use Rattle.base_bytes.specs.declared.Mode.{Mode};
 ghost use Rattle.base_bytes.specs.declared.Mode.the-variants.{Loose};
-ghost use Rattle.base_refusals.specs.Numbers.{maxText, tooLong};
+ghost use Rattle.base_refusals.specs.Numbers.{maxText, tooLong, numberOf, outcomeNo};
+ghost use Rattle.base_refusals.specs.Orders.{orderNo};
 ghost use Rattle.set_table.specs.Types.{one, emptySet};
 ghost use Rattle.set_table.specs.Rows.{noRows, isThere};
 ghost use Rattle.set_table.specs.Puts.{valueOf};
 ghost use Rattle.set_table.specs.Filled.{refusing};
-ghost use Rattle.set_fill.specs.Fill.{fillAt, chainAt};
+ghost use Rattle.set_fill.specs.Fill.{fillAt, chainAt, fillOrder, chainOrder};
 ghost use Rattle.base_refusals.specs.declared.Outcome.the-variants.{Refused};
 ghost use Rattle.set_fill.specs.Inner.{kindOf, tokensFrom, restOf, chainRest, cursorOf, tokensAt, InText, Opened, Yields, pieceFrom, classRest, namedRest, filledFrom, overBy, overOf, isRefused, unlessRefused};
 
@@ -410,6 +411,7 @@ fn fill_unless(
 // A refusal hands out no set.
 pub fn refusing(r: Refusal) -> Filled
     ensures { λ f. ⌜ f ≡ refusing r ⌝ }
+    ensures { λ f. ⌜ outcomeNo (f .outcome) ≡ numberOf r ⌝ }
 {
     fill_unless(
         Outcome::Refused(r),
@@ -432,6 +434,7 @@ fn too_long(text: &[u8]) -> bool
 // The payload that stands from `at` up to `end` of the text.
 pub fn fill(text: &[u8], at: usize, end: usize, mode: Mode) -> Filled
     ensures { λ r. ⌜ r ≡ fillAt mode (now (text .entry)) at end ⌝ }
+    ensures { λ r. ⌜ outcomeNo (r .outcome) ≡ orderNo (fillOrder mode (now (text .entry)) at end) ⌝ }
 {
     if too_long(text) {
         return refusing(Refusal::TextTooLong);
@@ -446,6 +449,7 @@ pub fn fill(text: &[u8], at: usize, end: usize, mode: Mode) -> Filled
 // The line of blocks that stands from `from` up to `to` of the text.
 pub fn fill_chain(text: &[u8], from: usize, to: usize) -> Filled
     ensures { λ r. ⌜ r ≡ chainAt Loose (now (text .entry)) from to ⌝ }
+    ensures { λ r. ⌜ outcomeNo (r .outcome) ≡ orderNo (chainOrder Loose (now (text .entry)) from to) ⌝ }
 {
     if too_long(text) {
         return refusing(Refusal::TextTooLong);

@@ -34,18 +34,19 @@ use Rattle.set_table.specs.declared.Attrs.{Attrs}
 use Rattle.set_table.proofs.Attrs as T
 use Rattle.set_table.proofs.Attrs.Laws as T′
 use Rattle.base_refusals.specs.declared.Outcome.{Outcome}
-use Rattle.set_table.specs.declared.Filled.{Filled}
+use Rattle.base_refusals.specs.Numbers.{outcomeNo}
+use Rattle.base_refusals.specs.Orders.{orderNo}
 use Rattle.base_refusals.proofs.Outcome as O
 use Rattle.set_lent.specs.Lent.{endOf}
 use Rattle.set_lent.proofs.Taken.{setVal, Text}
-use Rattle.set_lent.proofs.Walk.{lent, Lent}
+use Rattle.set_lent.proofs.Walk.{Way, lent, Lent}
 use Rattle.set_lent.proofs.merge_into as into
 
 -- ---- the set z is merged into the set y, which stands in the local d: what is said of the outcome r and of the set y′ that is left
-abbrev pub Said : (List ℕ → Attrs → Attrs → Filled) → RefT (List ℕ) → Attrs → Attrs → Outcome → Attrs → Type 0
-Said F t y z r y′ = (r ≡ F (now t) y z .outcome) × (y′ ≡ endOf y (F (now t) y z))
+abbrev pub Said : Way → RefT (List ℕ) → Attrs → Attrs → Outcome → Attrs → Type 0
+Said F t y z r y′ = (r ≡ F .comes (now t) y z .outcome) × (y′ ≡ endOf y (F .comes (now t) y z)) × (outcomeNo r ≡ orderNo (F .order (now t) y z))
 
-module _ {M : Type 1} (𝓤 : URA M) (H : Heap 𝓤) (A : Atoms 𝓤) (W : Given 𝓤 H A) (F : List ℕ → Attrs → Attrs → Filled) (κ : Lft) (q : Share) (t : RefT (List ℕ)) (d : ℕ) (y z : Attrs) where
+module _ {M : Type 1} (𝓤 : URA M) (H : Heap 𝓤) (A : Atoms 𝓤) (W : Given 𝓤 H A) (F : Way) (κ : Lft) (q : Share) (t : RefT (List ℕ)) (d : ℕ) (y z : Attrs) where
   -- the lifetimes of the call, where a is the loan's; its arguments, where δ is the loan's name
   abbrev κs : ℕ → Lfts 2
   κs a = (κ, (a ∷ [], tt))
@@ -86,7 +87,7 @@ module _ {M : Type 1} (𝓤 : URA M) (H : Heap 𝓤) (A : Atoms 𝓤) (W : Given
   enters a δ = qed W (raw (Entry a δ) ∷ []) ∵ frame ! $ done !
 
 module _ {M : Type 1} {𝓤 : URA M} {H : Heap 𝓤} {A : Atoms 𝓤} {K : Type 0} {W : Given 𝓤 H A} {Γ : List (Item 𝓤)} {E : Env 𝓤 H} {C : Calls 𝓤 H} {f : Name} {xs : List Operand} {Λ : Loops 𝓤 H} {p : Post 𝓤 H} {r₀ : Place} {rest : Body} where
-  pub merges-into : K → FmC 𝓤 H (W .laws) C → (F : List ℕ → Attrs → Attrs → Filled) → Triple 𝓤 (C f) (Lent F 𝓤 H A) → (κ : Lft) (q : Share) (t : RefT (List ℕ)) (d : ℕ) (y z : Attrs) → Is T.the-row z (setVal z ∷ [])
+  pub merges-into : K → FmC 𝓤 H (W .laws) C → (F : Way) → Triple 𝓤 (C f) (Lent F 𝓤 H A) → (κ : Lft) (q : Share) (t : RefT (List ℕ)) (d : ℕ) (y z : Attrs) → Is T.the-row z (setVal z ∷ [])
       → ((a : ℕ) (δ : GName) → Opds K W (raw (Lent F 𝓤 H A .pre (to 𝓤 H A W F κ q t d y z a δ)) ∷ ‵ (Text κ t) ∷ ‵ (Back 𝓤 H A W F κ q t d y z a δ) ∷ Γ) E xs (Lent F 𝓤 H A .args (to 𝓤 H A W F κ q t d y z a δ)))
       → ((u : Val) (r : Outcome) (y′ : Attrs) → Said F t y z r y′ → Is O.the-row r (u ∷ [])
       → Seq K W (‵ (O.the-row .own r (u ∷ [])) ∷ (‵ (flft κ q) ⊛ ‵ ftrue) ∷ ‵ (Cell 𝓤 H A W F κ q t d y z y′) ∷ ‵ (Owned 𝓤 H A W F κ q t d y z y′) ∷ ‵ (Text κ t) ∷ Γ) (lands C Λ E r₀ u rest p))

@@ -3,7 +3,9 @@ use base_refusals::Outcome;
 use set_table::Attrs;
 use set_table::Filled;
 ghost use mathlib.Core.Path.{_≡_};
-ghost use Rattle.set_merge.specs.Merge.{mergeOf};
+ghost use Rattle.base_refusals.specs.Numbers.{outcomeNo};
+ghost use Rattle.base_refusals.specs.Orders.{orderNo};
+ghost use Rattle.set_merge.specs.Merge.{mergeOf, mergeOrder};
 ghost use Rattle.set_lent.specs.Lent.{endOf, bothOf};
 
 // What becomes of a lent set into which one set is merged from before and another from behind.
@@ -26,7 +28,7 @@ fn end_of(was: Attrs, merged: Filled) -> Attrs
 
 // The set `incoming` merged into the set `target`, both over the text. A refusal leaves the target as it was.
 pub fn merge_into(text: &[u8], target: &mut Attrs, incoming: Attrs) -> Outcome
-    ensures { λ r. ⌜ (r ≡ mergeOf (now (text .entry)) (now (target .entry)) incoming .outcome) × (now (target .exit) ≡ endOf (now (target .entry)) (mergeOf (now (text .entry)) (now (target .entry)) incoming)) ⌝ }
+    ensures { λ r. ⌜ (r ≡ mergeOf (now (text .entry)) (now (target .entry)) incoming .outcome) × (now (target .exit) ≡ endOf (now (target .entry)) (mergeOf (now (text .entry)) (now (target .entry)) incoming)) × (outcomeNo r ≡ orderNo (mergeOrder (now (text .entry)) (now (target .entry)) incoming)) ⌝ }
 {
     let was = *target;
     let merged = set_merge::merge_attrs(text, was, incoming);
@@ -36,7 +38,7 @@ pub fn merge_into(text: &[u8], target: &mut Attrs, incoming: Attrs) -> Outcome
 
 // The set `leading` comes first, and what `target` has wins.
 pub fn merge_leading_into(text: &[u8], target: &mut Attrs, leading: Attrs) -> Outcome
-    ensures { λ r. ⌜ (r ≡ mergeOf (now (text .entry)) leading (now (target .entry)) .outcome) × (now (target .exit) ≡ endOf (now (target .entry)) (mergeOf (now (text .entry)) leading (now (target .entry)))) ⌝ }
+    ensures { λ r. ⌜ (r ≡ mergeOf (now (text .entry)) leading (now (target .entry)) .outcome) × (now (target .exit) ≡ endOf (now (target .entry)) (mergeOf (now (text .entry)) leading (now (target .entry)))) × (outcomeNo r ≡ orderNo (mergeOrder (now (text .entry)) leading (now (target .entry)))) ⌝ }
 {
     let was = *target;
     let merged = set_merge::merge_leading_attrs(text, was, leading);
@@ -46,7 +48,7 @@ pub fn merge_leading_into(text: &[u8], target: &mut Attrs, leading: Attrs) -> Ou
 
 // A set of one's own lent to both: first to the leading set, then to the incoming one.
 pub fn merge_both(text: &[u8], target: Attrs, leading: Attrs, incoming: Attrs) -> Both
-    ensures { λ r. ⌜ r ≡ bothOf (now (text .entry)) target leading incoming ⌝ }
+    ensures { λ r. ⌜ (r ≡ bothOf (now (text .entry)) target leading incoming) × (outcomeNo (r .led) ≡ orderNo (mergeOrder (now (text .entry)) leading target)) × (outcomeNo (r .merged) ≡ orderNo (mergeOrder (now (text .entry)) (endOf target (mergeOf (now (text .entry)) leading target)) incoming)) ⌝ }
 {
     let mut set = target;
     let led = merge_leading_into(text, &mut set, leading);

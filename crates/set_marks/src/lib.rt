@@ -6,6 +6,7 @@ ghost use mathlib.Core.Path.{_≡_};
 ghost use Prim.Native.Nat.{_≤_};
 ghost use lib.ListN.{length};
 ghost use Rattle.base_refusals.specs.Numbers.{maxText};
+ghost use Rattle.text_escapes.specs.Unescape.{piecePaper};
 ghost use Rattle.set_canon.specs.Canon.{marked, escape};
 ghost use Rattle.set_table.specs.Types.{one};
 ghost use Rattle.set_marks.specs.Marks.{bytesIn, pieceIn, rawBytes, isQuoted};
@@ -34,6 +35,7 @@ fn marked_len(b: u8) -> usize
 // The byte of a value at i of its raw text, and where the next one stands: a quoted value is unescaped.
 pub fn value_piece(s: &[u8], i: usize, quoted: bool) -> Piece
     ensures { λ r. ⌜ r ≡ pieceIn quoted (now (s .entry)) i ⌝ }
+    ensures { λ r. ⌜ piecePaper r ≡ piecePaper (pieceIn quoted (now (s .entry)) i) ⌝ }
 {
     if quoted {
         return text_escapes::piece_at(s, i);

@@ -3,3 +3,4 @@ pub mod Fronts
 pub mod Tables
 pub mod Rest
 pub mod Whole
+pub mod Numbers

@@ -15,11 +15,13 @@ ghost use mathlib.Core.Path.{_≡_};
 ghost use mathlib.Core.List.{[], _∷_, map};
 ghost use Prim.Native.Nat.{_+_, _≤_};
 ghost use lib.ListN.{take};
+ghost use Rattle.base_refusals.specs.Numbers.{outcomeNo};
+ghost use Rattle.base_refusals.specs.Orders.{orderNo};
 ghost use Rattle.set_table.specs.Types.{Texts, one, zeroValue, zeroRow, zeroSlot, maxClasses, maxKeys, maxSlots};
 ghost use Rattle.set_table.specs.Rows.{Put, withPut, withPuts, rowsIn, tableOf};
 ghost use Rattle.set_table.specs.Filled.{limited};
 ghost use Rattle.set_table.specs.Inner.{Holds};
-ghost use Rattle.set_merge.specs.Merge.{putsAt, putsBy, mergeOf};
+ghost use Rattle.set_merge.specs.Merge.{putsAt, putsBy, mergeOf, mergeOrder};
 ghost use Rattle.set_merge.specs.Inner.{firsts, Steps, Sound, Present};
 
 // What becomes of a set when something is put into it: whether that fits, and the set behind it.
@@ -236,6 +238,7 @@ fn merge_rows(text: &[u8], a: Attrs, b: Attrs) -> Filled
 // The set `incoming` merged into the set `target`, both over the text.
 pub fn merge_attrs(text: &[u8], target: Attrs, incoming: Attrs) -> Filled
     ensures { λ r. ⌜ r ≡ mergeOf (now (text .entry)) target incoming ⌝ }
+    ensures { λ r. ⌜ outcomeNo (r .outcome) ≡ orderNo (mergeOrder (now (text .entry)) target incoming) ⌝ }
 {
     match text_checks::check_text(text) {
         Outcome::Refused(r) => set_fill::refusing(r),
@@ -254,6 +257,7 @@ pub fn merge_attrs(text: &[u8], target: Attrs, incoming: Attrs) -> Filled
 // The set `leading` comes first, and what `target` has wins.
 pub fn merge_leading_attrs(text: &[u8], target: Attrs, leading: Attrs) -> Filled
     ensures { λ r. ⌜ r ≡ mergeOf (now (text .entry)) leading target ⌝ }
+    ensures { λ r. ⌜ outcomeNo (r .outcome) ≡ orderNo (mergeOrder (now (text .entry)) leading target) ⌝ }
 {
     merge_attrs(text, leading, target)
 }

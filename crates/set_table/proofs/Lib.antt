@@ -6,3 +6,4 @@ pub mod Slots
 pub mod Whole
 pub mod Puts
 pub mod Holding
+pub mod Numbers

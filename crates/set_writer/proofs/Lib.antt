@@ -5,3 +5,4 @@ pub mod Items
 pub mod Walks
 pub mod Room
 pub mod Given
+pub mod Numbers

@@ -5,7 +5,7 @@ use mathlib.Core.List.{List, [], _∷_, _++_}
 use lib.Dec.{leb}
 use lib.ListN.{length}
 use Rattle.base_lists.specs.Lists.{isSome, over}
-use Rattle.base_refusals.specs.Numbers.{maxText, numberOf}
+use Rattle.base_refusals.specs.Numbers.{maxText, Paper, refusedPaper, passedPaper}
 use Rattle.base_refusals.specs.Orders.{Ground}
 use Rattle.base_refusals.specs.declared.Refusal.the-variants.{CanonTooLong, NotWellFormed, EmptySet}
 use Rattle.text_checks.specs.Check.{textOrder, checkOf}
@@ -20,14 +20,18 @@ use Rattle.set_wellformed.specs.WellFormed.{tableOk}
 use Rattle.set_writer.specs.declared.Wrote.{Wrote}
 use Rattle.set_writer.specs.declared.Wrote.the-variants.{Refused, Bytes}
 
--- the number of an answer: 0 where the text is written
-abbrev pub wroteNo : Wrote → ℕ
-wroteNo (Refused r) = numberOf r
-wroteNo (Bytes n) = 0
+-- the number of an answer, and how many bytes are written
+abbrev pub wrotePaper : Wrote → Paper
+wrotePaper (Refused r) = refusedPaper r
+wrotePaper (Bytes n) = passedPaper (n ∷ [])
 
 -- "canonical text above 65,535 bytes or the lent buffer": not so for a text of n bytes
 unfoldable pub hasRoom : ℕ → ℕ → Bool
 hasRoom size n = leb n maxText && leb n size
+
+-- "10" alone, of the text xs for a buffer of `size` bytes
+abbrev pub roomOrder : List ℕ → ℕ → List Ground
+roomOrder xs size = Ground.lacking CanonTooLong (hasRoom size (length xs)) ∷ []
 
 unfoldable pub wroteOf : List ℕ → ℕ → Wrote
 wroteOf xs size = cond (hasRoom size (length xs)) (Bytes (length xs)) (Refused CanonTooLong)
@@ -38,14 +42,13 @@ contentAfter buf xs = cond (hasRoom (length buf) (length xs)) (over xs buf) buf
 
 -- ---- a set that a caller gives
 
--- "writer 1, 2, 11, 12, 10", for a buffer of `size` bytes
+-- "writer 1, 2, 11, 12, 10"
 abbrev pub writerOrder : List ℕ → Attrs → ℕ → List Ground
 writerOrder t a size =
     textOrder t
     ++ (Ground.lacking NotWellFormed (tableOk (one t) a)
     ∷ Ground.lacking EmptySet (isSome (meaningOf (one t) a))
-    ∷ Ground.lacking CanonTooLong (hasRoom size (length (canon (meaningOf (one t) a))))
-    ∷ [])
+    ∷ roomOrder (canon (meaningOf (one t) a)) size)
 
 -- all but the last, which is of the text that would be written
 unfoldable pub writable : List ℕ → Attrs → Outcome

@@ -12,14 +12,16 @@ use set_table::Value;
 use text_escapes::Piece;
 ghost use mathlib.Core.Path.{_≡_};
 ghost use mathlib.Core.Bool.{true};
+ghost use mathlib.Core.List.{[], _∷_};
 ghost use Prim.Native.Nat.{_+_, _≤_, min};
 ghost use lib.ListN.{length};
 ghost use lib.Seq.{sets};
 ghost use Rattle.base_refusals.specs.Numbers.{maxText};
+ghost use Rattle.base_refusals.specs.Orders.{onPaper};
 ghost use Rattle.set_canon.specs.Canon.{marked, escape, canon};
 ghost use Rattle.set_table.specs.Types.{one, valueBytes, zeroRow};
 ghost use Rattle.set_table.specs.Rows.{meaningOf};
-ghost use Rattle.set_writer.specs.Write.{wroteOf, contentAfter, attrsWrote, attrsContent};
+ghost use Rattle.set_writer.specs.Write.{wrotePaper, roomOrder, wroteOf, contentAfter, writerOrder, attrsWrote, attrsContent};
 ghost use Rattle.set_marks.specs.Marks.{bytesIn};
 ghost use Rattle.set_writer.specs.Inner.{leadByte, itemText, itemsText, closingBytes, putIf, wroteTo, maxItem, maxItems, idPairs, keyPairs, classPairs};
 
@@ -277,6 +279,7 @@ fn walk(text: &[u8], set: Attrs, out: &mut [u8], cap: usize, really: bool) -> Wr
 pub fn write_set(text: &[u8], set: Attrs, out: &mut [u8]) -> Wrote
     ensures { λ r. ⌜ r ≡ wroteOf (canon (meaningOf (one (now (text .entry))) set)) (length (now (out .entry))) ⌝ }
     ensures { λ r. ⌜ now (out .exit) ≡ contentAfter (now (out .entry)) (canon (meaningOf (one (now (text .entry))) set)) ⌝ }
+    ensures { λ r. ⌜ wrotePaper r ≡ onPaper (roomOrder (canon (meaningOf (one (now (text .entry))) set)) (length (now (out .entry)))) (length (canon (meaningOf (one (now (text .entry))) set)) ∷ []) ⌝ }
 {
     let cap = least(out.len(), base_refusals::MAX_TEXT);
     match walk(text, set, out, cap, false) {
@@ -289,6 +292,7 @@ pub fn write_set(text: &[u8], set: Attrs, out: &mut [u8]) -> Wrote
 pub fn write_attrs(text: &[u8], set: Attrs, out: &mut [u8]) -> Wrote
     ensures { λ r. ⌜ r ≡ attrsWrote (now (text .entry)) set (length (now (out .entry))) ⌝ }
     ensures { λ r. ⌜ now (out .exit) ≡ attrsContent (now (text .entry)) set (now (out .entry)) ⌝ }
+    ensures { λ r. ⌜ wrotePaper r ≡ onPaper (writerOrder (now (text .entry)) set (length (now (out .entry)))) (length (canon (meaningOf (one (now (text .entry))) set)) ∷ []) ⌝ }
 {
     match text_checks::check_text(text) {
         Outcome::Refused(why) => Wrote::Refused(why),

@@ -3,3 +3,4 @@ pub mod Tries
 pub mod Seeks
 pub mod Goes
 pub mod Rooms
+pub mod NextNumbers

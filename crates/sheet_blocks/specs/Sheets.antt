@@ -5,11 +5,12 @@ use mathlib.Core.List.{List, [], _∷_, foldl}
 use lib.Dec.{ltb}
 use lib.ListN.{drop}
 use Rattle.base_refusals.specs.Numbers.{maxText, tooLong}
+use Rattle.base_refusals.specs.Orders.{Ground}
 use Rattle.base_refusals.specs.declared.Refusal.{Refusal}
 use Rattle.base_refusals.specs.declared.Refusal.the-variants.{TextTooLong, NothingThere, JoinFull}
 use Rattle.text_lines.specs.Lines.{rangesFrom, ranges}
 use Rattle.text_lines.specs.declared.Range.{Range}
-use Rattle.read_blocks.specs.Blocks.{Found, linesOf, joinHolds, blockOf, unread}
+use Rattle.read_blocks.specs.Blocks.{Found, linesOf, joinHolds, blockOf, unread, sizedOrder, foundOrder, readOrder}
 use Rattle.read_lengths.specs.Lengths.{flushLeft}
 use Rattle.sheet_blocks.specs.declared.Next.{Next}
 
@@ -81,3 +82,12 @@ nextOf t cap at =
 -- the tries that are made for it
 unfoldable pub nextTries : List ℕ → ℕ → ℕ → List Try
 nextTries t cap at = cond (tooLong t) [] (cond (ltb cap maxText) [] (upToBlock (triesAt t cap 0 at)))
+
+-- ---- its order: 1, 9, then 3 where there is no block, else what its set gives: ".., 6, 7, 8"
+
+abbrev pub firstOrder : List ℕ → ℕ → List Try → List Ground
+firstOrder t cap [] = Ground.given NothingThere true ∷ []
+firstOrder t cap (x ∷ xs) = foundOrder readOrder t (x .at) 0 cap
+
+abbrev pub nextOrder : List ℕ → ℕ → ℕ → List Ground
+nextOrder t cap at = sizedOrder t (Ground.given JoinFull (ltb cap maxText) ∷ firstOrder t cap (onlyBlocks (triesAt t cap 0 at)))

@@ -7,8 +7,10 @@ ghost use mathlib.Core.Bool.{not};
 ghost use mathlib.Core.Path.{_≡_};
 ghost use Prim.Native.Nat.{_<_};
 ghost use lib.ListN.{length, drop};
+ghost use Rattle.base_refusals.specs.Numbers.{outcomeNo};
+ghost use Rattle.base_refusals.specs.Orders.{orderNo};
 ghost use Rattle.text_lines.specs.Lines.{beforeLf};
-ghost use Rattle.sheet_blocks.specs.Sheets.{joinBehind, nextOf, nextTries};
+ghost use Rattle.sheet_blocks.specs.Sheets.{joinBehind, nextOf, nextTries, nextOrder};
 ghost use Rattle.base_refusals.specs.declared.Refusal.the-variants.{JoinFull};
 ghost use Rattle.base_refusals.specs.declared.Outcome.the-variants.{Refused};
 ghost use Rattle.read_blocks.specs.Blocks.{blockBy};
@@ -79,6 +81,7 @@ fn short_join(set: Attrs, at: usize) -> Next
 pub fn next_block(text: &[u8], at: usize, join: &mut [u8]) -> Next
     ensures { λ r. ⌜ r ≡ nextOf (now (text .entry)) (length (now (join .entry))) at ⌝ }
     ensures { λ r. ⌜ now (join .exit) ≡ joinBehind (now (join .entry)) (nextTries (now (text .entry)) (length (now (join .entry))) at) ⌝ }
+    ensures { λ r. ⌜ outcomeNo (r .block .outcome) ≡ orderNo (nextOrder (now (text .entry)) (length (now (join .entry))) at) ⌝ }
 {
     if base_refusals::MAX_TEXT < text.len() {
         let block = read_blocks::read_at(text, at, join);

@@ -1,8 +1,8 @@
 -- The two entries: which refusal comes first, and what a refusal leaves.
 -- Assumes nothing.
 use mathlib.Core.Path.{_≡_, refl, sym, _∙_}
-use mathlib.Core.Bool.{Bool, true, false, cond, _&&_}
-use mathlib.Core.List.{List, [], _∷_, append-nil}
+use mathlib.Core.Bool.{Bool, true, false, _&&_}
+use mathlib.Core.List.{List}
 use Prim.Native.Nat.{ℕ, zero, suc, _+_, _-_, _≤_, _<_}
 use native.Mathlib.Nat.{zero-add}
 use native.Mathlib.Omega.{arith}
@@ -20,10 +20,10 @@ use Rattle.base_refusals.specs.declared.Outcome as outcomes
 use Rattle.base_refusals.specs.declared.Outcome.the-variants as outcome
 use Rattle.sheet_blocks.specs.Sheets.{triesAt, joinBehind}
 use Rattle.sheet_report.specs.declared.Told.{Told}
-use Rattle.sheet_report.specs.declared.Told.the-variants.{Refused, Done}
+use Rattle.sheet_report.specs.declared.Told.the-variants.{Refused}
 use Rattle.sheet_report.specs.declared.Part.{Part}
 use Rattle.sheet_report.specs.Report.{refusedLine}
-use Rattle.sheet_report.specs.Parts.{maxLine, Laid, laidNone, laidBehind, layFrom, beginsLine, mayBegin, partOf, refusal, startOf, shownPart}
+use Rattle.sheet_report.specs.Parts.{maxLine, Laid, laidNone, layFrom, beginsLine, mayBegin, partOf, refusal, startOf, shownPart}
 use Rattle.sheet_report.specs.Inner.{PutAt}
 use Rattle.sheet_report.proofs.Laying.{refused-le}
 use Rattle.sheet_report.proofs.Lays.{Tells}
@@ -102,24 +102,20 @@ module _ (join out : List ℕ) {R : Laid} where
 -- ---- a text that is refused
 
 module _ (out : List ℕ) (why : Refusal) where
-  pub refusal-none : {p : Part} → length out < maxLine → p ≡ shownPart (laidNone (Refused why)) → (p ≡ shownPart (refusal (length out) why)) × (out ≡ over (refusal (length out) why .text) out)
+  pub refusal-none : {p : Part} → length out < maxLine → p ≡ record { told = Refused why; len = 0; at = 0; line = 0 } → (p ≡ shownPart (refusal (length out) why)) × (out ≡ over (refusal (length out) why .text) out)
   refusal-none h e = rw (lt-ltb (length out) maxLine h) (e, refl)
 
-  pub refusal-laid : {p : Part} {k : ℕ} {out′ : List ℕ} → maxLine ≤ length out → PutAt out 0 (refusedLine 0 0 why) k out′ → p ≡ record { told = Done; len = k; at = 0; line = 0 }
+  pub refusal-laid : {p : Part} {k : ℕ} {out′ : List ℕ} → maxLine ≤ length out → PutAt out 0 (refusedLine 0 0 why) k out′ → p ≡ record { told = Refused why; len = k; at = 0; line = 0 }
       → (p ≡ shownPart (refusal (length out) why)) × (out′ ≡ over (refusal (length out) why .text) out)
   refusal-laid h w e =
-      rw (le-ltb (length out) maxLine h, append-nil (refusedLine 0 0 why))
+      rw (le-ltb (length out) maxLine h)
       (e ∙ rw (w .behind, zero-add (length (refusedLine 0 0 why))), w .content ∙ (rw (zero-add (length (refusedLine 0 0 why))) at (sets-eq (refusedLine 0 0 why) out 0 (omega (arith, refused-le 0 0 why (omega arith) (omega arith))))))
 
 module _ (t join out : List ℕ) {c : outcomes.Outcome} (e : c ≡ checkOf t) where
   pub start-refused : {why : Refusal} {p : Part} {out′ : List ℕ} → c ≡ outcome.Refused why
       → (p ≡ shownPart (refusal (length out) why)) × (out′ ≡ over (refusal (length out) why .text) out) → Tells join out (startOf t (length join) (length out)) p join out′
   unfolding startOf joinBehind
-  start-refused {why} q w = rw (sym e ∙ q) (w .0, (go (ltb (length out) maxLine), w .1))
-    where
-      go : (x : Bool) → join ≡ joinBehind join (cond x (laidNone (Refused why)) (laidBehind [] (refusedLine 0 0 why) (laidNone Done)) .past)
-      go true = refl
-      go false = refl
+  start-refused q w = rw (sym e ∙ q) (w .0, (refl, w .1))
 
   pub start-passed : c ≡ outcome.Passed → startOf t (length join) (length out) ≡ partOf t 0 1 (length join) (length out)
   unfolding startOf

@@ -3,3 +3,4 @@ pub mod Decimals
 pub mod Laying
 pub mod Lays
 pub mod Entries
+pub mod ReportNumbers

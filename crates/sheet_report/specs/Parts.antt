@@ -8,7 +8,7 @@ use Rattle.base_refusals.specs.Numbers.{maxText, tooLong, numberOf}
 use Rattle.base_refusals.specs.Orders.{Ground, inOrder}
 use Rattle.base_refusals.specs.declared.Refusal.{Refusal}
 use Rattle.base_refusals.specs.declared.Refusal.the-variants.{TextTooLong, NothingThere, JoinFull, CanonTooLong}
-use Rattle.text_checks.specs.Check.{checkOf}
+use Rattle.text_checks.specs.Check.{textOrder, checkOf}
 use Rattle.base_refusals.specs.declared.Outcome as outcomes
 use Rattle.base_refusals.specs.declared.Outcome.the-variants as outcome
 use Rattle.sheet_blocks.specs.Sheets.{Try, isBlock, triesAt}
@@ -85,9 +85,9 @@ unfoldable pub partOf : List ℕ → ℕ → ℕ → ℕ → ℕ → Laid
 unfolding inOrder
 partOf t at n cap size = inOrder (λ r. laidNone (Refused r)) (partOrder t at n cap size) (layFrom t size (triesAt t maxText n at))
 
--- "For 1 or 2 the only output is `refused`, 0, 0, number."; where the longest line has no room, the refusal is only told
+-- "For 1 or 2 the only output is `refused`, 0, 0, number.": the refusal is told, and that line laid unless the longest has no room
 abbrev pub refusal : ℕ → Refusal → Laid
-refusal size r = cond (ltb size maxLine) (laidNone (Refused r)) (laidBehind [] (refusedLine 0 0 r) (laidNone Done))
+refusal size r = record { told = Refused r; text = cond (ltb size maxLine) [] (refusedLine 0 0 r); past = []; at = 0; line = 0 }
 
 abbrev pub startBy : List ℕ → ℕ → ℕ → outcomes.Outcome → Laid
 startBy t cap size (outcome.Refused r) = refusal size r
@@ -97,10 +97,9 @@ startBy t cap size outcome.Passed = partOf t 0 1 cap size
 unfoldable pub startOf : List ℕ → ℕ → ℕ → Laid
 startOf t cap size = startBy t cap size (checkOf t)
 
--- 1 and 2 where the line that says so has no room, else 9 and 10
-abbrev pub startOrder : ℕ → ℕ → outcomes.Outcome → List Ground
-startOrder cap size (outcome.Refused r) = Ground.given r (ltb size maxLine) ∷ []
-startOrder cap size outcome.Passed = Ground.given JoinFull (ltb cap maxText) ∷ Ground.given CanonTooLong (ltb size maxLine) ∷ []
+-- "answer 9, right after 2, for a shorter one", then 10
+abbrev pub startOrder : List ℕ → ℕ → ℕ → List Ground
+startOrder t cap size = textOrder t ++ (Ground.given JoinFull (ltb cap maxText) ∷ Ground.given CanonTooLong (ltb size maxLine) ∷ [])
 
 -- ---- what is handed out; the lent memory holds the text at its front, the rest untouched
 abbrev pub shownPart : Laid → Part

@@ -10,6 +10,7 @@ ghost use Prim.Native.Nat.{_+_, _≤_};
 ghost use lib.ListN.{length};
 ghost use Rattle.base_lists.specs.Lists.{over};
 ghost use Rattle.base_refusals.specs.Numbers.{maxText};
+ghost use Rattle.base_refusals.specs.Orders.{orderNo};
 ghost use Rattle.set_canon.specs.Canon.{canon};
 ghost use Rattle.set_table.specs.Types.{one, textOver};
 ghost use Rattle.set_table.specs.Rows.{meaningOf};
@@ -18,14 +19,14 @@ ghost use Rattle.sheet_blocks.specs.Sheets.{triesAt, joinBehind};
 ghost use Rattle.sheet_report.specs.declared.Told.the-variants.{Refused, More, Done};
 ghost use Rattle.sheet_report.specs.Decimal.{decimal};
 ghost use Rattle.sheet_report.specs.Report.{refusedLine, canonLine, lineBy};
-ghost use Rattle.sheet_report.specs.Parts.{maxLine, laidNone, layFrom, beginsLine, mayBegin, partOf, refusal, startOf, shownPart};
+ghost use Rattle.sheet_report.specs.Parts.{toldNo, maxLine, layFrom, beginsLine, mayBegin, partOrder, partOf, refusal, startOf, startOrder, shownPart};
 ghost use Rattle.sheet_report.specs.Inner.{PutAt, lineFront, putShort};
 ghost use Rattle.base_bytes.specs.Bytes.{tab};
 
 // No line of a report is longer: a canonical text of 65,535 bytes, and 65 for the word, two numbers of at most 20 digits, three tabs and the LF.
 pub const LINE: usize = base_refusals::MAX_TEXT + 65;
 
-// Whether the report goes on, or why nothing is laid.
+// Whether the report goes on, or why no block is reported.
 pub enum Told {
     Refused(Refusal),
     More,
@@ -145,13 +146,13 @@ fn more(len: usize, at: usize, line: usize) -> Part
     }
 }
 
-// Nothing is laid.
-fn refused(why: Refusal) -> Part
-    ensures { λ r. ⌜ r ≡ shownPart (laidNone (Refused why)) ⌝ }
+// No block is reported; a line that says so may be laid.
+fn refused(why: Refusal, len: usize) -> Part
+    ensures { λ r. ⌜ r ≡ record { told = Refused why; len = len; at = 0; line = 0 } ⌝ }
 {
     Part {
         told: Told::Refused(why),
-        len: 0,
+        len,
         at: 0,
         line: 0,
     }
@@ -220,31 +221,32 @@ pub fn report_part(text: &[u8], at: usize, line: usize, join: &mut [u8], out: &m
     ensures { λ r. ⌜ r ≡ shownPart (partOf (now (text .entry)) at line (length (now (join .entry))) (length (now (out .entry)))) ⌝ }
     ensures { λ r. ⌜ now (join .exit) ≡ joinBehind (now (join .entry)) (partOf (now (text .entry)) at line (length (now (join .entry))) (length (now (out .entry))) .past) ⌝ }
     ensures { λ r. ⌜ now (out .exit) ≡ over (partOf (now (text .entry)) at line (length (now (join .entry))) (length (now (out .entry))) .text) (now (out .entry)) ⌝ }
+    ensures { λ r. ⌜ toldNo (r .told) ≡ orderNo (partOrder (now (text .entry)) at line (length (now (join .entry))) (length (now (out .entry)))) ⌝ }
 {
     if base_refusals::MAX_TEXT < text.len() {
-        return refused(Refusal::TextTooLong);
+        return refused(Refusal::TextTooLong, 0);
     }
     if join.len() < base_refusals::MAX_TEXT {
-        return refused(Refusal::JoinFull);
+        return refused(Refusal::JoinFull, 0);
     }
     if !may_begin(text, at, line) {
-        return refused(Refusal::NothingThere);
+        return refused(Refusal::NothingThere, 0);
     }
     if out.len() < LINE {
-        return refused(Refusal::CanonTooLong);
+        return refused(Refusal::CanonTooLong, 0);
     }
     lay_from(text, at, line, join, out)
 }
 
-// The only line of a report on a text that is refused, where it has room.
+// Why a text is refused; the only line of its report is laid where it has room.
 fn lay_refusal(why: Refusal, out: &mut [u8]) -> Part
     ensures { λ r. ⌜ r ≡ shownPart (refusal (length (now (out .entry))) why) ⌝ }
     ensures { λ r. ⌜ now (out .exit) ≡ over (refusal (length (now (out .entry))) why .text) (now (out .entry)) ⌝ }
 {
     if out.len() < LINE {
-        return refused(why);
+        return refused(why, 0);
     }
-    done(lay_refused(out, 0, 0, 0, why))
+    refused(why, lay_refused(out, 0, 0, 0, why))
 }
 
 // The report from the first line on; the text is checked here, once for a sheet.
@@ -252,6 +254,7 @@ pub fn report_start(text: &[u8], join: &mut [u8], out: &mut [u8]) -> Part
     ensures { λ r. ⌜ r ≡ shownPart (startOf (now (text .entry)) (length (now (join .entry))) (length (now (out .entry)))) ⌝ }
     ensures { λ r. ⌜ now (join .exit) ≡ joinBehind (now (join .entry)) (startOf (now (text .entry)) (length (now (join .entry))) (length (now (out .entry))) .past) ⌝ }
     ensures { λ r. ⌜ now (out .exit) ≡ over (startOf (now (text .entry)) (length (now (join .entry))) (length (now (out .entry))) .text) (now (out .entry)) ⌝ }
+    ensures { λ r. ⌜ toldNo (r .told) ≡ orderNo (startOrder (now (text .entry)) (length (now (join .entry))) (length (now (out .entry)))) ⌝ }
 {
     match text_checks::check_text(text) {
         Outcome::Refused(why) => lay_refusal(why, out),

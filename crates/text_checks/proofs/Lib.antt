@@ -1,2 +1,3 @@
 -- The laws about the two checks.
 pub mod Texts
+pub mod CheckNumbers

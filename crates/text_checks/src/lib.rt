@@ -1,12 +1,15 @@
 // The two checks with which every entry begins that reads a whole text.
 ghost use mathlib.Core.Path.{_≡_};
-ghost use Rattle.text_checks.specs.Check.{checkOf, isText};
+ghost use Rattle.text_checks.specs.Check.{textOrder, checkOf, isText};
+ghost use Rattle.base_refusals.specs.Numbers.{outcomeNo};
+ghost use Rattle.base_refusals.specs.Orders.{orderNo};
 use base_refusals::Outcome;
 use base_refusals::Refusal;
 
 // Whether the text is short enough and well-formed UTF-8.
 pub fn check_text(text: &[u8]) -> Outcome
     ensures { λ r. ⌜ r ≡ checkOf (now (text .entry)) ⌝ }
+    ensures { λ r. ⌜ outcomeNo r ≡ orderNo (textOrder (now (text .entry))) ⌝ }
 {
     if base_refusals::MAX_TEXT < text.len() {
         return Outcome::Refused(Refusal::TextTooLong);

@@ -1,6 +1,6 @@
 -- The three loops over the pieces of a text: how each goes on behind a byte, and what it has at the end.
 -- Assumes nothing.
-use mathlib.Core.Path.{_≡_, refl, sym, _∙_}
+use mathlib.Core.Path.{_≡_, refl, sym, _∙_, ap}
 use mathlib.Core.Bool.{false}
 use mathlib.Core.List.{List, _++_}
 use Prim.Native.Nat.{ℕ, _+_, _-_, _<_, _≤_, zero-le}
@@ -15,7 +15,7 @@ use Rattle.base_lists.specs.Lists.{same}
 use Rattle.base_lists.proofs.Same.{same-nil}
 use Rattle.text_escapes.specs.declared.Written.{Written}
 use Rattle.text_escapes.specs.declared.Written.the-variants.{Full, To}
-use Rattle.text_escapes.specs.Unescape.{unescape, fits, writtenTo, contentOf}
+use Rattle.text_escapes.specs.Unescape.{unescape, fits, writtenTo, writtenPaper, contentOf}
 use Rattle.text_escapes.proofs.Pieces.{Stands, Ends}
 
 -- ---- counting: n bytes of the unescaped text were passed, the others stand from i on
@@ -89,16 +89,19 @@ module _ {buf₀ : List ℕ} {at : ℕ} {s buf : List ℕ} {k i : ℕ} (inv : Wr
 -- ---- room
 module _ (buf : List ℕ) (at : ℕ) (xs : List ℕ) where
   abbrev pub Answers : Written → List ℕ → Type 0
-  Answers r b = (r ≡ writtenTo buf at xs) × (b ≡ contentOf buf at xs)
+  Answers r b = (r ≡ writtenTo buf at xs) × ((b ≡ contentOf buf at xs) × (writtenPaper r ≡ writtenPaper (writtenTo buf at xs)))
+
+  answers : {r : Written} {b : List ℕ} → r ≡ writtenTo buf at xs → b ≡ contentOf buf at xs → Answers r b
+  answers p q = (p, (q, ap writtenPaper p))
 
   pub none-before : length buf < at → Answers Full buf
   unfolding fits writtenTo contentOf
-  none-before h = let e = lt-leb (at + length xs) (length buf) (omega (arith, h)) in (rw e, rw e)
+  none-before h = let e = lt-leb (at + length xs) (length buf) (omega (arith, h)) in answers (rw e) (rw e)
 
   pub none-behind : at ≤ length buf → length buf - at < length xs → Answers Full buf
   unfolding fits writtenTo contentOf
-  none-behind h l = let e = lt-leb (at + length xs) (length buf) (omega (arith, h, l)) in (rw e, rw e)
+  none-behind h l = let e = lt-leb (at + length xs) (length buf) (omega (arith, h, l)) in answers (rw e) (rw e)
 
   pub room : at ≤ length buf → length xs ≤ length buf - at → {k : ℕ} {b : List ℕ} → k ≡ at + length xs → b ≡ sets buf at xs → Answers (To k) b
   unfolding fits writtenTo contentOf
-  room h l p q = let e = le-leb (at + length xs) (length buf) (omega (arith, h, l)) in (rw (e, p), rw (e, q))
+  room h l p q = let e = le-leb (at + length xs) (length buf) (omega (arith, h, l)) in answers (rw (e, p)) (rw (e, q))

@@ -1,3 +1,2 @@
 -- The definitions that the contracts of text_escapes cite.
 pub mod Unescape
-pub mod Rules

@@ -5,6 +5,7 @@ use mathlib.Core.List.{List, [], _∷_}
 use lib.Dec.{eqb, leb}
 use lib.ListN.{length, getD}
 use lib.Seq.{sets}
+use Rattle.base_refusals.specs.Numbers.{Paper, passedPaper}
 use Rattle.base_bytes.specs.Bytes.{isPunct, backslash}
 use Rattle.text_escapes.specs.declared.Piece.{Piece}
 use Rattle.text_escapes.specs.declared.Piece.the-variants.{End, Byte}
@@ -35,6 +36,11 @@ pieceAt s i =
     (cond (isPair s i) (Byte (getD s (i + 1) 0) (i + 2))
     (Byte (getD s i 0) (i + 1)))
 
+-- on paper: the byte and where the next one stands, or that there is none
+abbrev pub piecePaper : Piece → Paper
+piecePaper End = passedPaper []
+piecePaper (Byte b next) = passedPaper (b ∷ next ∷ [])
+
 -- ---- writing
 
 -- n bytes have room from `at` on in a buffer of the given size
@@ -44,6 +50,10 @@ fits size at n = leb (at + n) size
 -- what is answered where xs is to be written from `at` on: the place behind it, or that it has no room
 unfoldable pub writtenTo : List ℕ → ℕ → List ℕ → Written
 writtenTo buf at xs = cond (fits (length buf) at (length xs)) (To (at + length xs)) Full
+
+abbrev pub writtenPaper : Written → Paper
+writtenPaper Full = passedPaper []
+writtenPaper (To e) = passedPaper (e ∷ [])
 
 -- what stands in the buffer then: xs from `at` on and the rest as it was, or all as it was
 unfoldable pub contentOf : List ℕ → ℕ → List ℕ → List ℕ

@@ -4,7 +4,7 @@ ghost use Prim.Native.Nat.{_+_, _≤_, _<_};
 ghost use lib.ListN.{length};
 ghost use lib.Seq.{sets};
 ghost use Rattle.base_lists.specs.Lists.{same};
-ghost use Rattle.text_escapes.specs.Unescape.{unescape, isPair, pieceAt, writtenTo, contentOf};
+ghost use Rattle.text_escapes.specs.Unescape.{unescape, isPair, pieceAt, piecePaper, writtenTo, writtenPaper, contentOf};
 
 // A byte of the unescaped text, and where the raw text goes on.
 pub enum Piece {
@@ -36,6 +36,7 @@ fn is_pair(s: &[u8], i: usize) -> bool
 // passes the value alone, so that no pair is cut.
 pub fn piece_at(s: &[u8], i: usize) -> Piece
     ensures { λ r. ⌜ r ≡ pieceAt (now (s .entry)) i ⌝ }
+    ensures { λ r. ⌜ piecePaper r ≡ piecePaper (pieceAt (now (s .entry)) i) ⌝ }
 {
     if s.len() <= i {
         return Piece::End;
@@ -113,6 +114,7 @@ fn put_unescaped(buf: &mut [u8], at: usize, s: &[u8]) -> usize
 pub fn write_unescaped(buf: &mut [u8], at: usize, s: &[u8]) -> Written
     ensures { λ r. ⌜ r ≡ writtenTo (now (buf .entry)) at (unescape (now (s .entry))) ⌝ }
     ensures { λ r. ⌜ now (buf .exit) ≡ contentOf (now (buf .entry)) at (unescape (now (s .entry))) ⌝ }
+    ensures { λ r. ⌜ writtenPaper r ≡ writtenPaper (writtenTo (now (buf .entry)) at (unescape (now (s .entry)))) ⌝ }
 {
     if buf.len() < at {
         return Written::Full;

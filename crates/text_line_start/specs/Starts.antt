@@ -1,15 +1,14 @@
 -- Where the line of a number begins: "elsewhere 1, 2, 3, .."
 use Prim.Native.Nat.{ℕ}
-use mathlib.Core.Bool.{true}
 use mathlib.Core.List.{List, [], _∷_, _++_}
-use Rattle.base_refusals.specs.Numbers.{numberOf}
-use Rattle.base_refusals.specs.Orders.{Ground}
+use Rattle.base_refusals.specs.Numbers.{Paper, refusedPaper, passedPaper}
+use Rattle.base_refusals.specs.Orders.{Ground, onPaper}
 use Rattle.base_refusals.specs.declared.Refusal.{Refusal}
 use Rattle.base_refusals.specs.declared.Refusal.the-variants.{NothingThere}
 use Rattle.text_checks.specs.Check.{textOrder, checkOf}
 use Rattle.base_refusals.specs.declared.Outcome as outcomes
 use Rattle.base_refusals.specs.declared.Outcome.the-variants as outcome
-use Rattle.text_lines.specs.Lines.{lineOf}
+use Rattle.text_lines.specs.Lines.{lineOf, isNoLine, lineStart}
 use Rattle.text_lines.specs.declared.Line as places
 use Rattle.text_lines.specs.declared.Line.the-variants as place
 use Rattle.text_line_start.specs.declared.Start as starts
@@ -32,15 +31,13 @@ onStart f g (start.At at) = g at
 abbrev pub placeOf : List ℕ → ℕ → ℕ
 placeOf t n = onStart (λ r. 0) (λ at. at) (startAt t n)
 
--- the number of an answer: 0 where the line begins
-abbrev pub startNo : starts.Start → ℕ
-startNo s = onStart numberOf (λ at. 0) s
+-- the same on paper
+abbrev pub startPaper : starts.Start → Paper
+startPaper s = onStart refusedPaper (λ at. passedPaper (at ∷ [])) s
 
--- ---- "elsewhere 1, 2, 3, ..", where h is the order of the line that begins at a place
-
-abbrev pub onLine : (ℕ → List Ground) → places.Line → List Ground
-onLine h place.Missing = Ground.given NothingThere true ∷ []
-onLine h (place.At r) = h (r .from)
-
+-- "elsewhere 1, 2, 3, ..", where 3 is "no such line" and h is the order of the line that begins at a place
 abbrev pub lineOrder : List ℕ → ℕ → (ℕ → List Ground) → List Ground
-lineOrder t n h = textOrder t ++ onLine h (lineOf n t)
+lineOrder t n h = textOrder t ++ Ground.given NothingThere (isNoLine n t) ∷ h (lineStart n t)
+
+abbrev pub numberedStart : List ℕ → ℕ → Paper
+numberedStart t n = onPaper (lineOrder t n (λ at. [])) (lineStart n t ∷ [])

@@ -2,3 +2,4 @@
 pub mod Trim
 pub mod First
 pub mod Lines
+pub mod Counted

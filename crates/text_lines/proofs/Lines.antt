@@ -270,5 +270,3 @@ no-lf (b ∷ s) n = go (eqb b 10) refl (isDropped b s) (lines s) (no-lf s) n
     go false e false [] ih (suc n) = refl
     go false e false (l ∷ ls) ih zero = rw e (ih 0)
     go false e false (l ∷ ls) ih (suc n) = ih (suc n)
-
--- ---- the number of an answer: 3 exactly where there is no such line

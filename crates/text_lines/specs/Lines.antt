@@ -1,12 +1,13 @@
 -- "Lines end at LF; a CR just before that LF is dropped. Text after the last LF is a line if it isn't empty. A line number counts from 1."
 use Prim.Native.Nat.{ℕ, zero, suc, _+_, _-_, min}
-use mathlib.Core.Bool.{Bool, false, cond, _&&_}
+use mathlib.Core.Bool.{Bool, false, cond, _&&_, _||_}
 use mathlib.Core.List.{List, [], _∷_}
 use lib.Dec.{eqb, ltb}
-use lib.ListN.{length, drop}
+use lib.ListN.{length, getD, drop}
 use lib.Seq.{slice}
 use Rattle.base_lists.specs.Lists.{begins}
-use Rattle.base_refusals.specs.Numbers.{numberOf}
+use Rattle.base_refusals.specs.Numbers.{Paper, refusedPaper, passedPaper}
+use Rattle.base_refusals.specs.Orders.{Ground, onPaper}
 use Rattle.base_refusals.specs.declared.Refusal.the-variants.{NothingThere}
 use Rattle.text_lines.specs.declared.Range.{Range}
 use Rattle.text_lines.specs.declared.Line.{Line}
@@ -80,7 +81,26 @@ pick (suc n) (l ∷ ls) = cond (eqb n 0) (At l) (pick n ls)
 unfoldable pub lineOf : ℕ → List ℕ → Line
 lineOf n t = pick n (ranges t)
 
--- "no such line": the number of the refusal where a line is missing, 0 where it is there
-abbrev pub lineNo : Line → ℕ
-lineNo Missing = numberOf NothingThere
-lineNo (At r) = 0
+-- ---- the same on paper
+
+-- 3, "no such line", or where the line lies
+abbrev pub linePaper : Line → Paper
+linePaper Missing = refusedPaper NothingThere
+linePaper (At r) = passedPaper (r .from ∷ r .to ∷ [])
+
+-- "no such line": number 0, or one past the last
+abbrev pub isNoLine : ℕ → List ℕ → Bool
+isNoLine n t = eqb n 0 || ltb (length (lines t)) n
+
+-- the place behind so many LFs
+unfoldable pub behindLfs : List ℕ → ℕ → ℕ
+behindLfs [] n = 0
+behindLfs (b ∷ s) zero = 0
+behindLfs (b ∷ s) (suc n) = suc (behindLfs s (cond (eqb b lf) n (suc n)))
+
+-- where line n begins: behind all LFs of the lines before it
+abbrev pub lineStart : ℕ → List ℕ → ℕ
+lineStart n t = behindLfs t (n - 1)
+
+abbrev pub numberedLine : ℕ → List ℕ → Paper
+numberedLine n t = onPaper (Ground.given NothingThere (isNoLine n t) ∷ []) (lineStart n t ∷ (lineStart n t + length (getD (lines t) (n - 1) [])) ∷ [])

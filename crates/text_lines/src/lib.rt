@@ -5,7 +5,7 @@ ghost use lib.ListN.{length, drop};
 ghost use Rattle.base_lists.specs.Lists.{run};
 ghost use Rattle.base_bytes.specs.Bytes.{isSpace};
 ghost use Rattle.text_lines.specs.Trim.{trimEnd, trimRange, isBlankLine};
-ghost use Rattle.text_lines.specs.Lines.{eol, lineFrom, lineOf};
+ghost use Rattle.text_lines.specs.Lines.{eol, lineFrom, lineOf, linePaper, numberedLine};
 
 // The bytes from `from` up to `to` of a text.
 pub struct Range {
@@ -108,6 +108,7 @@ pub fn line_from(text: &[u8], at: usize) -> LineEnd
 // The line of a number, counted from 1.
 pub fn line_of(text: &[u8], number: usize) -> Line
     ensures { λ r. ⌜ r ≡ lineOf number (now (text .entry)) ⌝ }
+    ensures { λ r. ⌜ linePaper r ≡ numberedLine number (now (text .entry)) ⌝ }
 {
     if number == 0 {
         return Line::Missing;

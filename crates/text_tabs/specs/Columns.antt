@@ -1,10 +1,9 @@
 -- Columns count characters from 0, with tab stops of 4.
 use Prim.Native.Nat.{ℕ, suc, _+_, _-_, _%_}
 use mathlib.Core.Bool.{cond}
-use mathlib.Core.List.{List, [], _∷_, _++_, foldl}
+use mathlib.Core.List.{List, [], _∷_, foldl}
 use lib.Dec.{eqb, leb}
-use lib.ListN.{replicate}
-use Rattle.base_bytes.specs.Bytes.{isIndent, isTail, space, tab}
+use Rattle.base_bytes.specs.Bytes.{isIndent, isTail, tab}
 
 -- "a tab goes to the next multiple of 4 (CommonMark 2.2)"
 unfoldable pub tabStop : ℕ → ℕ
@@ -34,9 +33,3 @@ most = 18446744073709551615
 
 unfoldable pub capped : ℕ → ℕ
 capped n = cond (leb n most) n most
-
--- ---- CommonMark 2.2, word for word: tabs "behave as if they were replaced by spaces with a tab stop of 4 characters"
-
-unfoldable pub expandFrom : ℕ → List ℕ → List ℕ
-expandFrom c [] = []
-expandFrom c (b ∷ s) = cond (eqb b tab) (replicate (4 - c % 4) space ++ expandFrom (tabStop c) s) (b ∷ expandFrom (columnAfter c b) s)

@@ -1,4 +1,3 @@
 -- The definitions that the contracts of text_utf8 cite, and the grammar that they compute.
-pub mod Grammar
 pub mod Utf8
 pub mod Inner

@@ -1,10 +1,11 @@
-use mathlib.Core.Path.{sym, _∙_}
+use mathlib.Core.Path.{refl, sym, _∙_}
 use Prim.Native.Nat.{_-_}
 use native.Mathlib.Omega.{arith}
 use borrow.Author.Needs.{needs}
 use borrow.Author.Tests.{not-true}
 use lib.ListN.{length}
-use Rattle.block_grammar.specs.Close.{fresh, findClose}
+use Rattle.block_grammar.specs.Close.{fresh, findClose, closePaper}
+use Rattle.base_refusals.proofs.Said.{said}
 use Rattle.block_grammar.proofs.Close as close
 use Rattle.block_close.proofs.Search as laws
 use Rattle.block_close.proofs.find_close.Statement.{statement}
@@ -80,20 +81,20 @@ bytes-again-3 c =
     laws.byte (at4 .bytes .inv) (laws.here (at4 .bytes .inv) (c .before .before .before .goes-on .ensures) (c .before .before .if1 .left)) (c .match .rest .0 .0 .1) (c .match .rest .0 .1) (c .match .rest .1)
 
 returns : tie.Need-returns Inv-bytes μ-bytes
-returns c = laws.ended (c .before .before .bytes .inv) (sym (c .before .goes-on .ensures) ∙ not-true _ (c .if1 .taken))
+returns c = said closePaper refl (laws.ended (c .before .before .bytes .inv) (sym (c .before .goes-on .ensures) ∙ not-true _ (c .if1 .taken)))
 
 returns-2 : tie.Need-returns-2 Inv-bytes μ-bytes
-returns-2 c = let at4 = c .before .before .before .before in laws.closed (at4 .bytes .inv) (laws.here (at4 .bytes .inv) (c .before .before .before .goes-on .ensures) (c .before .before .if1 .left)) (c .match .keys1)
+returns-2 c = let at4 = c .before .before .before .before in said closePaper refl (laws.closed (at4 .bytes .inv) (laws.here (at4 .bytes .inv) (c .before .before .before .goes-on .ensures) (c .before .before .if1 .left)) (c .match .keys1))
 
 returns-3 : tie.Need-returns-3 Inv-bytes μ-bytes
 returns-3 c =
     let at4 = c .before .before .before .before in let at5 = at4 .before in let at6 = at5 .before in
-    laws.cut (at6 .bytes .inv) (laws.here (at6 .bytes .inv) (at5 .goes-on .ensures) (at4 .if1 .left)) (c .before .before .match .keys2) (sym (c .before .goes-on2 .ensures) ∙ not-true _ (c .if2 .taken))
+    said closePaper refl (laws.cut (at6 .bytes .inv) (laws.here (at6 .bytes .inv) (at5 .goes-on .ensures) (at4 .if1 .left)) (c .before .before .match .keys2) (sym (c .before .goes-on2 .ensures) ∙ not-true _ (c .if2 .taken)))
 
 returns-4 : tie.Need-returns-4 Inv-bytes μ-bytes
 returns-4 c =
     let at4 = c .before .before .before .before in let at6 = at4 .before .before in let at7 = at6 .before in let at8 = at7 .before in
-    laws.unshut (at8 .bytes .inv) (laws.here (at8 .bytes .inv) (at7 .goes-on .ensures) (at6 .if1 .left)) (at4 .match .keys3) (c .before .before .quote-close .ensures) (c .enum-told .given .1)
+    said closePaper refl (laws.unshut (at8 .bytes .inv) (laws.here (at8 .bytes .inv) (at7 .goes-on .ensures) (at6 .if1 .left)) (at4 .match .keys3) (c .before .before .quote-close .ensures) (c .enum-told .given .1))
 
 pub find-close-spec : {M : Type 1} → statement M
 find-close-spec =

@@ -37,7 +37,7 @@ use denote.Triple.Table.{entered, cited}
 use denote.Triple.Walked.{says, Stays, stay-ref, walkOf, goes-ref, Walks, ends-at, walked, walk-meets}
 use Rattle.base_bytes.proofs.Mode as Md
 use Rattle.base_bytes.proofs.Mode.Laws as Md′
-use Rattle.block_next_token.specs.Walk.{walkerStep}
+use Rattle.block_next_token.specs.Walk.{walkerStep, aheadPaper}
 use Rattle.block_next_token.specs.declared.Walker.{Walker}
 use Rattle.block_next_token.specs.declared.Step.{Step}
 use Rattle.block_next_token.proofs.Walker as T
@@ -87,7 +87,7 @@ module _ {M : Type 1} (𝓤 : URA M) (H : Heap 𝓤) (A : Atoms 𝓤) (W : Given
       → ent 𝓤 (⋆ 𝓤 H A (‵ (fobs γ (B κ′ .coded .code (h′ r))) ∷ ‵ (fbor κ (Body (mem (B κ′)) b o γ)) ∷ ‵ (flft κ q) ∷ (‵ (flft κ′ q′) ⊛ ‵ ftrue) ∷ [])) (Post (EL.val S.the-type S′.the-laws (r .ahead)))
   exits r e is =
       qed W (‵ (fobs γ (B κ′ .coded .code (h′ r))) ∷ ‵ (fbor κ (Body (mem (B κ′)) b o γ)) ∷ ‵ (flft κ q) ∷ (‵ (flft κ′ q′) ⊛ ‵ ftrue) ∷ []) ∵
-      suffices ! _ (ends-at 𝓤 H A next.ended stayed (next.clauses 𝓤 H A at-mem run) W (((κ, (κ′, tt)), (q, (q′, tt)), bounds, x, at), tt) (EL.val S.the-type S′.the-laws (r .ahead)) (r .ahead) (h′ r, tt) (tt, tt)) $ says ! (ap (λ (y : Step). y .ahead) e, ap h′ e) $
+      suffices ! _ (ends-at 𝓤 H A next.ended stayed (next.clauses 𝓤 H A at-mem run) W (((κ, (κ′, tt)), (q, (q′, tt)), bounds, x, at), tt) (EL.val S.the-type S′.the-laws (r .ahead)) (r .ahead) (h′ r, tt) (tt, tt)) $ says ! (ap (λ (y : Step). y .ahead) e, ap h′ e, ap (λ (y : Step). aheadPaper (y .ahead)) e) $
       move ! (2 ∷ 3 ∷ []) $ join ! $ frame ! $ feqI ! (List Val) (vptr b o ∷ []) (vptr b o ∷ []) refl $ fjoin3 ! $ nothing ! $ move ! (1 ∷ 0 ∷ []) $ fjoin ! $ frame ! $ owned ! S.the-row (Is S.the-row) (EL.makes S.the-type S′.the-plain 𝓤 H A) (r .ahead) _ is $ done !
 
   module _ (C : Calls 𝓤 H) (Λ : Loops 𝓤 H) (fm : FmC 𝓤 H (W .laws) C) (known : Triple 𝓤 (C #block-next-token·step-at) (StepAt 𝓤 H A at-mem run)) where

@@ -33,9 +33,10 @@ use denote.Triple.Spec.{Meets, tripleOf}
 use denote.Triple.Table.{entered, cited}
 use denote.Triple.Walked.{says, walkOf, goes-none, Walks, ends-at, walked, walk-meets}
 use denote.Exit.{yes}
+use Rattle.base_refusals.proofs.Said.{said}
 use Rattle.base_bytes.proofs.Mode as Md
 use Rattle.base_bytes.proofs.Mode.Laws as Md′
-use Rattle.block_next_token.specs.Walk.{walkerStep}
+use Rattle.block_next_token.specs.Walk.{walkerStep, aheadPaper}
 use Rattle.block_next_token.specs.declared.Walker.{Walker}
 use Rattle.block_next_token.specs.declared.Step.{Step}
 use Rattle.block_next_token.proofs.Walker as T
@@ -66,7 +67,7 @@ module _ {M : Type 1} (𝓤 : URA M) (H : Heap 𝓤) (A : Atoms 𝓤) (W : Given
   exits : (r : Step) → r ≡ walkerStep d → Is S.the-row (r .ahead) (EL.val S.the-type S′.the-laws (r .ahead) ∷ []) → ent 𝓤 (⋆ 𝓤 H A ((‵ (flft κ q) ⊛ ‵ ftrue) ∷ ‵ (Own α d) ∷ [])) (Post (EL.val S.the-type S′.the-laws (r .ahead)))
   exits r e is =
       qed W ((‵ (flft κ q) ⊛ ‵ ftrue) ∷ ‵ (Own α d) ∷ []) ∵
-      suffices ! _ (ends-at 𝓤 H A peek.ended stayed (peek.clauses 𝓤 H A mem run) W (((κ, tt), (q, tt), tt, (d, tt), (v ∷ [], tt)), tt) (EL.val S.the-type S′.the-laws (r .ahead)) (r .ahead) (tt, tt) (tt, tt)) $ says ! (ap (λ (x : Step). x .ahead) e) $
+      suffices ! _ (ends-at 𝓤 H A peek.ended stayed (peek.clauses 𝓤 H A mem run) W (((κ, tt), (q, tt), tt, (d, tt), (v ∷ [], tt)), tt) (EL.val S.the-type S′.the-laws (r .ahead)) (r .ahead) (tt, tt) (tt, tt)) $ says ! (said aheadPaper refl (ap (λ (x : Step). x .ahead) e)) $
       frame ! $ nothing ! $ move ! (1 ∷ 0 ∷ []) $ fjoin ! $ frame ! $ owned ! S.the-row (Is S.the-row) (EL.makes S.the-type S′.the-plain 𝓤 H A) (r .ahead) _ is $ done !
 
   module _ (C : Calls 𝓤 H) (Λ : Loops 𝓤 H) (fm : FmC 𝓤 H (W .laws) C) (known : Triple 𝓤 (C #block-next-token·step-at) (StepAt 𝓤 H A mem run)) where

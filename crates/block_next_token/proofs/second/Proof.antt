@@ -38,10 +38,11 @@ use denote.Triple.Clauses.{ensured, lasts}
 use denote.Exit.{yes}
 use Rattle.base_bytes.specs.declared.Mode.{Mode}
 use Rattle.base_loans.proofs.Calls.{answers}
+use Rattle.base_refusals.proofs.Said.{said}
 use Rattle.base_bytes.proofs.Mode as Md
 use Rattle.base_bytes.proofs.Mode.Laws as Md′
 use Rattle.block_next_token.specs.declared.Ahead.{Ahead}
-use Rattle.block_next_token.specs.Walk.{atFront, aheadOf, gone}
+use Rattle.block_next_token.specs.Walk.{atFront, aheadOf, gone, aheadPaper}
 use Rattle.block_next_token.specs.declared.Walker.{Walker}
 use Rattle.block_next_token.proofs.Walker as T
 use Rattle.block_next_token.proofs.Walker.Laws as T′
@@ -140,13 +141,16 @@ module _ {M : Type 1} (𝓤 : URA M) (H : Heap 𝓤) (A : Atoms 𝓤) (W : Given
   abbrev Seen : Walker → Ahead → SProp 𝓤
   Seen r t = ensured 𝓤 H A peek.ended (peek.clauses 𝓤 H A mem run) (κ, tt) (r, tt) tt t
 
-  peek-said : (r : Walker) (t : Ahead) → ent 𝓤 (Seen r t) (fact 𝓤 (t ≡ aheadOf r))
-  peek-said r t = exE 𝓤 _ (λ ws. snd∗ 𝓤 (sem 𝓤 H A (lasts peek.ended (κ, tt) (r, tt) ws)) (fact 𝓤 (t ≡ aheadOf r)))
+  abbrev Sees : Walker → Ahead → Type 0
+  Sees r t = (t ≡ aheadOf r) × (aheadPaper t ≡ aheadPaper (aheadOf r))
+
+  peek-said : (r : Walker) (t : Ahead) → ent 𝓤 (Seen r t) (fact 𝓤 (Sees r t))
+  peek-said r t = exE 𝓤 _ (λ ws. snd∗ 𝓤 (sem 𝓤 H A (lasts peek.ended (κ, tt) (r, tt) ws)) (fact 𝓤 (Sees r t)))
 
   exits : (t : Ahead) (u : Val) → t ≡ aheadOf (gone w) → ent 𝓤 (⋆ 𝓤 H A (‵ (S.the-row .own t (u ∷ [])) ∷ (‵ (flft κ q) ⊛ ‵ ftrue) ∷ ‵ Kept ∷ [])) (Post u)
   exits t u e =
       qed W (‵ (S.the-row .own t (u ∷ [])) ∷ (‵ (flft κ q) ⊛ ‵ ftrue) ∷ ‵ Kept ∷ []) ∵
-      suffices ! _ (ends-at 𝓤 H A second.ended stayed (second.clauses 𝓤 H A mem run) W (((κ, tt), (q, tt), tt, (s, (m, tt)), at), tt) u t (tt, (tt, tt)) (tt, (tt, tt))) $ says ! e $
+      suffices ! _ (ends-at 𝓤 H A second.ended stayed (second.clauses 𝓤 H A mem run) W (((κ, tt), (q, tt), tt, (s, (m, tt)), at), tt) u t (tt, (tt, tt)) (tt, (tt, tt))) $ says ! (said aheadPaper refl e) $
       move ! (1 ∷ []) $ frame ! $ move ! (1 ∷ []) $ frame ! $ done !
 
   module _ (C : Calls 𝓤 H) (Λ : Loops 𝓤 H) (fm : FmC 𝓤 H (W .laws) C) (known-new : Triple 𝓤 (C #block-next-token·new) (New 𝓤 H A mem run)) (known-after : Triple 𝓤 (C #block-next-token·after) (After 𝓤 H A mem run)) (known-peek : Triple 𝓤 (C #block-next-token·peek) (Peek 𝓤 H A mem run)) where
@@ -169,11 +173,11 @@ module _ {M : Type 1} (𝓤 : URA M) (H : Heap 𝓤) (A : Atoms 𝓤) (W : Given
         -- `peek`
         use2 W (raw (Peek 𝓤 H A mem run .pre (to-peek x u″))) (goes-peek x u″) $
         calls-at ! fm (Peek 𝓤 H A mem run) known-peek (to-peek x u″) (and-then ! (load ! (from ! (stop !)) (look ! 4 refl)) (no-more !)) (λ u′.
-        answers ! tt S.the-row (‵ (flft κ q) ⊛ ‵ ftrue) (Seen x) (λ t. t ≡ aheadOf x) (peek-said x) u′ (λ t e′ is′.
+        answers ! tt S.the-row (‵ (flft κ q) ⊛ ‵ ftrue) (Seen x) (Sees x) (peek-said x) u′ (λ t e′ is′.
         -- [what stands ahead; the token; Kept; _4; …; _3; …; _2; …; _1; …; room for _0; …]
         land ! (from ! (stop !)) (init ! 11 refl (EL.lawful S.the-type S′.the-laws 𝓤 H A W tt .typed t _ is′ .0)) $
         returns ! (look ! 11 refl) $ forget ! 3 refl $ forget ! 5 refl $ forget ! 7 refl $ forget ! 9 refl $ forget ! 11 refl $
-        move ! (11 ∷ 12 ∷ []) $ free1 ! $ move ! (9 ∷ 10 ∷ []) $ free1 ! $ move ! (7 ∷ 8 ∷ []) $ free1 ! $ move ! (5 ∷ 6 ∷ []) $ free1 ! $ move ! (3 ∷ 4 ∷ []) $ free1 ! $ free0 ! $ by ! (exits t u′ (e′ ∙ ap aheadOf (e″ ∙ ap gone e))))))))))))))
+        move ! (11 ∷ 12 ∷ []) $ free1 ! $ move ! (9 ∷ 10 ∷ []) $ free1 ! $ move ! (7 ∷ 8 ∷ []) $ free1 ! $ move ! (5 ∷ 6 ∷ []) $ free1 ! $ move ! (3 ∷ 4 ∷ []) $ free1 ! $ free0 ! $ by ! (exits t u′ (e′ .0 ∙ ap aheadOf (e″ ∙ ap gone e))))))))))))))
 
 module _ {M : Type 1} (𝓤 : URA M) (H : Heap 𝓤) (A : Atoms 𝓤) (W : Given 𝓤 H A) (mem : Memory → SProp 𝓤) (run : Routine → Fun 𝓤) where
   second-walks : (C : Calls 𝓤 H) (Λ : Loops 𝓤 H) → FmC 𝓤 H (W .laws) C → Triple 𝓤 (C #block-next-token·new) (New 𝓤 H A mem run) → Triple 𝓤 (C #block-next-token·after) (After 𝓤 H A mem run) → Triple 𝓤 (C #block-next-token·peek) (Peek 𝓤 H A mem run)

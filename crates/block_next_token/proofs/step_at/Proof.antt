@@ -17,7 +17,7 @@ place-behind-requires : tie.Need-place-behind-requires
 place-behind-requires c κs = search needs
 
 returns-2 : tie.Need-returns-2
-returns-2 c = steps.goes _ _ _ (c .before .before .before .blank-end .ensures) (omega (arith, (c .before .before .if1 .left))) (c .before .token-at .ensures) (c .place-behind .ensures)
+returns-2 c = steps.goes _ _ _ (c .before .before .before .blank-end .ensures) (omega (arith, (c .before .before .if1 .left))) (c .before .token-at .ensures .0) (c .place-behind .ensures)
 
 pub step-at-spec : {M : Type 1} → statement M
 step-at-spec =

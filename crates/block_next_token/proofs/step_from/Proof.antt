@@ -45,12 +45,13 @@ use denote.Triple.Walked.{says, Stays, stay-none, stay-none-slice, walkOf, goes-
 use denote.Triple.Clauses.{ensured, lasts}
 use denote.Exit.{yes}
 use Rattle.base_bytes.specs.declared.Mode.{Mode}
+use Rattle.base_refusals.proofs.Said.{said}
 use Rattle.base_bytes.proofs.Mode as Md
 use Rattle.base_bytes.proofs.Mode.Laws as Md′
 use Rattle.base_loans.proofs.Local.{Ref, Lender, lent-out, taken-back}
 use Rattle.block_next_token.specs.declared.Ahead.{Ahead}
 use Rattle.block_next_token.specs.declared.Step.{Step}
-use Rattle.block_next_token.specs.Walk.{setDown, aheadOf, gone}
+use Rattle.block_next_token.specs.Walk.{setDown, aheadOf, gone, aheadPaper, stepPaper}
 use Rattle.block_next_token.specs.declared.Walker.{Walker}
 use Rattle.block_next_token.proofs.Walker as T
 use Rattle.block_next_token.proofs.Walker.Laws as T′
@@ -113,12 +114,12 @@ module _ {M : Type 1} (𝓤 : URA M) (H : Heap 𝓤) (A : Atoms 𝓤) (W : Given
 
   -- what `next` says
   abbrev Said : Ahead → Walker → Type 0
-  Said r x = (r ≡ aheadOf w) × (x ≡ gone w)
+  Said r x = (r ≡ aheadOf w) × (x ≡ gone w) × (aheadPaper r ≡ aheadPaper (aheadOf w))
 
   exits : (r : Ahead) (x : Walker) → Said r x → Is P.the-row (made r x) (LL.val P.the-type P′.the-laws (made r x) ∷ []) → ent 𝓤 (⋆ 𝓤 H A ((‵ (flft κ q) ⊛ ‵ ftrue) ∷ ‵ Kept ∷ [])) (Post (LL.val P.the-type P′.the-laws (made r x)))
   exits r x e is =
       qed W ((‵ (flft κ q) ⊛ ‵ ftrue) ∷ ‵ Kept ∷ []) ∵
-      suffices ! _ (ends-at 𝓤 H A step-from.ended stayed (step-from.clauses 𝓤 H A mem run) W (((κ, tt), (q, tt), tt, (s, (n, (m, tt))), at), tt) (LL.val P.the-type P′.the-laws (made r x)) (made r x) (tt, (tt, (tt, tt))) (tt, (tt, (tt, tt)))) $ says ! (λ i. record { ahead = e .0 i; at = e .1 i .at }) $
+      suffices ! _ (ends-at 𝓤 H A step-from.ended stayed (step-from.clauses 𝓤 H A mem run) W (((κ, tt), (q, tt), tt, (s, (n, (m, tt))), at), tt) (LL.val P.the-type P′.the-laws (made r x)) (made r x) (tt, (tt, (tt, tt))) (tt, (tt, (tt, tt)))) $ says ! (said stepPaper refl (λ i. record { ahead = e .0 i; at = e .1 i .at })) $
       frame ! $ frame ! $ owned ! P.the-row (Is P.the-row) (LL.makes P.the-type P′.the-plain 𝓤 H A) (made r x) _ is $ done !
 
   -- the call of `next`: the lifetime a of the loan, met with the text's, the local l and the loan's name δ

@@ -1,10 +1,11 @@
-use mathlib.Core.Path.{_∙_, ap}
+use mathlib.Core.Path.{refl, _∙_, ap}
 use Prim.Native.Nat.{_-_}
 use native.Mathlib.Omega.{arith}
 use borrow.Author.Needs.{needs}
 use lib.ListN.{length}
+use Rattle.base_refusals.proofs.Said.{said}
 use Rattle.block_grammar.specs.Read.{readFrom}
-use Rattle.block_next_token.specs.Walk.{counted}
+use Rattle.block_next_token.specs.Walk.{counted, countPaper}
 use Rattle.block_next_token.specs.declared.Ahead.the-variants.{Found}
 use Rattle.block_next_token.proofs.Counting as counting
 use Rattle.block_next_token.proofs.Steps.{tag-not-bad}
@@ -35,21 +36,21 @@ enum-told-2 c = search needs
 add-n : tie.Need-add-n Inv-tokens μ-tokens
 add-n c =
     let at4 = c .before .before .before .before in let at5 = at4 .before in
-    record { fits = let g = (counting.go (at5 .tokens .inv) (at4 .step-from .ensures) ((c .before .before .ahead .given) .1) (tag-not-bad _ (c .match2 .keys2))) in omega (arith, g .0 .within, g .0 .few) }
+    record { fits = let g = (counting.go (at5 .tokens .inv) (at4 .step-from .ensures .0) ((c .before .before .ahead .given) .1) (tag-not-bad _ (c .match2 .keys2))) in omega (arith, g .0 .within, g .0 .few) }
 
 tokens-less : tie.Need-tokens-less Inv-tokens μ-tokens
 tokens-less c =
     let at4 = c .before .before .before .before in let at5 = at4 .before in
-    let g = (counting.go (at5 .tokens .inv) (at4 .step-from .ensures) ((c .before .before .ahead .given) .1) (tag-not-bad _ (c .match2 .keys2))) in omega (arith, g .0 .within, g .1)
+    let g = (counting.go (at5 .tokens .inv) (at4 .step-from .ensures .0) ((c .before .before .ahead .given) .1) (tag-not-bad _ (c .match2 .keys2))) in omega (arith, g .0 .within, g .1)
 
 tokens-again : tie.Need-tokens-again Inv-tokens μ-tokens
-tokens-again c = let at4 = c .before .before .before .before in let at5 = at4 .before in (counting.go (at5 .tokens .inv) (at4 .step-from .ensures) ((c .before .before .ahead .given) .1) (tag-not-bad _ (c .match2 .keys2))) .0
+tokens-again c = let at4 = c .before .before .before .before in let at5 = at4 .before in (counting.go (at5 .tokens .inv) (at4 .step-from .ensures .0) ((c .before .before .ahead .given) .1) (tag-not-bad _ (c .match2 .keys2))) .0
 
 returns : tie.Need-returns Inv-tokens μ-tokens
-returns c = counting.end (c .before .before .before .tokens .inv) (c .before .before .step-from .ensures) ((c .enum-told .given) .1)
+returns c = said countPaper refl (counting.end (c .before .before .before .tokens .inv) (c .before .before .step-from .ensures .0) ((c .enum-told .given) .1))
 
 returns-2 : tie.Need-returns-2 Inv-tokens μ-tokens
-returns-2 c = let at5 = c .before .before .before .before .before in let at6 = at5 .before in counting.stop (at6 .tokens .inv) (at5 .step-from .ensures) ((c .before .before .before .ahead .given) .1 ∙ ap (λ t. Found t) ((c .enum-told2 .given) .1))
+returns-2 c = let at5 = c .before .before .before .before .before in let at6 = at5 .before in said countPaper refl (counting.stop (at6 .tokens .inv) (at5 .step-from .ensures .0) ((c .before .before .before .ahead .given) .1 ∙ ap (λ t. Found t) ((c .enum-told2 .given) .1)))
 
 pub token-count-spec : {M : Type 1} → statement M
 token-count-spec =

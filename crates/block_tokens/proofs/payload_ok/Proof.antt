@@ -36,12 +36,12 @@ enum-known-e c = search needs
 tokens-less : tie.Need-tokens-less Inv-tokens μ-tokens
 tokens-less c =
     let at4 = c .before .before .before .before in let at6 = at4 .before .before in let at7 = at6 .before in
-    let g = payload.go (at7 .tokens .inv) (at6 .blank-end .ensures) (sym (c .before .e .given .1) ∙ (c .before .before .before .behind-token .ensures) ∙ ap tokenEnd (at4 .token-at .ensures)) in omega (arith, g .0 .within, g .1)
+    let g = payload.go (at7 .tokens .inv) (at6 .blank-end .ensures) (sym (c .before .e .given .1) ∙ (c .before .before .before .behind-token .ensures) ∙ ap tokenEnd (at4 .token-at .ensures .0)) in omega (arith, g .0 .within, g .1)
 
 tokens-again : tie.Need-tokens-again Inv-tokens μ-tokens
 tokens-again c =
     let at4 = c .before .before .before .before in let at6 = at4 .before .before in let at7 = at6 .before in
-    payload.go (at7 .tokens .inv) (at6 .blank-end .ensures) (sym (c .before .e .given .1) ∙ (c .before .before .before .behind-token .ensures) ∙ ap tokenEnd (at4 .token-at .ensures)) .0
+    payload.go (at7 .tokens .inv) (at6 .blank-end .ensures) (sym (c .before .e .given .1) ∙ (c .before .before .before .behind-token .ensures) ∙ ap tokenEnd (at4 .token-at .ensures .0)) .0
 
 returns : tie.Need-returns Inv-tokens μ-tokens
 returns c = payload.end (c .before .before .tokens .inv) (c .before .blank-end .ensures) (c .if1 .taken)
@@ -49,7 +49,7 @@ returns c = payload.end (c .before .before .tokens .inv) (c .before .blank-end .
 returns-2 : tie.Need-returns-2 Inv-tokens μ-tokens
 returns-2 c =
     let at4 = c .before .before .before .before in let at5 = at4 .before in let at6 = at5 .before in
-    payload.stop (at6 .tokens .inv) (at5 .blank-end .ensures) (at4 .if1 .left) (sym (c .enum-told .given .1) ∙ (c .before .before .behind-token .ensures) ∙ ap tokenEnd (c .before .before .before .token-at .ensures))
+    payload.stop (at6 .tokens .inv) (at5 .blank-end .ensures) (at4 .if1 .left) (sym (c .enum-told .given .1) ∙ (c .before .before .behind-token .ensures) ∙ ap tokenEnd (c .before .before .before .token-at .ensures .0))
 
 pub payload-ok-spec : {M : Type 1} → statement M
 payload-ok-spec =

@@ -18,7 +18,7 @@ same-length-2 c = search needs
 returns : tie.Need-returns
 returns c =
     let at6 = c .before .before .before .before .before .before in
-    laws.length-says _ _ _ _ _ (at6 .attrs-block-len-at .ensures .0) (at6 .attrs-block-len-at .ensures .1) (c .before .before .say-length .ensures .0) (c .before .before .say-length .ensures .1)
+    laws.length-says _ _ _ _ _ (at6 .attrs-block-len-at .ensures .0) (at6 .attrs-block-len-at .ensures .1 .0) (c .before .before .say-length .ensures .0) (c .before .before .say-length .ensures .1)
 
 pub bridlesnow-attrs-block-len-at-spec : {M : Type 1} → statement M
 bridlesnow-attrs-block-len-at-spec =

@@ -30,7 +30,7 @@ returns : tie.Need-returns
 returns c =
     let at7 = c .before .before .before .before .before .before .before in let at8 = at7 .before in let at12 = at8 .before .before .before .before in
     let at17 = at12 .before .before .before .before .before in
-    laws.ends-told _ (endsIn (at17 .args .join .now) (at17 .args .text .now)) (at12 .ends-in-refused-brace-run .ensures .0) (at12 .ends-in-refused-brace-run .ensures .1) (at8 .ends-kind .ensures) (told-2 _ _ _ (at7 .tell .ensures) (c .before .before .before .tell2 .ensures)) (c .ends-number .ensures)
+    laws.ends-told _ (endsIn (at17 .args .join .now) (at17 .args .text .now)) (at12 .ends-in-refused-brace-run .ensures .0) (at12 .ends-in-refused-brace-run .ensures .1 .0) (at8 .ends-kind .ensures) (told-2 _ _ _ (at7 .tell .ensures) (c .before .before .before .tell2 .ensures)) (c .ends-number .ensures)
 
 pub bridlesnow-ends-in-refused-brace-run-spec : {M : Type 1} → statement M
 bridlesnow-ends-in-refused-brace-run-spec =

@@ -41,7 +41,7 @@ returns c =
     let at7 = c .before .before .before .before .before .before .before in let at11 = at7 .before .before .before .before in let at12 = at11 .before in
     let at16 = at12 .before .before .before .before in let at17 = at16 .before in let at21 = at17 .before .before .before .before in
     let at26 = at21 .before .before .before .before .before in
-    laws.run-told _ (refusedRun (length (at26 .args .join .now)) (at26 .args .text .now) (at26 .args .line)) (at21 .refused-brace-run .ensures .0) (at21 .refused-brace-run .ensures .1) (at17 .kind-of .ensures) (at12 .lines-of .ensures) (told-4 _ _ _ _ _ (at16 .tell .ensures) (at11 .tell2 .ensures) (at7 .tell3 .ensures) (c .before .before .before .tell4 .ensures)) (c .answer-number .ensures)
+    laws.run-told _ (refusedRun (length (at26 .args .join .now)) (at26 .args .text .now) (at26 .args .line)) (at21 .refused-brace-run .ensures .0) (at21 .refused-brace-run .ensures .1 .0) (at17 .kind-of .ensures) (at12 .lines-of .ensures) (told-4 _ _ _ _ _ (at16 .tell .ensures) (at11 .tell2 .ensures) (at7 .tell3 .ensures) (c .before .before .before .tell4 .ensures)) (c .answer-number .ensures)
 
 pub bridlesnow-refused-brace-run-spec : {M : Type 1} → statement M
 bridlesnow-refused-brace-run-spec =

@@ -15,7 +15,7 @@ returns : tie.Need-returns
 returns c = rw ((c .before .c .given .1))
 
 returns-2 : tie.Need-returns-2
-returns-2 c = rw ((c .before .enum-told .given .1), (c .check-text .ensures))
+returns-2 c = rw ((c .before .enum-told .given .1), (c .check-text .ensures .0))
 
 pub or-text-spec : {M : Type 1} → statement M
 or-text-spec = tie.close (tie.spec enum-known-c enum-told check-text-requires returns returns-2)

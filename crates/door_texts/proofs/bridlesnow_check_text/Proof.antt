@@ -11,7 +11,7 @@ outcome-number-requires : tie.Need-outcome-number-requires
 outcome-number-requires c κs = search needs
 
 returns : tie.Need-returns
-returns c = (c .outcome-number .ensures) ∙ ap outcomeNo ((c .before .check-text .ensures))
+returns c = (c .outcome-number .ensures) ∙ ap outcomeNo ((c .before .check-text .ensures .0))
 
 pub bridlesnow-check-text-spec : {M : Type 1} → statement M
 bridlesnow-check-text-spec = tie.close (tie.spec check-text-requires outcome-number-requires returns)

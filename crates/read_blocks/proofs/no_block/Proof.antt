@@ -1,3 +1,4 @@
+use mathlib.Core.Path.{refl}
 use borrow.Author.Needs.{needs}
 use Rattle.read_blocks.proofs.no_block.Statement.{statement}
 use Rattle.read_blocks.proofs.no_block.Tie as tie
@@ -9,7 +10,7 @@ block-of-requires : tie.Need-block-of-requires
 block-of-requires c κs = search needs
 
 returns : tie.Need-returns
-returns c = rw ((c .block-of .ensures), (c .before .refusing .ensures))
+returns c = rw ((c .block-of .ensures), (c .before .refusing .ensures .0)) (refl, refl)
 
 pub no-block-spec : {M : Type 1} → statement M
 no-block-spec = tie.close (tie.spec refusing-requires block-of-requires returns)

@@ -19,12 +19,12 @@ enum-told c = search needs
 slice-reshare-prefix-fill-chain : tie.Need-slice-reshare-prefix-fill-chain
 slice-reshare-prefix-fill-chain c =
     let at4 = c .before .before .before .before in let at8 = at4 .before .before .before .before in
-    laws.joined-in (at8 .args .text .now) (at8 .args .at) (at8 .args .base) (at8 .args .join .now) (at4 .join-run .ensures .0) (at4 .join-run .ensures .1)
+    laws.joined-in (at8 .args .text .now) (at8 .args .at) (at8 .args .base) (at8 .args .join .now) (at4 .join-run .ensures .0) (at4 .join-run .ensures .1 .0)
 
 slice-aggregate-fill-chain : tie.Need-slice-aggregate-fill-chain
 slice-aggregate-fill-chain c =
     let at5 = c .before .before .before .before .before in let at9 = at5 .before .before .before .before in
-    sym (laws.joined-long (at9 .args .text .now) (at9 .args .at) (at9 .args .base) (at9 .args .join .now) (at5 .join-run .ensures .0) (at5 .join-run .ensures .1))
+    sym (laws.joined-long (at9 .args .text .now) (at9 .args .at) (at9 .args .base) (at9 .args .join .now) (at5 .join-run .ensures .0) (at5 .join-run .ensures .1 .0))
 
 fill-chain-requires : tie.Need-fill-chain-requires
 fill-chain-requires c κs = search needs
@@ -41,11 +41,11 @@ same-length c = search needs
 returns : tie.Need-returns
 returns c =
     let at5 = c .before .before .before .before .before in let at9 = at5 .before .before .before .before in let at13 = at9 .before .before .before .before in
-    let g = laws.good-by _ _ _ (laws.joined-short (at13 .args .text .now) (at13 .args .at) (at13 .args .base) (at13 .args .join .now) (at9 .join-run .ensures .0) (at9 .join-run .ensures .1)
-    (at13 .pre)) (c .before .before .before .fill-chain .ensures) (c .before .before .is-unread .ensures) (c .before .if1 .taken) in (
-      laws.bad-read (at13 .args .text .now) (at13 .args .at) (at13 .args .base) (at13 .args .join .now) (at9 .join-run .ensures .0) (at9 .join-run .ensures .1) (at5 .enum-told .given .1) g
-          (c .no-block2 .ensures),
-      laws.bad-holds (at13 .args .text .now) (at13 .args .at) (at13 .args .base) (at13 .args .join .now) (at9 .join-run .ensures .0) (at9 .join-run .ensures .1) (at5 .enum-told .given .1) g,
+    let g = laws.good-by _ _ _ (laws.joined-short (at13 .args .text .now) (at13 .args .at) (at13 .args .base) (at13 .args .join .now) (at9 .join-run .ensures .0) (at9 .join-run .ensures .1 .0)
+    (at13 .pre)) (c .before .before .before .fill-chain .ensures .0) (c .before .before .is-unread .ensures) (c .before .if1 .taken) in (
+      laws.bad-read (at13 .args .text .now) (at13 .args .at) (at13 .args .base) (at13 .args .join .now) (at9 .join-run .ensures .0) (at9 .join-run .ensures .1 .0) (at5 .enum-told .given .1) g
+          (c .no-block2 .ensures .0),
+      laws.bad-holds (at13 .args .text .now) (at13 .args .at) (at13 .args .base) (at13 .args .join .now) (at9 .join-run .ensures .0) (at9 .join-run .ensures .1 .0) (at5 .enum-told .given .1) g,
     )
 
 block-of-requires : tie.Need-block-of-requires
@@ -58,9 +58,9 @@ returns-2 : tie.Need-returns-2
 returns-2 c =
     let at6 = c .before .before .before .before .before .before in
     let at10 = at6 .before .before .before .before in (
-      laws.run-unread (at10 .args .text .now) (at10 .args .at) (at10 .args .base) (at10 .args .join .now) (at6 .join-run .ensures .0) (at6 .join-run .ensures .1) (c .before .before .stop .given .1)
-          (c .no-block .ensures),
-      laws.run-holds (at10 .args .text .now) (at10 .args .at) (at10 .args .base) (at10 .args .join .now) (at6 .join-run .ensures .0) (at6 .join-run .ensures .1) (c .before .before .stop .given .1),
+      laws.run-unread (at10 .args .text .now) (at10 .args .at) (at10 .args .base) (at10 .args .join .now) (at6 .join-run .ensures .0) (at6 .join-run .ensures .1 .0) (c .before .before .stop .given .1)
+          (c .no-block .ensures .0),
+      laws.run-holds (at10 .args .text .now) (at10 .args .at) (at10 .args .base) (at10 .args .join .now) (at6 .join-run .ensures .0) (at6 .join-run .ensures .1 .0) (c .before .before .stop .given .1),
     )
 
 same-length-3 : tie.Need-same-length-3
@@ -72,11 +72,11 @@ returns-3 c =
     let p = start .before .before in
     let q = p .before .before .before .before in
     let r = q .before .before .before .before in
-    let g = laws.good-by _ _ _ (laws.joined-short (r .args .text .now) (r .args .at) (r .args .base) (r .args .join .now) (q .join-run .ensures .0) (q .join-run .ensures .1) (r .pre))
-    (start .fill-chain .ensures) (c .before .before .is-unread .ensures) (c .before .if1 .left) in (
-      laws.good-read (r .args .text .now) (r .args .at) (r .args .base) (r .args .join .now) (q .join-run .ensures .0) (q .join-run .ensures .1) (p .enum-told .given .1) g (start .fill-chain .ensures)
+    let g = laws.good-by _ _ _ (laws.joined-short (r .args .text .now) (r .args .at) (r .args .base) (r .args .join .now) (q .join-run .ensures .0) (q .join-run .ensures .1 .0) (r .pre))
+    (start .fill-chain .ensures .0) (c .before .before .is-unread .ensures) (c .before .if1 .left) in (
+      laws.good-read (r .args .text .now) (r .args .at) (r .args .base) (r .args .join .now) (q .join-run .ensures .0) (q .join-run .ensures .1 .0) (p .enum-told .given .1) g (start .fill-chain .ensures .0)
           (c .block-of .ensures),
-      laws.good-holds (r .args .text .now) (r .args .at) (r .args .base) (r .args .join .now) (q .join-run .ensures .0) (q .join-run .ensures .1) (p .enum-told .given .1) g,
+      laws.good-holds (r .args .text .now) (r .args .at) (r .args .base) (r .args .join .now) (q .join-run .ensures .0) (q .join-run .ensures .1 .0) (p .enum-told .given .1) g,
     )
 
 pub read-run-spec : {M : Type 1} → statement M

@@ -34,19 +34,19 @@ range-to-requires : tie.Need-range-to-requires
 range-to-requires c κs =
     let start = c .before .before .before in
     let p = start .before .before .before .before .before in
-    (laws.close-in (p .args .text .now) (p .args .place) _ (start .find-close .ensures) ((c .before .end .given) .1) .0, laws.close-in (p .args .text .now) (p .args .place) _ (start .find-close .ensures) ((c .before .end .given) .1) .1 .0)
+    (laws.close-in (p .args .text .now) (p .args .place) _ (start .find-close .ensures .0) ((c .before .end .given) .1) .0, laws.close-in (p .args .text .now) (p .args .place) _ (start .find-close .ensures .0) ((c .before .end .given) .1) .1 .0)
 
 returns-3 : tie.Need-returns-3
 unfolding payloadAt
 returns-3 c =
     let at4 = c .before .before .before .before in let at5 = at4 .before in let at7 = at5 .before .before in
-    laws.at-close emptyFront emptyFront (partTo (at7 .args .text .now) (at7 .args .place)) _ _ (at5 .if1 .left) (sym (at4 .opens-at .ensures) ∙ not-false _ (c .before .before .before .if2 .left)) (c .before .before .find-close .ensures) ((c .enum-told .given) .1) refl
+    laws.at-close emptyFront emptyFront (partTo (at7 .args .text .now) (at7 .args .place)) _ _ (at5 .if1 .left) (sym (at4 .opens-at .ensures) ∙ not-false _ (c .before .before .before .if2 .left)) (c .before .before .find-close .ensures .0) ((c .enum-told .given) .1) refl
 
 returns-4 : tie.Need-returns-4
 unfolding payloadAt
 returns-4 c =
     let at4 = c .before .before .before .before in let at5 = at4 .before in let at6 = at5 .before in let at7 = at6 .before in let at9 = at7 .before .before in
-    laws.at-close emptyFront emptyFront (partTo (at9 .args .text .now) (at9 .args .place)) _ _ (at7 .if1 .left) (sym (at6 .opens-at .ensures) ∙ not-false _ (at5 .if2 .left)) (at4 .find-close .ensures) ((c .before .before .end .given) .1) (c .range-to .ensures)
+    laws.at-close emptyFront emptyFront (partTo (at9 .args .text .now) (at9 .args .place)) _ _ (at7 .if1 .left) (sym (at6 .opens-at .ensures) ∙ not-false _ (at5 .if2 .left)) (at4 .find-close .ensures .0) ((c .before .before .end .given) .1) (c .range-to .ensures)
 
 pub payload-range-spec : {M : Type 1} → statement M
 payload-range-spec =

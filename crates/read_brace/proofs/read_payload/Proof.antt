@@ -43,7 +43,7 @@ handed-out-requires c κs = search needs
 returns-2 : tie.Need-returns-2
 returns-2 c =
     let at6 = c .before .before .before .before .before .before in
-    (c .handed-out .ensures) ∙ laws.filled (at6 .args .mode) (at6 .args .text .now) (at6 .args .place) (at6 .args .end) (sym (c .before .before .before .is-utf8 .ensures) ∙ not-false _ (c .before .before .if1 .left)) ((at6 .pre) .0) (c .before .fill .ensures)
+    (c .handed-out .ensures) ∙ laws.filled (at6 .args .mode) (at6 .args .text .now) (at6 .args .place) (at6 .args .end) (sym (c .before .before .before .is-utf8 .ensures) ∙ not-false _ (c .before .before .if1 .left)) ((at6 .pre) .0) (c .before .fill .ensures .0)
 
 pub read-payload-spec : {M : Type 1} → statement M
 read-payload-spec =

@@ -6,7 +6,7 @@ refusing-requires : tie.Need-refusing-requires
 refusing-requires c κs = search needs
 
 returns : tie.Need-returns
-returns c = rw (c .before .refusing .ensures)
+returns c = rw (c .before .refusing .ensures .0)
 
 pub refused-spec : {M : Type 1} → statement M
 refused-spec = tie.close (tie.spec refusing-requires returns)

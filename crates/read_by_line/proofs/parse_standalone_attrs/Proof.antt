@@ -1,5 +1,7 @@
 use mathlib.Core.Path.{sym, _∙_}
 use Rattle.read_by_line.proofs.Starts as laws
+use Rattle.set_table.proofs.Numbers.{said}
+use Rattle.read_by_line.proofs.LineNumbers.{line-no}
 use borrow.Author.Needs.{needs}
 use Rattle.read_by_line.proofs.parse_standalone_attrs.Statement.{statement}
 use Rattle.read_by_line.proofs.parse_standalone_attrs.Tie as tie
@@ -20,10 +22,10 @@ read-line-requires : tie.Need-read-line-requires
 read-line-requires c κs = search needs
 
 returns : tie.Need-returns
-returns c = laws.alone-none _ _ (sym (c .before .before .before .before .line-start .ensures) ∙ (c .before .before .r .given .1)) (c .refusing .ensures)
+returns c = said (line-no _ _) (laws.alone-none _ _ (sym (c .before .before .before .before .line-start .ensures .0) ∙ (c .before .before .r .given .1)) (c .refusing .ensures .0))
 
 returns-2 : tie.Need-returns-2
-returns-2 c = laws.alone-at _ _ (sym (c .before .before .before .before .line-start .ensures) ∙ (c .before .before .at .given .1)) (c .read-line .ensures)
+returns-2 c = said (line-no _ _) (laws.alone-at _ _ (sym (c .before .before .before .before .line-start .ensures .0) ∙ (c .before .before .at .given .1)) (c .read-line .ensures))
 
 pub parse-standalone-attrs-spec : {M : Type 1} → statement M
 parse-standalone-attrs-spec =

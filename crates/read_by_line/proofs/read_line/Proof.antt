@@ -13,7 +13,7 @@ refusing-requires c κs = search needs
 
 returns : tie.Need-returns
 unfolding lineRead
-returns c = rw (opens-by _ _ (c .before .before .before .trimmed-line .ensures) (not-true _ (c .before .if1 .taken))) (c .refusing .ensures)
+returns c = rw (opens-by _ _ (c .before .before .before .trimmed-line .ensures) (not-true _ (c .before .if1 .taken))) (c .refusing .ensures .0)
 
 fill-chain-requires : tie.Need-fill-chain-requires
 fill-chain-requires c κs = search needs
@@ -22,7 +22,7 @@ returns-2 : tie.Need-returns-2
 unfolding lineRead
 returns-2 c =
     let start = c .before .before .before in
-    rw (opens-by _ _ (start .trimmed-line .ensures) (not-false _ (c .before .if1 .left)), ← (start .trimmed-line .ensures)) (c .fill-chain .ensures)
+    rw (opens-by _ _ (start .trimmed-line .ensures) (not-false _ (c .before .if1 .left)), ← (start .trimmed-line .ensures)) (c .fill-chain .ensures .0)
 
 pub read-line-spec : {M : Type 1} → statement M
 read-line-spec =

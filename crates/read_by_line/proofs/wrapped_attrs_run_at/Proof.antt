@@ -1,6 +1,8 @@
 use mathlib.Core.Path.{sym, _∙_}
 use Rattle.read_blocks.proofs.ByLine.{wraps-none, wraps-at}
 use Rattle.read_by_line.proofs.Starts as laws
+use Rattle.read_blocks.proofs.BlockNumbers.{said}
+use Rattle.read_by_line.proofs.LineNumbers.{wrapped-no}
 use borrow.Author.Needs.{needs}
 use Rattle.read_by_line.proofs.wrapped_attrs_run_at.Statement.{statement}
 use Rattle.read_by_line.proofs.wrapped_attrs_run_at.Tie as tie
@@ -21,7 +23,7 @@ wrapped-at-requires : tie.Need-wrapped-at-requires
 wrapped-at-requires c κs = search needs
 
 returns : tie.Need-returns
-returns c = let e = sym (c .before .before .before .before .line-start .ensures) ∙ (c .before .before .r .given .1) in laws.read-none _ _ e _ (wraps-none _ _ _ _ e) (c .no-block .ensures)
+returns c = let e = sym (c .before .before .before .before .line-start .ensures .0) ∙ (c .before .before .r .given .1) in said (wrapped-no _ _ _ _) (laws.read-none _ _ e _ (wraps-none _ _ _ _ e) (c .no-block .ensures .0))
 
 same-length : tie.Need-same-length
 same-length c = search needs
@@ -29,7 +31,7 @@ same-length c = search needs
 returns-2 : tie.Need-returns-2
 returns-2 c =
     let at5 = c .before .before .before .before .before in let at7 = at5 .before .before in
-    let e = sym (at7 .line-start .ensures) ∙ (at5 .at .given .1) in laws.read-at _ _ e _ (wraps-at _ _ _ _ e) (c .before .before .wrapped-at .ensures .0) (c .before .before .wrapped-at .ensures .1)
+    let e = sym (at7 .line-start .ensures .0) ∙ (at5 .at .given .1) in said (wrapped-no _ _ _ _) (laws.read-at _ _ e _ (wraps-at _ _ _ _ e) (c .before .before .wrapped-at .ensures .0) (c .before .before .wrapped-at .ensures .1 .0))
 
 pub wrapped-attrs-run-at-spec : {M : Type 1} → statement M
 wrapped-attrs-run-at-spec =

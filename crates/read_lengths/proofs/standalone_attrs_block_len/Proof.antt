@@ -1,6 +1,7 @@
 use mathlib.Core.Path.{sym, _∙_}
 use Rattle.read_blocks.proofs.Finds.{none-holds}
 use Rattle.read_lengths.proofs.Measured as laws
+use Rattle.read_lengths.proofs.LengthNumbers.{said, standalone-paper}
 use borrow.Author.Needs.{needs}
 use Rattle.read_lengths.proofs.standalone_attrs_block_len.Statement.{statement}
 use Rattle.read_lengths.proofs.standalone_attrs_block_len.Tie as tie
@@ -26,13 +27,13 @@ no-measure-requires-2 c κs = search needs
 returns : tie.Need-returns
 returns c =
     let at4 = c .before .before .before .before in let at6 = at4 .before .before in
-    let e = sym (at6 .line-start .ensures) ∙ (at4 .at .given .1) in laws.measured-at _ _ e _ (laws.standalone-in _ _ e _ (sym (c .before .before .is-indented .ensures) ∙ (c .before .if1 .taken))) (laws.none-measured _ _ (c .no-measure2 .ensures)) (none-holds _ _)
+    let e = sym (at6 .line-start .ensures .0) ∙ (at4 .at .given .1) in said (standalone-paper _ _ _) (laws.measured-at _ _ e _ (laws.standalone-in _ _ e _ (sym (c .before .before .is-indented .ensures) ∙ (c .before .if1 .taken))) (laws.none-measured _ _ (c .no-measure2 .ensures)) (none-holds _ _))
 
 measure-at-requires : tie.Need-measure-at-requires
 measure-at-requires c κs = search needs
 
 returns-2 : tie.Need-returns-2
-returns-2 c = let e = sym (c .before .before .before .before .line-start .ensures) ∙ (c .before .before .r .given .1) in laws.missing-by _ _ e _ (laws.standalone-none _ _ e _) (c .no-measure .ensures)
+returns-2 c = let e = sym (c .before .before .before .before .line-start .ensures .0) ∙ (c .before .before .r .given .1) in said (standalone-paper _ _ _) (laws.missing-by _ _ e _ (laws.standalone-none _ _ e _) (c .no-measure .ensures))
 
 same-length : tie.Need-same-length
 same-length c = search needs
@@ -40,7 +41,7 @@ same-length c = search needs
 returns-3 : tie.Need-returns-3
 returns-3 c =
     let at4 = c .before .before .before .before in let at5 = at4 .before in let at7 = at5 .before .before in let at9 = at7 .before .before in
-    let e = sym (at9 .line-start .ensures) ∙ (at7 .at .given .1) in laws.measured-at _ _ e _ (laws.standalone-at _ _ e _ (sym (at5 .is-indented .ensures) ∙ (at4 .if1 .left))) (c .before .before .measure-at .ensures .0) (c .before .before .measure-at .ensures .1)
+    let e = sym (at9 .line-start .ensures .0) ∙ (at7 .at .given .1) in said (standalone-paper _ _ _) (laws.measured-at _ _ e _ (laws.standalone-at _ _ e _ (sym (at5 .is-indented .ensures) ∙ (at4 .if1 .left))) (c .before .before .measure-at .ensures .0) (c .before .before .measure-at .ensures .1))
 
 pub standalone-attrs-block-len-spec : {M : Type 1} → statement M
 standalone-attrs-block-len-spec =

@@ -23,7 +23,7 @@ sub-if1 c = search needs
 returns : tie.Need-returns
 returns c =
     let at4 = c .before .before .before .before in let at6 = at4 .before .before in
-    sym (columns.capped-top _ (omega (arith, (c .if1 .taken)))) ∙ laws.brace-sum (at6 .args .brace) (at6 .args .base) (lastOpenBrace Out (at6 .args .pad) (at6 .args .line .now)) (at4 .last-open-brace-column .ensures) ((c .before .before .c .given) .1)
+    sym (columns.capped-top _ (omega (arith, (c .if1 .taken)))) ∙ laws.brace-sum (at6 .args .brace) (at6 .args .base) (lastOpenBrace Out (at6 .args .pad) (at6 .args .line .now)) (at4 .last-open-brace-column .ensures .0) ((c .before .before .c .given) .1)
 
 add-result : tie.Need-add-result
 add-result c = search needs
@@ -31,12 +31,12 @@ add-result c = search needs
 returns-2 : tie.Need-returns-2
 returns-2 c =
     let at4 = c .before .before .before .before in
-    laws.brace-kept (at4 .args .brace) (at4 .args .base) (lastOpenBrace Out (at4 .args .pad) (at4 .args .line .now)) (c .before .before .last-open-brace-column .ensures) (omega arith) ((c .enum-told .given) .1)
+    laws.brace-kept (at4 .args .brace) (at4 .args .base) (lastOpenBrace Out (at4 .args .pad) (at4 .args .line .now)) (c .before .before .last-open-brace-column .ensures .0) (omega arith) ((c .enum-told .given) .1)
 
 returns-3 : tie.Need-returns-3
 returns-3 c =
     let at4 = c .before .before .before .before in let at6 = at4 .before .before in
-    columns.capped-is _ refl (omega (arith, (c .if1 .left))) ∙ laws.brace-sum (at6 .args .brace) (at6 .args .base) (lastOpenBrace Out (at6 .args .pad) (at6 .args .line .now)) (at4 .last-open-brace-column .ensures) ((c .before .before .c .given) .1)
+    columns.capped-is _ refl (omega (arith, (c .if1 .left))) ∙ laws.brace-sum (at6 .args .brace) (at6 .args .base) (lastOpenBrace Out (at6 .args .pad) (at6 .args .line .now)) (at4 .last-open-brace-column .ensures .0) ((c .before .before .c .given) .1)
 
 pub brace-after-spec : {M : Type 1} → statement M
 brace-after-spec =

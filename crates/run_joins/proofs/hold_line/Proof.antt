@@ -11,7 +11,7 @@ hold-on-requires c κs = search needs
 returns : tie.Need-returns
 returns c =
     let start = c .before .before .before in
-    ((c .hold-on .ensures)) ∙ laws.hold-first ((start .args .hold)) ((start .args .core .now)) ((c .before .if1 .taken))
+    ((c .hold-on .ensures .0)) ∙ laws.hold-first ((start .args .hold)) ((start .args .core .now)) ((c .before .if1 .taken))
 
 slice-aggregate-hold-on : tie.Need-slice-aggregate-hold-on
 slice-aggregate-hold-on c = search needs
@@ -25,7 +25,7 @@ hold-on-requires-3 c κs = search needs
 returns-2 : tie.Need-returns-2
 returns-2 c =
     let at5 = c .before .before .before .before .before in
-    (c .hold-on3 .ensures) ∙ ap (λ h. holdFrom h (at5 .args .core .now)) (c .before .hold-on2 .ensures) ∙ laws.hold-later (at5 .args .hold) (at5 .args .core .now) (c .before .before .before .if1 .left)
+    (c .hold-on3 .ensures .0) ∙ ap (λ h. holdFrom h (at5 .args .core .now)) (c .before .hold-on2 .ensures .0) ∙ laws.hold-later (at5 .args .hold) (at5 .args .core .now) (c .before .before .before .if1 .left)
 
 pub hold-line-spec : {M : Type 1} → statement M
 hold-line-spec =

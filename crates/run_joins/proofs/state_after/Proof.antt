@@ -15,7 +15,7 @@ hold-line-requires c κs = search needs
 returns : tie.Need-returns
 returns c =
     let at6 = c .before .before .before .before .before .before in
-    laws.state-is _ (at6 .args .st) (at6 .args .pad) (at6 .args .line .now) (at6 .pre) (c .before .before .before .brace-after .ensures) (c .before .before .open-quote-at-end .ensures) (c .hold-line .ensures)
+    laws.state-is _ (at6 .args .st) (at6 .args .pad) (at6 .args .line .now) (at6 .pre) (c .before .before .before .brace-after .ensures) (c .before .before .open-quote-at-end .ensures .0) (c .hold-line .ensures)
 
 pub state-after-spec : {M : Type 1} → statement M
 state-after-spec =

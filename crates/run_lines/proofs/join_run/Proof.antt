@@ -17,7 +17,7 @@ hold-start-requires : tie.Need-hold-start-requires Inv-lines μ-lines
 hold-start-requires c κs = search needs
 
 lines-holds : tie.Need-lines-holds Inv-lines μ-lines
-lines-holds c = laws.joins-start _ _ _ _ ((c .hold-start .ensures))
+lines-holds c = laws.joins-start _ _ _ _ ((c .hold-start .ensures .0))
 
 refused-requires : tie.Need-refused-requires Inv-lines μ-lines
 refused-requires c κs = search needs
@@ -92,7 +92,7 @@ same-length : tie.Need-same-length Inv-lines μ-lines
 same-length c = laws.has-long ((c .before .before .lines .inv .has))
 
 returns : tie.Need-returns Inv-lines μ-lines
-returns c = laws.joins-end ((c .before .before .lines .inv)) ((c .before .if1 .taken)) ((c .refused .ensures))
+returns c = laws.joins-no _ _ _ _ (laws.joins-end ((c .before .before .lines .inv)) ((c .before .if1 .taken)) ((c .refused .ensures)))
 
 same-length-2 : tie.Need-same-length-2 Inv-lines μ-lines
 same-length-2 c =
@@ -102,7 +102,7 @@ same-length-2 c =
 returns-2 : tie.Need-returns-2 Inv-lines μ-lines
 returns-2 c =
     let at5 = c .before .before .before .before .before in let at8 = at5 .before .before .before in let at9 = at8 .before in let at10 = at9 .before in
-    laws.joins-broken (at10 .lines .inv) (at9 .if1 .left) (at8 .line-from .ensures) (at5 .join-line .ensures) ((c .before .enum-told .given) .1) (c .refused2 .ensures)
+    laws.joins-no _ _ _ _ (laws.joins-broken (at10 .lines .inv) (at9 .if1 .left) (at8 .line-from .ensures) (at5 .join-line .ensures) ((c .before .enum-told .given) .1) (c .refused2 .ensures))
 
 same-length-3 : tie.Need-same-length-3 Inv-lines μ-lines
 same-length-3 c =
@@ -112,7 +112,7 @@ same-length-3 c =
 returns-3 : tie.Need-returns-3 Inv-lines μ-lines
 returns-3 c =
     let at5 = c .before .before .before .before .before in let at8 = at5 .before .before .before in let at9 = at8 .before in let at10 = at9 .before in
-    laws.joins-full (at10 .lines .inv) (at9 .if1 .left) (at8 .line-from .ensures) (at5 .join-line .ensures) ((c .before .enum-told2 .given) .1) (c .refused3 .ensures)
+    laws.joins-no _ _ _ _ (laws.joins-full (at10 .lines .inv) (at9 .if1 .left) (at8 .line-from .ensures) (at5 .join-line .ensures) ((c .before .enum-told2 .given) .1) (c .refused3 .ensures))
 
 same-length-4 : tie.Need-same-length-4 Inv-lines μ-lines
 same-length-4 c =
@@ -122,7 +122,7 @@ same-length-4 c =
 returns-4 : tie.Need-returns-4 Inv-lines μ-lines
 returns-4 c =
     let at6 = c .before .before .before .before .before .before in let at9 = at6 .before .before .before in let at10 = at9 .before in let at11 = at10 .before in
-    laws.joins-closed (at11 .lines .inv) (at10 .if1 .left) (at9 .line-from .ensures) (at6 .join-line .ensures) ((c .before .before .v .given) .1) (c .closed .ensures)
+    laws.joins-no _ _ _ _ (laws.joins-closed (at11 .lines .inv) (at10 .if1 .left) (at9 .line-from .ensures) (at6 .join-line .ensures) ((c .before .before .v .given) .1) (c .closed .ensures))
 
 pub join-run-spec : {M : Type 1} → statement M
 join-run-spec =

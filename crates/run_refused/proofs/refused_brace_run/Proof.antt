@@ -1,5 +1,6 @@
 use lib.ListN.{length}
 use Rattle.run_refused.proofs.Answers as laws
+use Rattle.run_refused.proofs.Numbers.{said-run}
 use borrow.Author.Needs.{needs}
 use Rattle.run_refused.proofs.refused_brace_run.Statement.{statement}
 use Rattle.run_refused.proofs.refused_brace_run.Tie as tie
@@ -31,17 +32,19 @@ enum-known-r-2 c = search needs
 refused-at-requires : tie.Need-refused-at-requires
 refused-at-requires c κs =
     let at4 = c .before .before .before .before in let at5 = at4 .before in let at7 = at5 .before .before in let at10 = at7 .before .before .before in
-    (laws.passes-short (at10 .args .text .now) (at7 .check-text .ensures) ((at5 .enum-told .given) .1), laws.run-in (length (at10 .args .join .now)) (at10 .args .text .now) (at10 .args .line) (at7 .check-text .ensures) ((at5 .enum-told .given) .1) (at4 .line-of .ensures) ((c .before .before .r2 .given) .1))
+    (laws.passes-short (at10 .args .text .now) (at7 .check-text .ensures .0) ((at5 .enum-told .given) .1), laws.run-in (length (at10 .args .join .now)) (at10 .args .text .now) (at10 .args .line) (at7 .check-text .ensures .0) ((at5 .enum-told .given) .1) (at4 .line-of .ensures .0) ((c .before .before .r2 .given) .1))
 
 returns : tie.Need-returns
 returns c =
     let at4 = c .before .before .before .before in let at7 = at4 .before .before .before in
-    laws.unjoined-told _ _ (laws.run-refused (length (at7 .args .join .now)) (at7 .args .text .now) (at7 .args .line) (at4 .check-text .ensures) ((c .before .before .r .given) .1)) (c .unjoined-run .ensures)
+    said-run (at7 .args .join .now) (at7 .args .text .now) (at7 .args .line)
+    (laws.unjoined-told _ _ (laws.run-refused (length (at7 .args .join .now)) (at7 .args .text .now) (at7 .args .line) (at4 .check-text .ensures .0) ((c .before .before .r .given) .1)) (c .unjoined-run .ensures))
 
 returns-2 : tie.Need-returns-2
 returns-2 c =
     let at4 = c .before .before .before .before in let at6 = at4 .before .before in let at9 = at6 .before .before .before in
-    laws.unjoined-told _ _ (laws.run-missing (length (at9 .args .join .now)) (at9 .args .text .now) (at9 .args .line) (at6 .check-text .ensures) ((at4 .enum-told .given) .1) (c .before .before .before .line-of .ensures) ((c .before .enum-told2 .given) .1)) (c .unjoined-run2 .ensures)
+    said-run (at9 .args .join .now) (at9 .args .text .now) (at9 .args .line)
+    (laws.unjoined-told _ _ (laws.run-missing (length (at9 .args .join .now)) (at9 .args .text .now) (at9 .args .line) (at6 .check-text .ensures .0) ((at4 .enum-told .given) .1) (c .before .before .before .line-of .ensures .0) ((c .before .enum-told2 .given) .1)) (c .unjoined-run2 .ensures))
 
 same-length : tie.Need-same-length
 same-length c = search needs
@@ -50,7 +53,8 @@ returns-3 : tie.Need-returns-3
 returns-3 c =
     let at5 = c .before .before .before .before .before in let at7 = at5 .before .before in let at8 = at7 .before in let at10 = at8 .before .before in
     let at13 = at10 .before .before .before in
-    rw (laws.run-at (length (at13 .args .join .now)) (at13 .args .text .now) (at13 .args .line) (at10 .check-text .ensures) ((at8 .enum-told .given) .1) (at7 .line-of .ensures) ((at5 .r2 .given) .1)) (c .before .before .refused-at .ensures)
+    said-run (at13 .args .join .now) (at13 .args .text .now) (at13 .args .line)
+    (rw (laws.run-at (length (at13 .args .join .now)) (at13 .args .text .now) (at13 .args .line) (at10 .check-text .ensures .0) ((at8 .enum-told .given) .1) (at7 .line-of .ensures .0) ((at5 .r2 .given) .1)) (c .before .before .refused-at .ensures))
 
 pub refused-brace-run-spec : {M : Type 1} → statement M
 refused-brace-run-spec =

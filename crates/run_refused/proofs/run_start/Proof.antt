@@ -6,7 +6,7 @@ hold-start-requires : tie.Need-hold-start-requires
 hold-start-requires c κs = search needs
 
 returns : tie.Need-returns
-returns c = rw (c .hold-start .ensures)
+returns c = rw (c .hold-start .ensures .0)
 
 pub run-start-spec : {M : Type 1} → statement M
 run-start-spec = tie.close (tie.spec hold-start-requires returns)

@@ -23,7 +23,7 @@ returns : tie.Need-returns
 unfolding spotAfter
 returns c =
     let at5 = c .before .before .before .before .before in
-    rw ((c .before .before .before .pass .ensures), (c .before .before .column-behind .ensures) ∙ capped-id _ (omega (arith, (at5 .pre), behind-le (at5 .args .p .scan .escaped) (at5 .args .p .column) (at5 .args .b))), (c .before .inside-after .ensures), (c .brace-after .ensures))
+    rw ((c .before .before .before .pass .ensures .0), (c .before .before .column-behind .ensures) ∙ capped-id _ (omega (arith, (at5 .pre), behind-le (at5 .args .p .scan .escaped) (at5 .args .p .column) (at5 .args .b))), (c .before .inside-after .ensures), (c .brace-after .ensures))
 
 pub spot-after-spec : {M : Type 1} → statement M
 spot-after-spec =

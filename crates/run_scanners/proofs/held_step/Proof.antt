@@ -31,7 +31,7 @@ pass-requires c κs = search needs
 
 returns-5 : tie.Need-returns-5
 unfolding heldStep
-returns-5 c = rw (sym (c .before .before .before .before .is-bare .ensures) ∙ (c .before .before .before .if1 .left), sym (c .before .before .is-bare2 .ensures) ∙ (c .before .if3 .left), (c .pass .ensures))
+returns-5 c = rw (sym (c .before .before .before .before .is-bare .ensures) ∙ (c .before .before .before .if1 .left), sym (c .before .before .is-bare2 .ensures) ∙ (c .before .if3 .left), (c .pass .ensures .0))
 
 pub held-step-spec : {M : Type 1} → statement M
 held-step-spec =

@@ -14,7 +14,7 @@ is-held-requires c κs = search needs
 
 returns : tie.Need-returns
 unfolding holdsOpen
-returns c = rw ((c .is-held .ensures), (c .before .hold-on .ensures), (c .before .before .hold-start .ensures))
+returns c = rw ((c .is-held .ensures), (c .before .hold-on .ensures .0), (c .before .before .hold-start .ensures .0))
 
 pub holds-open-attr-block-spec : {M : Type 1} → statement M
 holds-open-attr-block-spec =

@@ -1,8 +1,10 @@
+use mathlib.Core.Path.{refl}
 use Prim.Native.Nat.{_-_}
 use native.Mathlib.Omega.{arith}
 use lib.ListN.{length}
 use Rattle.text_tabs.proofs.Laws.{capped-id}
-use Rattle.run_scanners.specs.Scanners.{lastOpenBrace, cappedAt, seekFrom}
+use Rattle.base_refusals.proofs.Said.{said}
+use Rattle.run_scanners.specs.Scanners.{lastOpenBrace, cappedAt, seekFrom, columnPaper}
 use Rattle.run_scanners.proofs.Laws as laws
 use Rattle.run_scanners.proofs.last_open_brace_column.Statement.{statement}
 use Rattle.run_scanners.proofs.last_open_brace_column.Tie as tie
@@ -33,7 +35,7 @@ loop-again c = laws.seeks-go (c .before .before .before .loop .inv) (omega arith
 
 returns : tie.Need-returns Inv-loop μ-loop
 unfolding lastOpenBrace
-returns c = laws.seeks-end (c .before .loop .inv) (omega arith)
+returns c = said columnPaper refl (laws.seeks-end (c .before .loop .inv) (omega arith))
 
 pub last-open-brace-column-spec : {M : Type 1} → statement M
 last-open-brace-column-spec =

@@ -3,7 +3,8 @@ use Prim.Native.Nat.{_-_}
 use native.Mathlib.Omega.{arith}
 use borrow.Author.Needs.{needs}
 use lib.ListN.{length}
-use Rattle.run_scanners.specs.Scanners.{openQuoteAtEnd}
+use Rattle.base_refusals.proofs.Said.{said}
+use Rattle.run_scanners.specs.Scanners.{openQuoteAtEnd, quotePaper}
 use Rattle.run_scanners.proofs.Laws as laws
 use Rattle.run_scanners.proofs.open_quote_at_end.Statement.{statement}
 use Rattle.run_scanners.proofs.open_quote_at_end.Tie as tie
@@ -31,10 +32,10 @@ loop-less : tie.Need-loop-less Inv-loop μ-loop
 loop-less c = omega arith
 
 loop-again : tie.Need-loop-again Inv-loop μ-loop
-loop-again c = laws.opens-go (c .before .before .before .loop .inv) (omega arith) (c .pass .ensures)
+loop-again c = laws.opens-go (c .before .before .before .loop .inv) (omega arith) (c .pass .ensures .0)
 
 returns : tie.Need-returns Inv-loop μ-loop
-returns c = laws.opens-end (c .before .loop .inv) (omega arith)
+returns c = said quotePaper refl (laws.opens-end (c .before .loop .inv) (omega arith))
 
 pub open-quote-at-end-spec : {M : Type 1} → statement M
 open-quote-at-end-spec =

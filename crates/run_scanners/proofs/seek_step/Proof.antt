@@ -15,11 +15,11 @@ is-bare-requires c κs = search needs
 
 returns : tie.Need-returns
 unfolding seekStep
-returns c = rw (sym (c .before .is-bare .ensures) ∙ (c .if1 .taken), (c .before .before .pass .ensures), (c .before .before .before .column-behind .ensures), ap (λ j. j .column) (c .before .before .before .before .before .pre))
+returns c = rw (sym (c .before .is-bare .ensures) ∙ (c .if1 .taken), (c .before .before .pass .ensures .0), (c .before .before .before .column-behind .ensures), ap (λ j. j .column) (c .before .before .before .before .before .pre))
 
 returns-2 : tie.Need-returns-2
 unfolding seekStep
-returns-2 c = rw (sym (c .before .is-bare .ensures) ∙ (c .if1 .left), (c .before .before .pass .ensures), (c .before .before .before .column-behind .ensures), ap (λ j. j .found) (c .before .before .before .before .before .pre))
+returns-2 c = rw (sym (c .before .is-bare .ensures) ∙ (c .if1 .left), (c .before .before .pass .ensures .0), (c .before .before .before .column-behind .ensures), ap (λ j. j .found) (c .before .before .before .before .before .pre))
 
 pub seek-step-spec : {M : Type 1} → statement M
 seek-step-spec =

@@ -1,5 +1,7 @@
 use native.Mathlib.Omega.{arith}
 use Rattle.set_fill.proofs.Whole as whole
+use Rattle.set_table.proofs.Numbers.{said}
+use Rattle.set_fill.proofs.Numbers.{fill-no}
 use borrow.Author.Needs.{needs}
 use Rattle.set_fill.proofs.fill.Statement.{statement}
 use Rattle.set_fill.proofs.fill.Tie as tie
@@ -11,7 +13,7 @@ refusing-requires : tie.Need-refusing-requires
 refusing-requires c κs = search needs
 
 returns : tie.Need-returns
-returns c = let a = (c .before .before .before .before .args) in whole.too-long (a .mode) (a .text .now) (a .at) (a .end) (c .before .before .too-long .ensures) (c .before .if1 .taken) (c .refusing .ensures)
+returns c = let a = (c .before .before .before .before .args) in said (fill-no _ _ _ _) (whole.too-long (a .mode) (a .text .now) (a .at) (a .end) (c .before .before .too-long .ensures) (c .before .if1 .taken) (c .refusing .ensures .0))
 
 bytes-of-requires : tie.Need-bytes-of-requires
 bytes-of-requires c κs = search needs
@@ -25,7 +27,7 @@ refusing-requires-2 c κs = search needs
 returns-2 : tie.Need-returns-2
 returns-2 c =
     let at4 = c .before .before .before .before in let at5 = at4 .before in let at7 = at5 .before .before in
-    let a = (at7 .args) in whole.no-token (a .mode) (a .text .now) (a .at) (a .end) (at5 .too-long .ensures) (at4 .if1 .left) (c .before .before .before .bytes-of .ensures) (c .before .before .blank-end .ensures) (omega (arith, (c .before .if2 .taken))) (c .refusing2 .ensures)
+    let a = (at7 .args) in said (fill-no _ _ _ _) (whole.no-token (a .mode) (a .text .now) (a .at) (a .end) (at5 .too-long .ensures) (at4 .if1 .left) (c .before .before .before .bytes-of .ensures) (c .before .before .blank-end .ensures) (omega (arith, (c .before .if2 .taken))) (c .refusing2 .ensures .0))
 
 empty-requires : tie.Need-empty-requires
 empty-requires c κs = search needs
@@ -40,7 +42,7 @@ fill-unless-requires c κs =
 returns-3 : tie.Need-returns-3
 returns-3 c =
     let at4 = c .before .before .before .before in let at5 = at4 .before in let at6 = at5 .before in let at8 = at6 .before .before in
-    let a = (at8 .args) in whole.tokens (a .mode) (a .text .now) (a .at) (a .end) (at6 .too-long .ensures) (at5 .if1 .left) (at4 .bytes-of .ensures) (c .before .before .before .blank-end .ensures) (omega (arith, (c .before .before .if2 .left))) (c .fill-unless .ensures)
+    let a = (at8 .args) in said (fill-no _ _ _ _) (whole.tokens (a .mode) (a .text .now) (a .at) (a .end) (at6 .too-long .ensures) (at5 .if1 .left) (at4 .bytes-of .ensures) (c .before .before .before .blank-end .ensures) (omega (arith, (c .before .before .if2 .left))) (c .fill-unless .ensures))
 
 pub fill-spec : {M : Type 1} → statement M
 fill-spec =

@@ -2,6 +2,8 @@ use native.Mathlib.Omega.{arith}
 use Rattle.base_bytes.specs.declared.Mode.the-variants.{Loose}
 use Rattle.set_fill.proofs.Chains as chains
 use Rattle.set_fill.proofs.Whole as whole
+use Rattle.set_table.proofs.Numbers.{said}
+use Rattle.set_fill.proofs.Numbers.{chain-no}
 use borrow.Author.Needs.{needs}
 use Rattle.set_fill.proofs.fill_chain.Statement.{statement}
 use Rattle.set_fill.proofs.fill_chain.Tie as tie
@@ -13,7 +15,7 @@ refusing-requires : tie.Need-refusing-requires
 refusing-requires c κs = search needs
 
 returns : tie.Need-returns
-returns c = let a = (c .before .before .before .before .args) in whole.line-too-long (a .text .now) (a .from) (a .to) Loose (c .before .before .too-long .ensures) (c .before .if1 .taken) (c .refusing .ensures)
+returns c = let a = (c .before .before .before .before .args) in said (chain-no _ _ _ _) (whole.line-too-long (a .text .now) (a .from) (a .to) Loose (c .before .before .too-long .ensures) (c .before .if1 .taken) (c .refusing .ensures .0))
 
 bytes-of-requires : tie.Need-bytes-of-requires
 bytes-of-requires c κs = search needs
@@ -53,17 +55,17 @@ fill-unless-requires c κs =
 returns-2 : tie.Need-returns-2
 returns-2 c =
     let at4 = c .before .before .before .before in let at5 = at4 .before in let at6 = at5 .before in let at8 = at6 .before .before in
-    let a = (at8 .args) in whole.no-block (a .text .now) (a .from) (a .to) (at6 .too-long .ensures) (at5 .if1 .left) (at4 .bytes-of .ensures) (c .before .before .before .next-block .ensures) (c .before .enum-told .given .1) (c .refusing2 .ensures)
+    let a = (at8 .args) in said (chain-no _ _ _ _) (whole.no-block (a .text .now) (a .from) (a .to) (at6 .too-long .ensures) (at5 .if1 .left) (at4 .bytes-of .ensures) (c .before .before .before .next-block .ensures) (c .before .enum-told .given .1) (c .refusing2 .ensures .0))
 
 returns-3 : tie.Need-returns-3
 returns-3 c =
     let at4 = c .before .before .before .before in let at5 = at4 .before in let at6 = at5 .before in let at8 = at6 .before .before in
-    let a = (at8 .args) in whole.unread (a .text .now) (a .from) (a .to) (at6 .too-long .ensures) (at5 .if1 .left) (at4 .bytes-of .ensures) (c .before .before .before .next-block .ensures) (c .before .enum-told2 .given .1) (c .refusing3 .ensures)
+    let a = (at8 .args) in said (chain-no _ _ _ _) (whole.unread (a .text .now) (a .from) (a .to) (at6 .too-long .ensures) (at5 .if1 .left) (at4 .bytes-of .ensures) (c .before .before .before .next-block .ensures) (c .before .enum-told2 .given .1) (c .refusing3 .ensures .0))
 
 returns-4 : tie.Need-returns-4
 returns-4 c =
     let at5 = c .before .before .before .before .before in let at6 = at5 .before in let at7 = at6 .before in let at8 = at7 .before in let at10 = at8 .before .before in
-    let a = (at10 .args) in whole.blocks (a .text .now) (a .from) (a .to) (at8 .too-long .ensures) (at7 .if1 .left) (at6 .bytes-of .ensures) (at5 .next-block .ensures) (c .before .before .before .e .given .1) (c .fill-unless .ensures)
+    let a = (at10 .args) in said (chain-no _ _ _ _) (whole.blocks (a .text .now) (a .from) (a .to) (at8 .too-long .ensures) (at7 .if1 .left) (at6 .bytes-of .ensures) (at5 .next-block .ensures) (c .before .before .before .e .given .1) (c .fill-unless .ensures))
 
 pub fill-chain-spec : {M : Type 1} → statement M
 fill-chain-spec =

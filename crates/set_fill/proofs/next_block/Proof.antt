@@ -29,7 +29,7 @@ enum-known-e c = search needs
 slice-aggregate-blank-end : tie.Need-slice-aggregate-blank-end
 slice-aggregate-blank-end c =
     let at4 = c .before .before .before .before in let at5 = at4 .before in let at7 = at5 .before .before in let at9 = at7 .before .before in
-    sym (chains.closed (at9 .args .mode) _ _ (omega (arith, (at7 .if1 .left))) (at5 .if2 .left) (at4 .find-close .ensures) (c .before .before .e .given .1))
+    sym (chains.closed (at9 .args .mode) _ _ (omega (arith, (at7 .if1 .left))) (at5 .if2 .left) (at4 .find-close .ensures .0) (c .before .before .e .given .1))
 
 add-blank-end : tie.Need-add-blank-end
 add-blank-end c = search needs
@@ -40,15 +40,15 @@ blank-end-requires c κs = search needs
 returns-3 : tie.Need-returns-3
 returns-3 c =
     let at4 = c .before .before .before .before in let at6 = at4 .before .before in let at7 = at6 .before in let at9 = at7 .before .before in
-    chains.no-token _ _ _ (omega (arith, (at9 .if1 .left))) (at7 .if2 .left) (at6 .find-close .ensures) (at4 .e .given .1) (c .before .blank-end .ensures) (omega (arith, (c .if3 .taken)))
+    chains.no-token _ _ _ (omega (arith, (at9 .if1 .left))) (at7 .if2 .left) (at6 .find-close .ensures .0) (at4 .e .given .1) (c .before .blank-end .ensures) (omega (arith, (c .if3 .taken)))
 
 returns-4 : tie.Need-returns-4
-returns-4 c = chains.no-close _ _ _ (omega (arith, (c .before .before .before .before .before .if1 .left))) (c .before .before .before .if2 .left) (c .before .before .find-close .ensures) (c .enum-told .given .1)
+returns-4 c = chains.no-close _ _ _ (omega (arith, (c .before .before .before .before .before .if1 .left))) (c .before .before .before .if2 .left) (c .before .before .find-close .ensures .0) (c .enum-told .given .1)
 
 returns-5 : tie.Need-returns-5
 returns-5 c =
     let at4 = c .before .before .before .before in let at6 = at4 .before .before in let at7 = at6 .before in let at9 = at7 .before .before in
-    chains.token _ _ _ (omega (arith, (at9 .if1 .left))) (at7 .if2 .left) (at6 .find-close .ensures) (at4 .e .given .1) (c .before .blank-end .ensures) (omega (arith, (c .if3 .left)))
+    chains.token _ _ _ (omega (arith, (at9 .if1 .left))) (at7 .if2 .left) (at6 .find-close .ensures .0) (at4 .e .given .1) (c .before .blank-end .ensures) (omega (arith, (c .if3 .left)))
 
 pub next-block-spec : {M : Type 1} → statement M
 next-block-spec =

@@ -1,4 +1,6 @@
+use mathlib.Core.Path.{refl}
 use native.Mathlib.Omega.{arith}
+use Rattle.set_table.proofs.Numbers.{said}
 use borrow.Author.Needs.{needs}
 use Rattle.set_fill.proofs.refusing.Statement.{statement}
 use Rattle.set_fill.proofs.refusing.Tie as tie
@@ -16,7 +18,7 @@ fill-unless-requires : tie.Need-fill-unless-requires
 fill-unless-requires c κs = (omega (arith), omega (arith), omega (arith), (c .empty .ensures))
 
 returns : tie.Need-returns
-returns c = (c .fill-unless .ensures)
+returns c = said refl (c .fill-unless .ensures)
 
 pub refusing-spec : {M : Type 1} → statement M
 refusing-spec =

@@ -40,16 +40,14 @@ use Rattle.set_table.specs.declared.Attrs.{Attrs}
 use Rattle.set_table.proofs.Attrs as T
 use Rattle.set_table.proofs.Attrs.Laws as T′
 use Rattle.base_refusals.specs.declared.Outcome.{Outcome}
-use Rattle.set_table.specs.declared.Filled.{Filled}
 use Rattle.base_refusals.proofs.Outcome as O
 use Rattle.base_refusals.proofs.Outcome.Laws as O′
-use Rattle.set_merge.specs.Merge.{mergeOf}
 use Rattle.set_lent.specs.declared.Both.{Both}
 use Rattle.set_lent.proofs.Both as B
 use Rattle.set_lent.proofs.Both.Laws as B′
-use Rattle.set_lent.proofs.Standing.{both-is}
+use Rattle.set_lent.proofs.Standing.{both-said}
 use Rattle.set_lent.proofs.Taken.{setVal, Text}
-use Rattle.set_lent.proofs.Walk.{Lent}
+use Rattle.set_lent.proofs.Walk.{behind, before, Lent}
 use Rattle.set_lent.proofs.Loan.{Said, merges-into}
 use Rattle.set_lent.proofs.merge_leading_into.Symbol as led-def
 use Rattle.set_lent.proofs.merge_leading_into.Symbol.{name as #set-lent·merge-leading-into}
@@ -71,13 +69,6 @@ outVal = EL.val O.the-type O′.the-laws
 
 abbrev bothVal : Both → Val
 bothVal = LL.val B.the-type B′.the-laws
-
--- what the two merges on the local come to: h is the set that stands there
-abbrev behind : List ℕ → Attrs → Attrs → Filled
-behind t h s = mergeOf t h s
-
-abbrev before : List ℕ → Attrs → Attrs → Filled
-before t h s = mergeOf t s h
 
 module _ {M : Type 1} (𝓤 : URA M) (H : Heap 𝓤) (A : Atoms 𝓤) (W : Given 𝓤 H A) (at-mem : Memory → SProp 𝓤) (run : Routine → Fun 𝓤) (κ : Lft) (q : Share) (t : RefT (List ℕ)) (h l s : Attrs)
     (gt : Is (ShrSlice (named 0) κ u8) t (slice-vals t)) (gh : Is T.the-row h (setVal h ∷ [])) (gl : Is T.the-row l (setVal l ∷ [])) (gs : Is T.the-row s (setVal s ∷ [])) where
@@ -107,7 +98,7 @@ module _ {M : Type 1} (𝓤 : URA M) (H : Heap 𝓤) (A : Atoms 𝓤) (W : Given
   exits : (r r′ : Outcome) (y z : Attrs) → Said before t h l r y → Said behind t y s r′ z → Is B.the-row (made r r′ z) (bothVal (made r r′ z) ∷ []) → ent 𝓤 (⋆ 𝓤 H A ((‵ (flft κ q) ⊛ ‵ ftrue) ∷ ‵ (Text κ t) ∷ ‵ Kept ∷ [])) (Post (bothVal (made r r′ z)))
   exits r r′ y z e f is =
       qed W ((‵ (flft κ q) ⊛ ‵ ftrue) ∷ ‵ (Text κ t) ∷ ‵ Kept ∷ []) ∵
-      suffices ! _ (ends-at 𝓤 H A both.ended stayed (both.clauses 𝓤 H A at-mem run) W (((κ, tt), (q, tt), tt, x, at), tt) (bothVal (made r r′ z)) (made r r′ z) (tt, (tt, (tt, (tt, tt)))) (tt, (tt, (tt, (tt, tt))))) $ says ! (both-is (now t) h l s e f) $
+      suffices ! _ (ends-at 𝓤 H A both.ended stayed (both.clauses 𝓤 H A at-mem run) W (((κ, tt), (q, tt), tt, x, at), tt) (bothVal (made r r′ z)) (made r r′ z) (tt, (tt, (tt, (tt, tt)))) (tt, (tt, (tt, (tt, tt))))) $ says ! (both-said (now t) h l s e f) $
       frame ! $ fjoin ! $ frame ! $ owned ! B.the-row (Is B.the-row) (LL.makes B.the-type B′.the-plain 𝓤 H A) (made r r′ z) _ is $ done !
 
   module _ (C : Calls 𝓤 H) (Λ : Loops 𝓤 H) (fm : FmC 𝓤 H (W .laws) C) (known-led : Triple 𝓤 (C #set-lent·merge-leading-into) (Lent before 𝓤 H A)) (known-into : Triple 𝓤 (C #set-lent·merge-into) (Lent behind 𝓤 H A)) where

@@ -28,16 +28,16 @@ marked-len-requires : tie.Need-marked-len-requires Inv-pieces μ-pieces
 marked-len-requires c κs = search needs
 
 add-n : tie.Need-add-n Inv-pieces μ-pieces
-add-n c = let at4 = c .before .before .before .before in let at5 = at4 .before in omega (arith, values.byte-in _ (at4 .value-piece .ensures) (c .before .before .b .given .1), (c .marked-len .ensures), (at5 .pieces .inv))
+add-n c = let at4 = c .before .before .before .before in let at5 = at4 .before in omega (arith, values.byte-in _ (at4 .value-piece .ensures .0) (c .before .before .b .given .1), (c .marked-len .ensures), (at5 .pieces .inv))
 
 pieces-less : tie.Need-pieces-less Inv-pieces μ-pieces
-pieces-less c = omega (arith, values.byte-in _ ((c .before .before .before .before .value-piece .ensures)) ((c .before .before .b .given .1)))
+pieces-less c = omega (arith, values.byte-in _ ((c .before .before .before .before .value-piece .ensures .0)) ((c .before .before .b .given .1)))
 
 pieces-again : tie.Need-pieces-again Inv-pieces μ-pieces
-pieces-again c = let at4 = c .before .before .before .before in let at5 = at4 .before in rw (c .marked-len .ensures) (values.counts-go (at5 .pieces .inv) (values.byte-in _ (at4 .value-piece .ensures) (c .before .before .b .given .1)))
+pieces-again c = let at4 = c .before .before .before .before in let at5 = at4 .before in rw (c .marked-len .ensures) (values.counts-go (at5 .pieces .inv) (values.byte-in _ (at4 .value-piece .ensures .0) (c .before .before .b .given .1)))
 
 returns : tie.Need-returns Inv-pieces μ-pieces
-returns c = values.counts-end ((c .before .before .before .pieces .inv)) (values.end-in _ ((c .before .before .value-piece .ensures)) ((c .enum-told .given .1)))
+returns c = values.counts-end ((c .before .before .before .pieces .inv)) (values.end-in _ ((c .before .before .value-piece .ensures .0)) ((c .enum-told .given .1)))
 
 pub escaped-len-spec : {M : Type 1} → statement M
 escaped-len-spec =

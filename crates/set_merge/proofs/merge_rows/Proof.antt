@@ -27,7 +27,7 @@ refusing-requires : tie.Need-refusing-requires Inv-loop μ-loop
 refusing-requires c κs = search needs
 
 returns : tie.Need-returns Inv-loop μ-loop
-returns c = let at4 = c .before .before .before .before in rest.over-classes _ ((at4 .pre) .0) ((at4 .pre) .1) (simp length-map at ((at4 .good) .1 .1 .0 .1 .1 .1 .0 .1 .0 .1)) (c .before .if1 .taken) (c .refusing .ensures)
+returns c = let at4 = c .before .before .before .before in rest.over-classes _ ((at4 .pre) .0) ((at4 .pre) .1) (simp length-map at ((at4 .good) .1 .1 .0 .1 .1 .1 .0 .1 .0 .1)) (c .before .if1 .taken) (c .refusing .ensures .0)
 
 cast-n : tie.Need-cast-n Inv-loop μ-loop
 cast-n c = search needs
@@ -54,7 +54,7 @@ refusing-requires-2 c κs = search needs
 returns-2 : tie.Need-returns-2 Inv-loop μ-loop
 returns-2 c =
     let at5 = c .before .before .before .before .before in let at6 = at5 .before in let at10 = at6 .before .before .before .before in
-    rest.over-keys (at6 .loop .inv) ((at10 .pre) .1) (simp length-map at ((at10 .good) .1 .1 .0 .1 .1 .1 .1 .1 .1 .1 .0 .1 .0 .1)) (at5 .loop-test .taken) (c .before .before .before .put-slot .ensures) (not-true _ (c .before .if2 .taken)) (c .refusing2 .ensures)
+    rest.over-keys (at6 .loop .inv) ((at10 .pre) .1) (simp length-map at ((at10 .good) .1 .1 .0 .1 .1 .1 .1 .1 .1 .1 .0 .1 .0 .1)) (at5 .loop-test .taken) (c .before .before .before .put-slot .ensures) (not-true _ (c .before .if2 .taken)) (c .refusing2 .ensures .0)
 
 add-i : tie.Need-add-i Inv-loop μ-loop
 add-i c = omega (arith, (c .before .before .before .before .before .before .before .before .before .before .pre) .1 .norder)

@@ -6,6 +6,7 @@ use Rattle.set_canon.specs.Canon.{canon}
 use Rattle.set_table.specs.Types.{one}
 use Rattle.set_table.specs.Rows.{meaningOf}
 use Rattle.set_writer.proofs.Room as room
+use Rattle.set_writer.proofs.Numbers.{said, set-no}
 use borrow.Author.Needs.{needs}
 use Rattle.set_writer.proofs.write_set.Statement.{statement}
 use Rattle.set_writer.proofs.write_set.Tie as tie
@@ -35,7 +36,7 @@ returns : tie.Need-returns
 returns c =
     let at5 = c .before .before .before .before .before in let at7 = at5 .before .before in let at10 = at7 .before .before .before in
     let xs = canon (meaningOf (one (at10 .args .text .now)) (at10 .args .set)) in
-    room.refused xs (at10 .args .out .now) (at7 .least .ensures) (at5 .walk .ensures .0) (at5 .walk .ensures .1) (c .before .why .given .1)
+    said (set-no _ _) (room.refused xs (at10 .args .out .now) (at7 .least .ensures) (at5 .walk .ensures .0) (at5 .walk .ensures .1) (c .before .why .given .1))
 
 same-length-2 : tie.Need-same-length-2
 same-length-2 c = search needs
@@ -45,7 +46,7 @@ returns-2 c =
     let at4 = c .before .before .before .before in let at8 = at4 .before .before .before .before in let at10 = at8 .before .before in
     let at13 = at10 .before .before .before in
     let xs = canon (meaningOf (one (at13 .args .text .now)) (at13 .args .set)) in
-    room.written xs (at13 .args .out .now) (at10 .least .ensures) (at8 .walk .ensures .0) (at8 .walk .ensures .1) (room.fits xs (at13 .args .out .now) (at10 .least .ensures) (at8 .walk .ensures .0) (at8 .walk .ensures .1) (at4 .enum-told .given .1)) (c .before .before .walk2 .ensures .0) (c .before .before .walk2 .ensures .1)
+    said (set-no _ _) (room.written xs (at13 .args .out .now) (at10 .least .ensures) (at8 .walk .ensures .0) (at8 .walk .ensures .1) (room.fits xs (at13 .args .out .now) (at10 .least .ensures) (at8 .walk .ensures .0) (at8 .walk .ensures .1) (at4 .enum-told .given .1)) (c .before .before .walk2 .ensures .0) (c .before .before .walk2 .ensures .1))
 
 pub write-set-spec : {M : Type 1} → statement M
 write-set-spec =

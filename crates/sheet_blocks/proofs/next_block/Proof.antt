@@ -4,6 +4,7 @@ use lib.ListN.{length}
 use native.Mathlib.Omega.{arith}
 use borrow.Author.Needs.{needs}
 use Rattle.sheet_blocks.proofs.Seeks as laws
+use Rattle.sheet_blocks.proofs.NextNumbers.{said, next-no}
 use Rattle.sheet_blocks.proofs.next_block.Statement.{statement}
 use Rattle.sheet_blocks.proofs.next_block.Tie as tie
 
@@ -23,7 +24,7 @@ same-length : tie.Need-same-length Inv-lines μ-lines
 same-length c = search needs
 
 returns : tie.Need-returns Inv-lines μ-lines
-returns c = rw (c .at-once .ensures) (laws.too-long _ _ _ (c .before .before .before .before .before .if1 .taken) (c .before .before .before .read-at .ensures))
+returns c = said (next-no _ _ _) (rw (c .at-once .ensures) (laws.too-long _ _ _ (c .before .before .before .before .before .if1 .taken) (c .before .before .before .read-at .ensures .0, c .before .before .before .read-at .ensures .1 .0)))
 
 read-at-requires-2 : tie.Need-read-at-requires-2 Inv-lines μ-lines
 read-at-requires-2 c κs = search needs
@@ -35,7 +36,7 @@ same-length-2 : tie.Need-same-length-2 Inv-lines μ-lines
 same-length-2 c = search needs
 
 returns-2 : tie.Need-returns-2 Inv-lines μ-lines
-returns-2 c = let at5 = c .before .before .before .before .before in let at6 = at5 .before in laws.too-short _ _ _ (at6 .if1 .left) (at5 .if2 .taken) (c .before .before .before .read-at2 .ensures) (c .short-join .ensures)
+returns-2 c = let at5 = c .before .before .before .before .before in let at6 = at5 .before in said (next-no _ _ _) (laws.too-short _ _ _ (at6 .if1 .left) (at5 .if2 .taken) (c .before .before .before .read-at2 .ensures .0, c .before .before .before .read-at2 .ensures .1 .0) (c .short-join .ensures))
 
 lines-holds : tie.Need-lines-holds Inv-lines μ-lines
 lines-holds c = laws.seeks-start _ _ _ (c .before .if1 .left) (c .if2 .left)
@@ -50,7 +51,7 @@ same-length-3 : tie.Need-same-length-3 Inv-lines μ-lines
 same-length-3 c = search needs
 
 returns-3 : tie.Need-returns-3 Inv-lines μ-lines
-returns-3 c = let at5 = c .before .before .before .before .before in let at6 = at5 .before in rw (c .at-once2 .ensures) (laws.seeks-end (at6 .lines .inv) (at5 .if3 .taken) (c .before .before .before .read-at3 .ensures))
+returns-3 c = let at5 = c .before .before .before .before .before in let at6 = at5 .before in said (next-no _ _ _) (rw (c .at-once2 .ensures) (laws.seeks-end (at6 .lines .inv) (at5 .if3 .taken) (c .before .before .before .read-at3 .ensures .0, c .before .before .before .read-at3 .ensures .1 .0)))
 
 may-open-requires : tie.Need-may-open-requires Inv-lines μ-lines
 may-open-requires c κs = search needs
@@ -64,7 +65,7 @@ same-length-4 c = search needs
 returns-4 : tie.Need-returns-4 Inv-lines μ-lines
 returns-4 c =
     let at4 = c .before .before .before .before in let at6 = at4 .before .before in let at7 = at6 .before in let at8 = at7 .before in let at9 = at8 .before in
-    laws.seeks-block (at9 .lines .inv) (at8 .if3 .left) (sym (at7 .may-open .ensures) ∙ (at6 .if4 .taken)) (at4 .read-at4 .ensures) (λ z. omega (arith, z, (c .if5 .taken)))
+    said (next-no _ _ _) (laws.seeks-block (at9 .lines .inv) (at8 .if3 .left) (sym (at7 .may-open .ensures) ∙ (at6 .if4 .taken)) (at4 .read-at4 .ensures .0, at4 .read-at4 .ensures .1 .0) (λ z. omega (arith, z, (c .if5 .taken))))
 
 line-from-requires : tie.Need-line-from-requires Inv-lines μ-lines
 line-from-requires c κs = search needs
@@ -78,7 +79,7 @@ lines-less c = let at9 = c .before .before .before .before .before .before .befo
 lines-again : tie.Need-lines-again Inv-lines μ-lines
 lines-again c =
     let at5 = c .before .before .before .before .before in let at7 = at5 .before .before in let at8 = at7 .before in let at9 = at8 .before in let at10 = at9 .before in
-    laws.seeks-past (at10 .lines .inv) (at9 .if3 .left) (sym (at8 .may-open .ensures) ∙ (at7 .if4 .taken)) (at5 .read-at4 .ensures) (omega (arith, (c .before .if5 .left))) (c .line-from .ensures)
+    laws.seeks-past (at10 .lines .inv) (at9 .if3 .left) (sym (at8 .may-open .ensures) ∙ (at7 .if4 .taken)) (at5 .read-at4 .ensures .0, at5 .read-at4 .ensures .1 .0) (omega (arith, (c .before .if5 .left))) (c .line-from .ensures)
 
 line-from-requires-2 : tie.Need-line-from-requires-2 Inv-lines μ-lines
 line-from-requires-2 c κs = search needs

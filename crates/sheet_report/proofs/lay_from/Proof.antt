@@ -56,7 +56,7 @@ done-requires-2 c κs = search needs
 same-length-5 : tie.Need-same-length-5 Inv-sheet μ-sheet
 same-length-5 c =
     let at6 = c .before .before .before .before .before .before in let at8 = at6 .before .before in let at9 = at8 .before in let at10 = at9 .before in
-    lays.join-same (at10 .sheet .inv) (omega (arith, (at9 .if1 .left))) (omega (arith, (at8 .if2 .left))) (at6 .next-block .ensures .0) (at6 .next-block .ensures .1)
+    lays.join-same (at10 .sheet .inv) (omega (arith, (at9 .if1 .left))) (omega (arith, (at8 .if2 .left))) (at6 .next-block .ensures .0) (at6 .next-block .ensures .1 .0)
 
 same-length-6 : tie.Need-same-length-6 Inv-sheet μ-sheet
 same-length-6 c = lays.lays-long (c .before .before .before .before .before .before .before .before .before .before .sheet .inv)
@@ -64,16 +64,16 @@ same-length-6 c = lays.lays-long (c .before .before .before .before .before .bef
 returns-3 : tie.Need-returns-3 Inv-sheet μ-sheet
 returns-3 c =
     let at6 = c .before .before .before .before .before .before in let at8 = at6 .before .before in let at9 = at8 .before in let at10 = at9 .before in
-    lays.lays-none (at10 .sheet .inv) (omega (arith, (at9 .if1 .left))) (omega (arith, (at8 .if2 .left))) (at6 .next-block .ensures .0) (at6 .next-block .ensures .1) (c .before .if3 .taken) (c .done2 .ensures)
+    lays.lays-none (at10 .sheet .inv) (omega (arith, (at9 .if1 .left))) (omega (arith, (at8 .if2 .left))) (at6 .next-block .ensures .0) (at6 .next-block .ensures .1 .0) (c .before .if3 .taken) (c .done2 .ensures)
 
 add-n : tie.Need-add-n Inv-sheet μ-sheet
 add-n c =
     let at6 = c .before .before .before .before .before .before in let at8 = at6 .before .before in let at9 = at8 .before in let at10 = at9 .before in
     omega (
       arith,
-      lays.sum-le (at10 .sheet .inv) (omega (arith, (at9 .if1 .left))) (omega (arith, (at8 .if2 .left))) (at6 .next-block .ensures .0) (at6 .next-block .ensures .1)
+      lays.sum-le (at10 .sheet .inv) (omega (arith, (at9 .if1 .left))) (omega (arith, (at8 .if2 .left))) (at6 .next-block .ensures .0) (at6 .next-block .ensures .1 .0)
           (c .before .if3 .left),
-      lays.next-within (at10 .sheet .inv) (omega (arith, (at9 .if1 .left))) (omega (arith, (at8 .if2 .left))) (at6 .next-block .ensures .0) (at6 .next-block .ensures .1)
+      lays.next-within (at10 .sheet .inv) (omega (arith, (at9 .if1 .left))) (omega (arith, (at8 .if2 .left))) (at6 .next-block .ensures .0) (at6 .next-block .ensures .1 .0)
           (c .before .if3 .left),
       (at10 .sheet .inv .fits),
     )
@@ -87,9 +87,9 @@ add-line c =
     let at15 = at14 .before in let at16 = at15 .before in
     omega (
       arith,
-      lays.sum-le (at16 .sheet .inv) (omega (arith, (at15 .if1 .left))) (omega (arith, (at14 .if2 .left))) (at12 .next-block .ensures .0) (at12 .next-block .ensures .1)
+      lays.sum-le (at16 .sheet .inv) (omega (arith, (at15 .if1 .left))) (omega (arith, (at14 .if2 .left))) (at12 .next-block .ensures .0) (at12 .next-block .ensures .1 .0)
           (at7 .if3 .left),
-      lays.next-within (at16 .sheet .inv) (omega (arith, (at15 .if1 .left))) (omega (arith, (at14 .if2 .left))) (at12 .next-block .ensures .0) (at12 .next-block .ensures .1)
+      lays.next-within (at16 .sheet .inv) (omega (arith, (at15 .if1 .left))) (omega (arith, (at14 .if2 .left))) (at12 .next-block .ensures .0) (at12 .next-block .ensures .1 .0)
           (at7 .if3 .left),
       (at16 .sheet .inv .fits),
     )
@@ -98,13 +98,13 @@ sheet-less : tie.Need-sheet-less Inv-sheet μ-sheet
 sheet-less c =
     let at7 = c .before .before .before .before .before .before .before in let at12 = at7 .before .before .before .before .before in let at14 = at12 .before .before in
     let at15 = at14 .before in let at16 = at15 .before in
-    lays.lays-less (at16 .sheet .inv) (omega (arith, (at15 .if1 .left))) (omega (arith, (at14 .if2 .left))) (at12 .next-block .ensures .0) (at12 .next-block .ensures .1) (at7 .if3 .left)
+    lays.lays-less (at16 .sheet .inv) (omega (arith, (at15 .if1 .left))) (omega (arith, (at14 .if2 .left))) (at12 .next-block .ensures .0) (at12 .next-block .ensures .1 .0) (at7 .if3 .left)
 
 sheet-again : tie.Need-sheet-again Inv-sheet μ-sheet
 sheet-again c =
     let at7 = c .before .before .before .before .before .before .before in let at12 = at7 .before .before .before .before .before in let at14 = at12 .before .before in
     let at15 = at14 .before in let at16 = at15 .before in
-    lays.lays-go (at16 .sheet .inv) (omega (arith, (at15 .if1 .left))) (omega (arith, (at14 .if2 .left))) (at12 .next-block .ensures .0) (at12 .next-block .ensures .1) (at7 .if3 .left) (c .before .before .before .lay-block .ensures)
+    lays.lays-go (at16 .sheet .inv) (omega (arith, (at15 .if1 .left))) (omega (arith, (at14 .if2 .left))) (at12 .next-block .ensures .0) (at12 .next-block .ensures .1 .0) (at7 .if3 .left) (c .before .before .before .lay-block .ensures)
 
 pub lay-from-spec : {M : Type 1} → statement M
 lay-from-spec =

@@ -15,8 +15,8 @@ returns c =
 lay-refused-requires : tie.Need-lay-refused-requires
 lay-refused-requires c κs = search needs
 
-done-requires : tie.Need-done-requires
-done-requires c κs = search needs
+refused-requires-2 : tie.Need-refused-requires-2
+refused-requires-2 c κs = search needs
 
 same-length : tie.Need-same-length
 same-length c = search needs
@@ -24,9 +24,9 @@ same-length c = search needs
 returns-2 : tie.Need-returns-2
 returns-2 c =
     let at5 = c .before .before .before .before .before in let at7 = at5 .before .before in
-    entries.refusal-laid (at7 .args .out .now) (at7 .args .why) (omega (arith, (at5 .if1 .left))) (c .before .before .before .lay-refused .ensures) (c .done .ensures)
+    entries.refusal-laid (at7 .args .out .now) (at7 .args .why) (omega (arith, (at5 .if1 .left))) (c .before .before .before .lay-refused .ensures) (c .refused2 .ensures)
 
 pub lay-refusal-spec : {M : Type 1} → statement M
 lay-refusal-spec =
     tie.close
-    (tie.spec refused-requires returns lay-refused-requires done-requires same-length returns-2)
+    (tie.spec refused-requires returns lay-refused-requires refused-requires-2 same-length returns-2)

@@ -24,7 +24,7 @@ same-length c = search needs
 returns : tie.Need-returns
 returns c =
     let at6 = c .before .before .before .before .before .before in
-    laying.set-put (canon (meaningOf (one (at6 .args .text .now)) (at6 .args .set))) (at6 .args .out .now) (at6 .args .at) (at6 .pre) (c .before .before .write-set .ensures .0) (c .before .before .write-set .ensures .1)
+    laying.set-put (canon (meaningOf (one (at6 .args .text .now)) (at6 .args .set))) (at6 .args .out .now) (at6 .args .at) (at6 .pre) (c .before .before .write-set .ensures .0) (c .before .before .write-set .ensures .1 .0)
 
 pub put-set-spec : {M : Type 1} → statement M
 put-set-spec =

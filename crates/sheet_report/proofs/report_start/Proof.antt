@@ -1,4 +1,5 @@
 use Rattle.sheet_report.proofs.Entries as entries
+use Rattle.sheet_report.proofs.ReportNumbers.{start-said}
 use borrow.Author.Needs.{needs}
 use Rattle.sheet_report.proofs.report_start.Statement.{statement}
 use Rattle.sheet_report.proofs.report_start.Tie as tie
@@ -24,7 +25,7 @@ same-length c = search needs
 returns : tie.Need-returns
 returns c =
     let at5 = c .before .before .before .before .before in let at7 = at5 .before .before in let at11 = at7 .before .before .before .before in
-    entries.start-refused (at11 .args .text .now) (at11 .args .join .now) (at11 .args .out .now) (at7 .check-text .ensures) (at5 .why .given .1) (c .before .before .lay-refusal .ensures)
+    start-said (at11 .args .join .now) (at11 .args .out .now) (at11 .args .text .now) (entries.start-refused (at11 .args .text .now) (at11 .args .join .now) (at11 .args .out .now) (at7 .check-text .ensures .0) (at5 .why .given .1) (c .before .before .lay-refusal .ensures))
 
 same-length-2 : tie.Need-same-length-2
 same-length-2 c = search needs
@@ -35,7 +36,7 @@ same-length-3 c = search needs
 returns-2 : tie.Need-returns-2
 returns-2 c =
     let at4 = c .before .before .before .before in let at7 = at4 .before .before .before in let at9 = at7 .before .before in let at13 = at9 .before .before .before .before in
-    entries.told-by (at13 .args .join .now) (at13 .args .out .now) (entries.start-passed (at13 .args .text .now) (at13 .args .join .now) (at13 .args .out .now) (at9 .check-text .ensures) (at7 .enum-told .given .1)) (at4 .report-part .ensures)
+    start-said (at13 .args .join .now) (at13 .args .out .now) (at13 .args .text .now) (entries.told-by (at13 .args .join .now) (at13 .args .out .now) (entries.start-passed (at13 .args .text .now) (at13 .args .join .now) (at13 .args .out .now) (at9 .check-text .ensures .0) (at7 .enum-told .given .1)) (at4 .report-part .ensures .0, (at4 .report-part .ensures .1 .0, at4 .report-part .ensures .1 .1 .0)))
 
 pub report-start-spec : {M : Type 1} → statement M
 report-start-spec =

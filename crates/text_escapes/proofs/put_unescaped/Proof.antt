@@ -26,22 +26,22 @@ enum-known-b : tie.Need-enum-known-b Inv-pieces μ-pieces
 enum-known-b c = search needs
 
 slice-write-buf : tie.Need-slice-write-buf Inv-pieces μ-pieces
-slice-write-buf c = omega (arith, laws.writes-some (c .before .before .before .before .pieces .inv) (byte-at (c .before .before .before .piece-at .ensures) (c .before .b .given .1)))
+slice-write-buf c = omega (arith, laws.writes-some (c .before .before .before .before .pieces .inv) (byte-at (c .before .before .before .piece-at .ensures .0) (c .before .b .given .1)))
 
 add-k : tie.Need-add-k Inv-pieces μ-pieces
-add-k c = omega (arith, laws.writes-some (c .before .before .before .before .pieces .inv) (byte-at (c .before .before .before .piece-at .ensures) (c .before .b .given .1)))
+add-k c = omega (arith, laws.writes-some (c .before .before .before .before .pieces .inv) (byte-at (c .before .before .before .piece-at .ensures .0) (c .before .b .given .1)))
 
 pieces-less : tie.Need-pieces-less Inv-pieces μ-pieces
-pieces-less c = omega (arith, byte-at (c .before .before .before .piece-at .ensures) (c .before .b .given .1))
+pieces-less c = omega (arith, byte-at (c .before .before .before .piece-at .ensures .0) (c .before .b .given .1))
 
 pieces-again : tie.Need-pieces-again Inv-pieces μ-pieces
-pieces-again c = laws.writes-go (c .before .before .before .before .pieces .inv) (byte-at (c .before .before .before .piece-at .ensures) (c .before .b .given .1))
+pieces-again c = laws.writes-go (c .before .before .before .before .pieces .inv) (byte-at (c .before .before .before .piece-at .ensures .0) (c .before .b .given .1))
 
 same-length : tie.Need-same-length Inv-pieces μ-pieces
 same-length c = c .before .before .before .pieces .inv .long
 
 returns : tie.Need-returns Inv-pieces μ-pieces
-returns c = laws.writes-end (c .before .before .before .pieces .inv) (end-at (c .before .before .piece-at .ensures) (c .enum-told .given .1))
+returns c = laws.writes-end (c .before .before .before .pieces .inv) (end-at (c .before .before .piece-at .ensures .0) (c .enum-told .given .1))
 
 pub put-unescaped-spec : {M : Type 1} → statement M
 put-unescaped-spec =

@@ -32,23 +32,23 @@ add-k : tie.Need-add-k Inv-pieces μ-pieces
 add-k c = omega (arith, c .before .before .if1 .left)
 
 pieces-less : tie.Need-pieces-less Inv-pieces μ-pieces
-pieces-less c = let at4 = c .before .before .before .before in let at6 = at4 .before .before in omega (arith, byte-at (at6 .piece-at .ensures) (at4 .b .given .1))
+pieces-less c = let at4 = c .before .before .before .before in let at6 = at4 .before .before in omega (arith, byte-at (at6 .piece-at .ensures .0) (at4 .b .given .1))
 
 pieces-again : tie.Need-pieces-again Inv-pieces μ-pieces
 pieces-again c =
     let at4 = c .before .before .before .before in let at6 = at4 .before .before in let at7 = at6 .before in
-    laws.compares-go (at7 .pieces .inv) (byte-at (at6 .piece-at .ensures) (at4 .b .given .1)) (omega (arith, c .before .before .if1 .left)) (c .if2 .left)
+    laws.compares-go (at7 .pieces .inv) (byte-at (at6 .piece-at .ensures .0) (at4 .b .given .1)) (omega (arith, c .before .before .if1 .left)) (c .if2 .left)
 
 returns : tie.Need-returns Inv-pieces μ-pieces
-returns c = laws.compares-end (c .before .before .before .pieces .inv) (end-at (c .before .before .piece-at .ensures) (c .enum-told .given .1))
+returns c = laws.compares-end (c .before .before .before .pieces .inv) (end-at (c .before .before .piece-at .ensures .0) (c .enum-told .given .1))
 
 returns-2 : tie.Need-returns-2 Inv-pieces μ-pieces
-returns-2 c = let at4 = c .before .before .before .before in let at5 = at4 .before in laws.compares-short (at5 .pieces .inv) (byte-at (at4 .piece-at .ensures) (c .before .before .b .given .1)) (omega (arith, c .if1 .taken))
+returns-2 c = let at4 = c .before .before .before .before in let at5 = at4 .before in laws.compares-short (at5 .pieces .inv) (byte-at (at4 .piece-at .ensures .0) (c .before .before .b .given .1)) (omega (arith, c .if1 .taken))
 
 returns-3 : tie.Need-returns-3 Inv-pieces μ-pieces
 returns-3 c =
     let at4 = c .before .before .before .before in let at6 = at4 .before .before in let at7 = at6 .before in
-    laws.compares-stop (at7 .pieces .inv) (byte-at (at6 .piece-at .ensures) (at4 .b .given .1)) (omega (arith, c .before .before .if1 .left)) (c .if2 .taken)
+    laws.compares-stop (at7 .pieces .inv) (byte-at (at6 .piece-at .ensures .0) (at4 .b .given .1)) (omega (arith, c .before .before .if1 .left)) (c .if2 .taken)
 
 pub same-unescaped-spec : {M : Type 1} → statement M
 same-unescaped-spec =

@@ -26,16 +26,16 @@ enum-known-next : tie.Need-enum-known-next Inv-pieces μ-pieces
 enum-known-next c = search needs
 
 add-n : tie.Need-add-n Inv-pieces μ-pieces
-add-n c = omega (arith, byte-at (c .before .before .before .piece-at .ensures) (c .before .next .given .1))
+add-n c = omega (arith, byte-at (c .before .before .before .piece-at .ensures .0) (c .before .next .given .1))
 
 pieces-less : tie.Need-pieces-less Inv-pieces μ-pieces
-pieces-less c = omega (arith, byte-at (c .before .before .before .piece-at .ensures) (c .before .next .given .1))
+pieces-less c = omega (arith, byte-at (c .before .before .before .piece-at .ensures .0) (c .before .next .given .1))
 
 pieces-again : tie.Need-pieces-again Inv-pieces μ-pieces
-pieces-again c = laws.counts-go (c .before .before .before .before .pieces .inv) (byte-at (c .before .before .before .piece-at .ensures) (c .before .next .given .1))
+pieces-again c = laws.counts-go (c .before .before .before .before .pieces .inv) (byte-at (c .before .before .before .piece-at .ensures .0) (c .before .next .given .1))
 
 returns : tie.Need-returns Inv-pieces μ-pieces
-returns c = laws.counts-end (c .before .before .before .pieces .inv) (end-at (c .before .before .piece-at .ensures) (c .enum-told .given .1))
+returns c = laws.counts-end (c .before .before .before .pieces .inv) (end-at (c .before .before .piece-at .ensures .0) (c .enum-told .given .1))
 
 pub unescaped-len-spec : {M : Type 1} → statement M
 unescaped-len-spec =

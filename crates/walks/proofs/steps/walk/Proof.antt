@@ -41,10 +41,10 @@ returns-2 c = search needs
 steps-less : tie.Need-steps-less Inv-steps μ-steps
 steps-less c =
     let at5 = c .before .before .before .before .before in let at6 = at5 .before in
-    let o = onward _ _ _ (at6 .steps .inv) (at5 .step-from .ensures) (c .before .before .ahead .given .1) (tag-not-bad _ (c .match2 .keys2)) in omega (arith, o .ahead, o .within)
+    let o = onward _ _ _ (at6 .steps .inv) (at5 .step-from .ensures .0) (c .before .before .ahead .given .1) (tag-not-bad _ (c .match2 .keys2)) in omega (arith, o .ahead, o .within)
 
 steps-again : tie.Need-steps-again Inv-steps μ-steps
-steps-again c = let at5 = c .before .before .before .before .before in let at6 = at5 .before in (onward _ _ _ (at6 .steps .inv) (at5 .step-from .ensures) (c .before .before .ahead .given .1) (tag-not-bad _ (c .match2 .keys2))) .within
+steps-again c = let at5 = c .before .before .before .before .before in let at6 = at5 .before in (onward _ _ _ (at6 .steps .inv) (at5 .step-from .ensures .0) (c .before .before .ahead .given .1) (tag-not-bad _ (c .match2 .keys2))) .within
 
 pub walk-spec : {M : Type 1} → statement M
 walk-spec =
