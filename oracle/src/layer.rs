@@ -13,7 +13,6 @@ use crate::standins::*;
 pub const TEXT_LIMIT: usize = 65_535;
 const CLASS_LIMIT: usize = 32;
 const KEY_LIMIT: usize = 32;
-const SLOT_LIMIT: usize = 34;
 
 /// A column that no line of a text within the limit reaches. A base beyond it is handed to the original as this one:
 /// the answers are those of the true number, and the original's addition stays in its range.
@@ -59,15 +58,14 @@ fn from_line<'b, 'a>(lines: &'b [&'a str], line: usize) -> Option<&'b [&'a str]>
     (1..=lines.len()).contains(&line).then(|| &lines[line - 1..])
 }
 
-/// 6, 7 and 8, in this order, for a set that was read.
+/// 6 and 7, in this order, for a set that was read or merged. There is no 8, and none is called for.
 fn within_limits(attrs: Attrs) -> Result<Attrs, Number> {
     assert_eq!(attrs.order.len(), slot_count(&attrs), "slots name what is there, once each");
+    assert!(attrs.order.len() <= attrs.key_values.len() + 2, "slots are at most two more than keys");
     if attrs.classes.len() > CLASS_LIMIT {
         Err(6)
     } else if attrs.key_values.len() > KEY_LIMIT {
         Err(7)
-    } else if attrs.order.len() > SLOT_LIMIT {
-        Err(8)
     } else {
         Ok(attrs)
     }

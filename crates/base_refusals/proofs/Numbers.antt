@@ -6,13 +6,13 @@ use Prim.Native.Nat.{ℕ, _≤_}
 use native.Mathlib.Omega.{arith}
 use lib.ListN.{getD}
 use Rattle.base_refusals.specs.declared.Refusal.{Refusal}
-use Rattle.base_refusals.specs.declared.Refusal.the-variants.{TextTooLong, NotUtf8, NothingThere, NoClose, NoReading, TooManyClasses, TooManyKeys, TooManySlots, JoinFull, CanonTooLong, NotWellFormed, EmptySet}
+use Rattle.base_refusals.specs.declared.Refusal.the-variants.{TextTooLong, NotUtf8, NothingThere, NoClose, NoReading, TooManyClasses, TooManyKeys, JoinFull, CanonTooLong, NotWellFormed, EmptySet}
 use Rattle.base_refusals.specs.Numbers.{lastNumber, numberOf}
 
--- each where its number says; none has the number 0
+-- each where its number says; none has the number 0 or 8
 abbrev refusals : List Refusal
 refusals =
-    TextTooLong ∷ TextTooLong ∷ NotUtf8 ∷ NothingThere ∷ NoClose ∷ NoReading ∷ TooManyClasses ∷ TooManyKeys ∷ TooManySlots
+    TextTooLong ∷ TextTooLong ∷ NotUtf8 ∷ NothingThere ∷ NoClose ∷ NoReading ∷ TooManyClasses ∷ TooManyKeys ∷ TextTooLong
     ∷ JoinFull ∷ CanonTooLong ∷ NotWellFormed ∷ EmptySet ∷ []
 
 there : (r : Refusal) → getD refusals (numberOf r) TextTooLong ≡ r
@@ -24,7 +24,6 @@ there NoClose = refl
 there NoReading = refl
 there TooManyClasses = refl
 there TooManyKeys = refl
-there TooManySlots = refl
 there JoinFull = refl
 there CanonTooLong = refl
 there NotWellFormed = refl
@@ -33,6 +32,11 @@ there EmptySet = refl
 -- so no two have the same
 pub number-own : (q r : Refusal) → numberOf q ≡ numberOf r → q ≡ r
 number-own q r e = sym (there q) ∙ ap (λ n. getD refusals n TextTooLong) e ∙ there r
+
+-- "8 stays unused."
+pub eight-unused : (r : Refusal) → numberOf r ≡ 8 → ⊥
+unfolding numberOf
+eight-unused r e = let z : r ≡ TextTooLong = sym (there r) ∙ ap (λ n. getD refusals n TextTooLong) e in omega (arith, e, ap numberOf z)
 
 -- and each is in the table
 pub number-among : (r : Refusal) → (1 ≤ numberOf r) × (numberOf r ≤ lastNumber)
@@ -44,7 +48,6 @@ number-among NoClose = (omega arith, omega arith)
 number-among NoReading = (omega arith, omega arith)
 number-among TooManyClasses = (omega arith, omega arith)
 number-among TooManyKeys = (omega arith, omega arith)
-number-among TooManySlots = (omega arith, omega arith)
 number-among JoinFull = (omega arith, omega arith)
 number-among CanonTooLong = (omega arith, omega arith)
 number-among NotWellFormed = (omega arith, omega arith)

@@ -5,7 +5,7 @@ use mathlib.Core.List.{List, []}
 use lib.Dec.{ltb}
 use lib.ListN.{length}
 use Rattle.base_refusals.specs.declared.Refusal.{Refusal}
-use Rattle.base_refusals.specs.declared.Refusal.the-variants.{TextTooLong, NotUtf8, NothingThere, NoClose, NoReading, TooManyClasses, TooManyKeys, TooManySlots, JoinFull, CanonTooLong, NotWellFormed, EmptySet}
+use Rattle.base_refusals.specs.declared.Refusal.the-variants.{TextTooLong, NotUtf8, NothingThere, NoClose, NoReading, TooManyClasses, TooManyKeys, JoinFull, CanonTooLong, NotWellFormed, EmptySet}
 use Rattle.base_refusals.specs.declared.Outcome.{Outcome}
 use Rattle.base_refusals.specs.declared.Outcome.the-variants.{Passed, Refused}
 
@@ -36,8 +36,7 @@ numberOf NoReading = 5
 numberOf TooManyClasses = 6
 -- "grammatical, more than 32 distinct keys"
 numberOf TooManyKeys = 7
--- "more than 34 slots"
-numberOf TooManySlots = 8
+-- "8 stays unused."
 -- "the next line to join doesn't fit the join buffer, .."
 numberOf JoinFull = 9
 -- "canonical text above 65,535 bytes or the lent buffer"

@@ -30,7 +30,7 @@ abbrev pub placeBehind : answers.Answer → ℕ
 placeBehind (answer.Refused r) = 0
 placeBehind (answer.Next n) = n
 
--- "Order: at a brace 1, 3, 4, 2, 5, 6, 7, 8", and then the writer's 2, of the whole text, and 10
+-- "Order: at a brace 1, 3, 4, 2, 5, 6, 7", and then the writer's 2, of the whole text, and 10
 abbrev pub braceBy : List ℕ → List ℕ → Read → Said
 braceBy t buf r = setSaid (orElse (checkBy (r .answer)) (checkOf t)) t (r .set) buf (λ n. placeBehind (r .answer) ∷ n ∷ [])
 

@@ -3,34 +3,29 @@
 use mathlib.Core.Path.{_≡_, refl, sym}
 use mathlib.Core.Bool.{Bool, true, false, cond}
 use mathlib.Core.List.{List, [], _∷_, map}
-use Prim.Native.Nat.{ℕ, suc, _≤_}
-use native.Mathlib.Omega.{arith}
+use Prim.Native.Nat.{ℕ, suc}
 use lib.Dec.{ltb}
 use lib.ListN.{length, drop}
 use lib.Seq.{take-at, drop-at}
-use Rattle.base_lists.specs.Lists.{isIn, over}
+use Rattle.base_lists.specs.Lists.{over}
 use Rattle.base_lists.proofs.More.{contra}
-use Rattle.base_bytes.specs.declared.Mode.{Mode}
-use Rattle.base_bytes.specs.declared.Mode.the-variants.{Loose}
-use Rattle.base_refusals.specs.Numbers.{maxText, tooLong, numberOf}
+use Rattle.base_refusals.specs.Numbers.{maxText, tooLong}
 use Rattle.base_refusals.specs.declared.Refusal.{Refusal}
-use Rattle.base_refusals.specs.declared.Refusal.the-variants.{TextTooLong, NotUtf8, NothingThere, TooManySlots, JoinFull, CanonTooLong}
-use Rattle.base_refusals.proofs.Numbers.{number-among, number-own}
+use Rattle.base_refusals.specs.declared.Refusal.the-variants.{TextTooLong, NothingThere, JoinFull, CanonTooLong}
+use Rattle.base_refusals.proofs.Numbers.{number-among, number-own, eight-unused}
 use Rattle.base_refusals.specs.declared.Outcome.{Outcome}
 use Rattle.base_refusals.specs.declared.Outcome.the-variants as outcome
-use Rattle.text_utf8.specs.Utf8.{isUtf8}
-use Rattle.text_lines.specs.Lines.{lines, lineOf}
+use Rattle.text_lines.specs.Lines.{lines}
 use Rattle.text_lines.specs.declared.Line as places
 use Rattle.text_lines.specs.declared.Line.the-variants as place
-use Rattle.text_checks.specs.Check.{checkOf, isText}
+use Rattle.text_checks.specs.Check.{isText}
 use Rattle.text_checks.specs.Outcomes.{orLeft}
-use Rattle.text_line_start.specs.Starts.{startAt, begun, onStart, placeOf}
+use Rattle.text_line_start.specs.Starts.{placeOf}
 use Rattle.block_grammar.specs.Close.{findClose}
 use Rattle.proved_grammar.specs.Close.{lastClose, isBefore}
 use Rattle.block_grammar.specs.declared.Place.the-variants.{Nothing}
 use Rattle.block_grammar.proofs.Payload as payloads
 use Rattle.block_chain.proofs.Blocks as chains
-use Rattle.block_trimmed_line.specs.Fronts.{frontOf, opensAt}
 use Rattle.set_canon.specs.Canon.{canon}
 use Rattle.set_table.specs.Types.{one}
 use Rattle.set_table.specs.Rows.{meaningOf}
@@ -41,18 +36,14 @@ use Rattle.set_wellformed.specs.WellFormed.{wellFormed}
 use Rattle.set_writer.specs.Write.{hasRoom, wroteOf, contentAfter, writable, orRefused, attrsWrote, attrsContent}
 use Rattle.set_writer.specs.declared.Wrote.the-variants as wrote
 use Rattle.set_merge.specs.Merge.{mergeOf}
-use Rattle.set_lent.specs.Lent.{endOf, bothOf}
 use Rattle.set_lent.proofs.Standing.{refused-stands}
 use Rattle.run_lines.specs.Runs.{asIs, runAt}
 use Rattle.run_lines.proofs.Bounds.{lookahead-sum}
-use Rattle.read_brace.specs.Brace.{readAttrsAt}
 use Rattle.read_brace.specs.declared.Answer.the-variants as answer
-use Rattle.read_blocks.specs.Blocks.{Found, nothing, found, wrapped, joinedIn, joinHolds, blockOf, sized}
-use Rattle.read_blocks.specs.ByLine.{blockFound, wrappedFound}
-use Rattle.read_by_line.specs.Entries.{lineRead, parseStandalone}
-use Rattle.read_lengths.specs.Lengths.{lengthOf, lengthNo}
+use Rattle.read_blocks.specs.Blocks.{found, wrapped, joinedIn, joinHolds}
+use Rattle.read_blocks.specs.ByLine.{wrappedFound}
 use Rattle.sheet_blocks.specs.declared.Next.{Next}
-use Rattle.sheet_blocks.specs.Sheets.{Try, triesAt, isBlock, onlyBlocks, nowhere, firstBlock, nextOf}
+use Rattle.sheet_blocks.specs.Sheets.{Try, triesAt, onlyBlocks, nowhere, firstBlock, nextOf}
 use Rattle.proved_texts.proofs.Utf8Grammar as utf8
 use Rattle.proved_texts.proofs.Escapes as escapes
 use Rattle.proved_texts.proofs.Tabs.{no-tab, columns-count, indent-spaces}
@@ -61,28 +52,26 @@ use Rattle.proved_grammar.proofs.Close.{third-argument}
 use Rattle.proved_grammar.proofs.Quick.{quick-passes}
 use Rattle.proved_sets.proofs.MergeMeans.{merge-gives}
 use Rattle.proved_sets.proofs.MergeRules.{merge-by-rules}
-use Rattle.proved_sets.proofs.NeverSlots.{never-slots}
 use Rattle.proved_sets.proofs.Settled.{refusals-empty}
 use Rattle.proved_sets.proofs.Zeroed.{rest-zero}
 use Rattle.proved_runs.proofs.Bounds as runs
 use Rattle.proved_runs.proofs.RefusedBounds as refused-runs
 use Rattle.proved_runs.proofs.EndingBounds.{sum-of-runs}
-use Rattle.proved_reading.proofs.Meaning.{brace-by-rules, tidy, refused-empty, up-to-seven}
+use Rattle.proved_reading.proofs.Meaning.{brace-by-rules, tidy, refused-empty}
 use Rattle.proved_reading.proofs.HandedOut.{handed-out-ok, fill-out-ok}
 use Rattle.proved_reading.proofs.ByLines.{blocks-by-rules, line-by-rules, block-by-rules, run-by-rules}
 use Rattle.proved_reading.proofs.BlockSets.{block-zeroed, filled-empty, block-empty, empty-fits}
 use Rattle.proved_reading.proofs.LineSets.{line-empty, line-zeroed, line-set-ok, block-set-ok, run-set-ok}
 use Rattle.proved_reading.proofs.LengthsAgree.{agree}
-use Rattle.proved_reading.specs.Measuring.{measuredNumbers}
-use Rattle.proved_reading.proofs.LengthsFair.{fair-found, fair-wrapped, fair-block, fair-wraps}
+use Rattle.proved_reading.proofs.LengthsFair.{fair-block, fair-wraps}
 use Rattle.proved_sheets.proofs.Answers.{next-zeroed}
 use Rattle.proved_sheets.proofs.Calls.{refused-laid}
-use Rattle.proved_demands.specs.Demands.{Numbered, NoneIfRefused, NoSet, LeftAsStated, ByStandards, ByGrammar, LastCloseDropped, QuickTest, Lookahead, NoEight, EightNever, RowsZero, SetsWellFormed}
+use Rattle.proved_demands.specs.Demands.{Numbered, NoneIfRefused, NoSet, LeftAsStated, ByStandards, ByGrammar, LastCloseDropped, QuickTest, Lookahead, RowsZero, SetsWellFormed}
 
 -- ======== a refusal's number
 
 pub numbered : Numbered
-numbered = record { among = number-among; own = number-own }
+numbered = record { among = number-among; own = number-own; unused = eight-unused }
 
 -- ======== "hands out no set"
 
@@ -190,83 +179,6 @@ lookahead =
       wrapped = λ t n base cap. fair-wraps t cap n base .lookahead;
       refused = refused-runs.lookahead-le;
       ends = sum-of-runs;
-    }
-
--- ---- 8
-
--- a number of those that measuring gives isn't 8
-abbrev Measured : Found → Type 0
-Measured f = isIn measuredNumbers (lengthNo (lengthOf f)) ≡ true
-
-filled-eight : (b : Bool) (f : Filled) → NoEight (f .outcome) → NoEight (cond b f (refusing NothingThere) .outcome)
-filled-eight true f h e = h e
-filled-eight false f h e = contra true refl (cc)
-
-brace-eight : (m : Mode) (t : List ℕ) (i : ℕ) → readAttrsAt m t i .answer ≡ answer.Refused TooManySlots → ⊥
-unfolding numberOf
-brace-eight m t i e = let k : numberOf TooManySlots ≤ 7 = rw e at (up-to-seven m t i) in omega (arith, k)
-
-line-eight : (t : List ℕ) (n : ℕ) → NoEight (parseStandalone t n .outcome)
-unfolding parseStandalone startAt checkOf lineRead
-line-eight t n = go (ltb maxText (length t)) (isUtf8 t) (lineOf n t)
-  where
-    go : (x y : Bool) (l : places.Line) → NoEight (onStart refusing (lineRead t) (begun (cond x (outcome.Refused TextTooLong) (cond y outcome.Passed (outcome.Refused NotUtf8))) l) .outcome)
-    go true y l e = contra true refl (cc)
-    go false false l e = contra true refl (cc)
-    go false true place.Missing e = contra true refl (cc)
-    go false true (place.At r) e = filled-eight (opensAt t (r .from)) _ (never-slots .chain Loose t (frontOf t (r .from) .from) (frontOf t (r .from) .to)) e
-
-block-eight : (t : List ℕ) (at : ℕ) (f : Found) → Measured f → NoEight (blockOf t at f .outcome)
-unfolding blockOf isIn numberOf
-block-eight t at Found.line h e = never-slots .chain Loose t (frontOf t at .from) (frontOf t at .to) e
-block-eight t at (Found.run r) h e = never-slots .chain Loose (r .text) 0 (length (r .text)) e
-block-eight t at (Found.none q x n) h e = let z : q ≡ TooManySlots = cc in contra false (rw z at h) refl
-
-sized-eight : (t : List ℕ) (at : ℕ) (f : Found) → Measured f → NoEight (blockOf t at (sized t f) .outcome)
-unfolding sized isIn numberOf
-sized-eight t at f h = go (tooLong t)
-  where
-    go : (b : Bool) → NoEight (blockOf t at (cond b (nothing TextTooLong) f) .outcome)
-    go true = block-eight t at (nothing TextTooLong) refl
-    go false = block-eight t at f h
-
-next-eight : (t : List ℕ) (cap at : ℕ) → NoEight (nextOf t cap at .block .outcome)
-unfolding nextOf onlyBlocks isIn
-next-eight t cap at = go (tooLong t) (ltb cap maxText)
-  where
-    measured : (f : Found) → isBlock f ≡ true → Measured f
-    measured Found.line e = refl
-    measured (Found.run r) e = refl
-    measured (Found.none q x n) e = contra false e refl
-
-    first : (xs : List Try) → NoEight (firstBlock t at (onlyBlocks xs) .block .outcome)
-    first [] = λ e. contra true refl (cc)
-    first (x ∷ xs) = tried (isBlock (x .found)) refl (first xs)
-      where
-        tried : (b : Bool) → isBlock (x .found) ≡ b → NoEight (firstBlock t at (onlyBlocks xs) .block .outcome) → NoEight (firstBlock t at (cond b (x ∷ onlyBlocks xs) (onlyBlocks xs)) .block .outcome)
-        tried true e h = block-eight t (x .at) (x .found) (measured (x .found) e)
-        tried false e h = h
-
-    go : (x y : Bool) → NoEight (cond x (nowhere TextTooLong at) (cond y (nowhere JoinFull at) (firstBlock t at (onlyBlocks (triesAt t cap 0 at)))) .block .outcome)
-    go true y e = contra true refl (cc)
-    go false true e = contra true refl (cc)
-    go false false e = first (triesAt t cap 0 at) e
-
-pub eight-never : EightNever
-unfolding bothOf
-eight-never =
-    record {
-      brace = brace-eight;
-      payload = never-slots .fill;
-      chain = never-slots .chain;
-      line = line-eight;
-      blockAt = λ t at base cap. sized-eight t at (found t at base cap) (fair-found t cap at base .number);
-      wrapAt = λ t at base cap. sized-eight t at (wrapped t at base cap) (fair-wrapped t cap at base .number);
-      block = λ t n base cap. block-eight t (placeOf t n) (blockFound t n base cap) (fair-block t cap n base .number);
-      run = λ t n base cap. block-eight t (placeOf t n) (wrappedFound t n base cap) (fair-wraps t cap n base .number);
-      next = next-eight;
-      merge = never-slots .merge;
-      both = λ t a leading incoming. (never-slots .merge t leading a, never-slots .merge t (endOf a (mergeOf t leading a)) incoming);
     }
 
 -- ---- sets handed out

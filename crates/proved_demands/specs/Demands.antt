@@ -13,7 +13,6 @@ use Rattle.base_bytes.specs.declared.Mode.{Mode}
 use Rattle.base_bytes.specs.declared.Mode.the-variants.{Strict}
 use Rattle.base_refusals.specs.Numbers.{maxText, lastNumber, numberOf}
 use Rattle.base_refusals.specs.declared.Refusal.{Refusal}
-use Rattle.base_refusals.specs.declared.Refusal.the-variants.{TooManySlots}
 use Rattle.base_refusals.specs.declared.Outcome.{Outcome}
 use Rattle.base_refusals.specs.declared.Outcome.the-variants as outcome
 use Rattle.text_utf8.specs.Utf8.{isUtf8, charCount}
@@ -38,18 +37,17 @@ use Rattle.set_table.specs.Types.{one, emptySet}
 use Rattle.set_table.specs.Rows.{meaningOf}
 use Rattle.set_table.specs.declared.Attrs.{Attrs}
 use Rattle.set_table.specs.declared.Filled.{Filled}
-use Rattle.set_fill.specs.Fill.{fillAt, chainAt}
 use Rattle.set_wellformed.specs.WellFormed.{wellFormed}
 use Rattle.set_writer.specs.Write.{attrsWrote, attrsContent}
 use Rattle.set_writer.specs.declared.Wrote.the-variants as wrote
 use Rattle.set_merge.specs.Merge.{mergeOf}
-use Rattle.set_lent.specs.Lent.{endOf, bothOf}
+use Rattle.set_lent.specs.Lent.{endOf}
 use Rattle.run_lines.specs.Runs.{asIs, runAt, sizes}
 use Rattle.run_refused.specs.Refused.{refusedRun}
 use Rattle.run_endings.specs.Endings.{endsIn}
 use Rattle.read_brace.specs.Brace.{readAttrsAt}
 use Rattle.read_brace.specs.declared.Answer.the-variants as answer
-use Rattle.read_blocks.specs.Blocks.{Found, found, wrapped, joinedIn, lookaheadOf, joinHolds, textIn, blockOf, sized}
+use Rattle.read_blocks.specs.Blocks.{Found, joinedIn, lookaheadOf, joinHolds, textIn, blockOf}
 use Rattle.read_blocks.specs.ByLine.{blockFound, wrappedFound}
 use Rattle.read_by_line.specs.Entries.{parseStandalone}
 use Rattle.read_lengths.specs.Lengths.{linesIn, measured}
@@ -85,6 +83,8 @@ SingleBoth v w r r′ m m′ = (r ≡ v) × (m ≡ w) → (r′ ≡ v) × (m′ 
 pub record Numbered : Type 0 where
   pub among : (r : Refusal) → (1 ≤ numberOf r) × (numberOf r ≤ lastNumber)
   pub own : (q r : Refusal) → numberOf q ≡ numberOf r → q ≡ r
+  -- "8 stays unused.": it was given by nothing (proved_sets/specs/Eight)
+  pub unused : (r : Refusal) → numberOf r ≡ 8 → ⊥
 
 -- "hands out no set": where the outcome is a refusal, the set beside it is the empty one
 abbrev pub NoneIfRefused : Outcome → Attrs → Type 0
@@ -172,30 +172,6 @@ pub record Lookahead : Type 0 where
   pub refused : (cap : ℕ) (t : List ℕ) (n : ℕ) → refusedRun cap t n .lookahead ≤ length t
   -- "`ends_in_refused_brace_run` reports its runs' sum, which keeps that bound."
   pub ends : (buf t : List ℕ) → endsIn buf t .lookahead ≤ length t
-
--- "more than 34 slots", 8, never arises: 32 keys, the id and the classes are 34 slots
-abbrev pub NoEight : Outcome → Type 0
-NoEight o = o ≡ outcome.Refused TooManySlots → ⊥
-
--- "Show over every reading and merge that 8 is never given" (document 02)
-pub record EightNever : Type 0 where
-  -- `read_attrs_at`, and `fill`, of the payload alone
-  pub brace : (m : Mode) (t : List ℕ) (i : ℕ) → readAttrsAt m t i .answer ≡ answer.Refused TooManySlots → ⊥
-  pub payload : (m : Mode) (t : List ℕ) (at end : ℕ) → NoEight (fillAt m t at end .outcome)
-  -- `fill_chain` and `parse_standalone_attrs`
-  pub chain : (m : Mode) (t : List ℕ) (from to : ℕ) → NoEight (chainAt m t from to .outcome)
-  pub line : (t : List ℕ) (n : ℕ) → NoEight (parseStandalone t n .outcome)
-  -- `read_at` and `wrapped_at`: a block and a run at a place
-  pub blockAt : (t : List ℕ) (at base cap : ℕ) → NoEight (blockOf t at (sized t (found t at base cap)) .outcome)
-  pub wrapAt : (t : List ℕ) (at base cap : ℕ) → NoEight (blockOf t at (sized t (wrapped t at base cap)) .outcome)
-  -- `parse_standalone_attrs_block` and `wrapped_attrs_run_at`, by line number
-  pub block : (t : List ℕ) (n base cap : ℕ) → NoEight (blockOf t (placeOf t n) (blockFound t n base cap) .outcome)
-  pub run : (t : List ℕ) (n base cap : ℕ) → NoEight (blockOf t (placeOf t n) (wrappedFound t n base cap) .outcome)
-  -- `next_block`, of a whole sheet
-  pub next : (t : List ℕ) (cap at : ℕ) → NoEight (nextOf t cap at .block .outcome)
-  -- `merge_attrs` and `merge_leading_attrs`, of any two tables; `merge_into` and `merge_leading_into` answer what these do, and so does `merge_both`
-  pub merge : (t : List ℕ) (a b : Attrs) → NoEight (mergeOf t a b .outcome)
-  pub both : (t : List ℕ) (a leading incoming : Attrs) → NoEight (bothOf t a leading incoming .led) × NoEight (bothOf t a leading incoming .merged)
 
 -- "Rows past the counts are zero in every set handed out"
 pub record RowsZero : Type 0 where

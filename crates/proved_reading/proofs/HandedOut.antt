@@ -15,13 +15,13 @@ use Rattle.base_lists.proofs.More.{contra}
 use Rattle.text_utf8.specs.Utf8.{isUtf8}
 use Rattle.text_checks.proofs.Texts.{text-utf8}
 use Rattle.base_refusals.specs.Numbers.{maxText}
-use Rattle.base_refusals.specs.declared.Refusal.the-variants.{NotUtf8, NothingThere, TextTooLong, TooManyClasses, TooManyKeys, TooManySlots}
+use Rattle.base_refusals.specs.declared.Refusal.the-variants.{NotUtf8, NothingThere, TextTooLong, TooManyClasses, TooManyKeys}
 use Rattle.block_grammar.specs.Grammar.{Placed}
 use Rattle.block_grammar.specs.Read.{Reading, readFrom, readPayload}
 use Rattle.block_grammar.specs.Close.{findClose}
 use Rattle.block_grammar.specs.declared.Place.{Place}
 use Rattle.block_grammar.specs.declared.Place.the-variants.{Nothing, At}
-use Rattle.set_table.specs.Types.{Texts, one, emptySet, maxClasses, maxKeys, maxSlots}
+use Rattle.set_table.specs.Types.{Texts, one, emptySet, maxClasses, maxKeys}
 use Rattle.set_table.specs.Rows.{Rows, noRows, withPuts, tableOf}
 use Rattle.set_table.specs.Puts.{putsIn}
 use Rattle.set_wellformed.specs.WellFormed.{rowsOk, tableOk, wellFormed}
@@ -43,14 +43,13 @@ empty-ok t = rw (← empty-table) (table-ok t noRows (rows-none t) (omega arith)
 
 limited-ok : (t : Texts) (s : Rows) → rowsOk t s ≡ true → tableOk t (limited s .set) ≡ true
 unfolding limited
-limited-ok t s h = go (ltb maxClasses (length (s .classes))) refl (ltb maxKeys (length (s .keys))) refl (ltb maxSlots (length (s .order)))
+limited-ok t s h = go (ltb maxClasses (length (s .classes))) refl (ltb maxKeys (length (s .keys))) refl
   where
-    go : (a : Bool) → ltb maxClasses (length (s .classes)) ≡ a → (b : Bool) → ltb maxKeys (length (s .keys)) ≡ b → (c : Bool)
-        → tableOk t (cond {A = Filled} a (filled.refusing TooManyClasses) (cond b (filled.refusing TooManyKeys) (cond c (filled.refusing TooManySlots) (record { outcome = outcome.Passed; set = tableOf s }))) .set) ≡ true
-    go true p b q c = empty-ok t
-    go false p true q c = empty-ok t
-    go false p false q true = empty-ok t
-    go false p false q false = table-ok t s h (ltb-false maxClasses (length (s .classes)) p) (ltb-false maxKeys (length (s .keys)) q)
+    go : (a : Bool) → ltb maxClasses (length (s .classes)) ≡ a → (b : Bool) → ltb maxKeys (length (s .keys)) ≡ b
+        → tableOk t (cond {A = Filled} a (filled.refusing TooManyClasses) (cond b (filled.refusing TooManyKeys) (record { outcome = outcome.Passed; set = tableOf s })) .set) ≡ true
+    go true p b q = empty-ok t
+    go false p true q = empty-ok t
+    go false p false q = table-ok t s h (ltb-false maxClasses (length (s .classes)) p) (ltb-false maxKeys (length (s .keys)) q)
 
 -- by a reading whose items put only what is good
 pub filled-ok : (t : Texts) (r : Reading) → ((is : List Placed) → r ≡ Reading.items is → all (putOk t) (putsIn is) ≡ true) → tableOk t (fills.filledBy t r .set) ≡ true

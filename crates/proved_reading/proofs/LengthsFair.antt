@@ -65,7 +65,7 @@ module _ (t : List ℕ) (cap : ℕ) where
       go true false false = fair-run at base
       go false g e = fair-none NothingThere refl refl
 
-  pub fair-wrapped : (at base : ℕ) → Fair t cap (wrapped t at base cap)
+  fair-wrapped : (at base : ℕ) → Fair t cap (wrapped t at base cap)
   unfolding wrapped isIn numberOf
   fair-wrapped at base = go (opensAt t at)
     where

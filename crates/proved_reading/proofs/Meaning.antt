@@ -113,7 +113,7 @@ module _ {m : Mode} {t : List ℕ} {i e : ℕ} {is : List Placed} (h : Reads m t
 
     reads-set : keyCount (entriesOf is) ≤ maxKeys → readAttrsAt m t i ≡ record { answer = Next (suc e); set = tableOf rows }
     unfolding finished
-    reads-set k = reads-filled (rw (fits rows few (rows-shaped st (shaped-none (one t))) (omega (arith, key-fill st, k))))
+    reads-set k = reads-filled (rw (fits rows few (omega (arith, key-fill st, k))))
 
 -- ======== what is given is by the rules
 abbrev Right : Mode → List ℕ → ℕ → Read → Type 0

@@ -28,12 +28,12 @@ pub record AnswersSo (m : Mode) (t : List ℕ) (i : ℕ) (a : Answer) (s : List 
   pub answer : readAttrsAt m t i .answer ≡ a
   pub means : meantAt m t i ≡ s
 
--- ---- "Given exactly when", in the "Order: at a brace 1, 3, 4, 2, 5, 6, 7, 8". "Shut out: a reader that always refuses or always gives one set (demand 2)"
+-- ---- "Given exactly when", in the "Order: at a brace 1, 3, 4, 2, 5, 6, 7"
 
 abbrev pub BraceByRules : Type 0
 BraceByRules = (m : Mode) (t : List ℕ) (i : ℕ) → Exactly (Given m t i) (readAttrsAt m t i .answer) (meantAt m t i)
 
--- "more than 34 slots" (8) is never given, nor 9 to 12
+-- "Order: at a brace .., 6, 7": no number above comes
 abbrev pub UpToSeven : Mode → List ℕ → ℕ → Type 0
 UpToSeven m t i = bracePaper (readAttrsAt m t i .answer) .number ≤ 7
 

@@ -19,7 +19,7 @@ use Rattle.read_blocks.specs.ByLine.{blockFound, wrappedFound}
 use Rattle.read_lengths.specs.declared.Length.the-variants as lengthIs
 use Rattle.read_lengths.specs.Lengths.{lengthOf, lengthNo, linesIn, measured, standaloneFound, indentedFound}
 
--- ---- "Measuring never gives 6 to 8"
+-- ---- "Measuring never gives 6 or 7"
 
 -- "elsewhere 1, 2, 3, 9 or 5 as the run meets them"; 0 where a block is there
 abbrev pub measuredNumbers : List ℕ

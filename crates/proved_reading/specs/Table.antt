@@ -1,4 +1,4 @@
--- The table 'Sizes and refusal numbers' for reading at a brace, by rules: "Given exactly when", in the "Order: at a brace 1, 3, 4, 2, 5, 6, 7, 8".
+-- The table 'Sizes and refusal numbers' for reading at a brace, by rules: "Given exactly when", in the "Order: at a brace 1, 3, 4, 2, 5, 6, 7".
 -- A refusal's number is that of the crate base_refusals.
 use mathlib.Core.Path.{_≡_}
 use mathlib.Core.List.{List, []}
@@ -51,5 +51,5 @@ pub data Given (m : Mode) (t : List ℕ) (i : ℕ) : Answer → List Entry → T
   classes : {e : ℕ} {is : List Placed} → Reads m t i e is → maxClasses < classCount (entriesOf is) → Given m t i (Refused TooManyClasses) []
   -- 7: "grammatical, more than 32 distinct keys"
   keys : {e : ℕ} {is : List Placed} → Reads m t i e is → classCount (entriesOf is) ≤ maxClasses → maxKeys < keyCount (entriesOf is) → Given m t i (Refused TooManyKeys) []
-  -- the set, and the place behind the close; 8 is never given, since 32 keys, the id and the classes are 34 slots
+  -- the set, and the place behind the close
   read : {e : ℕ} {is : List Placed} → Reads m t i e is → classCount (entriesOf is) ≤ maxClasses → keyCount (entriesOf is) ≤ maxKeys → Given m t i (Next (suc e)) (meaning is)

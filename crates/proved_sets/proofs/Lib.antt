@@ -34,4 +34,4 @@ pub mod MergeRules
 -- ---- every set handed out
 pub mod Settled
 pub mod Zeroed
-pub mod NeverSlots
+pub mod Eight

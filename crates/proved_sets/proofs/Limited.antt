@@ -1,4 +1,4 @@
--- What is handed out of rows: 6, 7, or their table. 8 never is, since rows that are shaped have at most two slots more than keys.
+-- What is handed out of rows: 6, 7, or their table.
 -- Assumes nothing.
 use mathlib.Core.Path.{_≡_}
 use Prim.Native.Nat.{_≤_, _<_}
@@ -6,11 +6,9 @@ use borrow.Author.Tests.{lt-ltb, le-ltb}
 use lib.ListN.{length}
 use Rattle.base_refusals.specs.declared.Refusal.the-variants.{TooManyClasses, TooManyKeys}
 use Rattle.base_refusals.specs.declared.Outcome.the-variants.{Passed}
-use Rattle.set_table.specs.Types.{Texts, maxClasses, maxKeys, maxSlots}
+use Rattle.set_table.specs.Types.{maxClasses, maxKeys}
 use Rattle.set_table.specs.Rows.{Rows, tableOf}
-use Rattle.set_table.specs.Shape.{Shaped}
 use Rattle.set_table.specs.Filled.{refusing, limited}
-use Rattle.proved_sets.proofs.Slots.{slots-fit}
 
 module _ (s : Rows) where
   pub over-classes : maxClasses < length (s .classes) → limited s ≡ refusing TooManyClasses
@@ -22,6 +20,6 @@ module _ (s : Rows) where
     unfolding limited
     over-keys k = rw (le-ltb maxClasses (length (s .classes)) l, lt-ltb maxKeys (length (s .keys)) k)
 
-    pub fits : {t : Texts} → Shaped t s → length (s .keys) ≤ maxKeys → limited s ≡ record { outcome = Passed; set = tableOf s }
+    pub fits : length (s .keys) ≤ maxKeys → limited s ≡ record { outcome = Passed; set = tableOf s }
     unfolding limited
-    fits h k = rw (le-ltb maxClasses (length (s .classes)) l, le-ltb maxKeys (length (s .keys)) k, le-ltb maxSlots (length (s .order)) (slots-fit h k))
+    fits k = rw (le-ltb maxClasses (length (s .classes)) l, le-ltb maxKeys (length (s .keys)) k)

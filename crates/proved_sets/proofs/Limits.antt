@@ -85,7 +85,7 @@ module _ {t : Texts} {s : Rows} (h : Shaped t s) (es : List Entry) (c : length (
   limit-only : Only (LimitGiven es m) (limited s .outcome) (meaningOf t (limited s .set))
   limit-only p u (LimitGiven.classes l) = rw (over-classes s (omega (arith, c, l))) (refl, empty-means t)
   limit-only p u (LimitGiven.keys l j) = rw (over-keys s (omega (arith, c, l)) (omega (arith, k, j))) (refl, empty-means t)
-  limit-only p u (LimitGiven.within l j) = rw (fits s (omega (arith, c, l)) h (omega (arith, k, j))) (refl, table-means s t ∙ e)
+  limit-only p u (LimitGiven.within l j) = rw (fits s (omega (arith, c, l)) (omega (arith, k, j))) (refl, table-means s t ∙ e)
 
   pub limit-exactly : Exactly (LimitGiven es m) (limited s .outcome) (meaningOf t (limited s .set))
   limit-exactly = go (ltb maxClasses (classCount es)) refl (ltb maxKeys (keyCount es)) refl

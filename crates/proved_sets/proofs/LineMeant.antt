@@ -15,9 +15,9 @@ use Rattle.block_chain.specs.Chain.{readBlocks}
 use Rattle.proved_grammar.proofs.Stands.{read-stands}
 use Rattle.proved_grammar.proofs.Merged.{line-merges}
 use Rattle.proved_grammar.proofs.Blocks.{complete}
-use Rattle.base_refusals.specs.declared.Refusal.the-variants.{TextTooLong, TooManyClasses, TooManyKeys, TooManySlots}
+use Rattle.base_refusals.specs.declared.Refusal.the-variants.{TextTooLong, TooManyClasses, TooManyKeys}
 use Rattle.base_refusals.specs.Numbers.{maxText}
-use Rattle.set_table.specs.Types.{one, maxClasses, maxKeys, maxSlots}
+use Rattle.set_table.specs.Types.{one, maxClasses, maxKeys}
 use Rattle.set_table.specs.Rows.{Rows, noRows, withPuts, tableOf, meaningOf}
 use Rattle.set_table.specs.Puts.{putsIn}
 use Rattle.proved_sets.proofs.Items.{rows-mean, payload-stands}
@@ -32,17 +32,16 @@ use Rattle.set_fill.specs.Fill.{filledBy, filledOf, fillAt, chainAt}
 -- what is handed out is the table of the rows
 done : (s : Rows) → limited s .outcome ≡ Passed → limited s .set ≡ tableOf s
 unfolding limited
-done s = go (ltb maxClasses (length (s .classes))) (ltb maxKeys (length (s .keys))) (ltb maxSlots (length (s .order)))
+done s = go (ltb maxClasses (length (s .classes))) (ltb maxKeys (length (s .keys)))
   where
     made : Filled
     made = record { outcome = Passed; set = tableOf s }
 
-    go : (x y z : Bool) → cond x (refusing TooManyClasses) (cond y (refusing TooManyKeys) (cond z (refusing TooManySlots) made)) .outcome ≡ Passed
-        → cond x (refusing TooManyClasses) (cond y (refusing TooManyKeys) (cond z (refusing TooManySlots) made)) .set ≡ tableOf s
-    go true y z e = contra true refl (cc)
-    go false true z e = contra true refl (cc)
-    go false false true e = contra true refl (cc)
-    go false false false e = refl
+    go : (x y : Bool) → cond x (refusing TooManyClasses) (cond y (refusing TooManyKeys) made) .outcome ≡ Passed
+        → cond x (refusing TooManyClasses) (cond y (refusing TooManyKeys) made) .set ≡ tableOf s
+    go true y e = contra true refl (cc)
+    go false true e = contra true refl (cc)
+    go false false e = refl
 
 -- the set of a reading whose items stand in the text
 filled-means : (t : List ℕ) (x : Bool) (r : Reading) {is : List Placed} → r ≡ Reading.items is → Standing t is

@@ -20,7 +20,7 @@ use Rattle.text_checks.proofs.Texts.{passed, text-passes}
 use Rattle.proved_sets.specs.Formed.{entryOk, wf, HasNothing}
 use Rattle.block_grammar.specs.Meaning.{className}
 use Rattle.proved_grammar.specs.Meaning.{puts, lookup, slotNames, distinct}
-use Rattle.set_table.specs.Types.{Texts, one, maxClasses, maxKeys, maxSlots, zeroRow}
+use Rattle.set_table.specs.Types.{Texts, one, maxClasses, maxKeys, zeroRow}
 use Rattle.set_table.specs.Rows.{Rows, Put, noRows, isNamed, putRow, withPut, withPuts, tableOf, rowsIn, meant, meaningOf}
 use Rattle.set_table.specs.Shape.{Shaped}
 use Rattle.set_table.specs.declared.Attrs.{Attrs}
@@ -42,7 +42,6 @@ use Rattle.set_merge.proofs.Rest.{count-classes}
 use Rattle.set_merge.proofs.Whole.{few}
 use Rattle.proved_sets.proofs.MergeByNames.{valuesMerged, puts-lookup, merged-classes, puts-slots, puts-none}
 use Rattle.proved_sets.proofs.MergePuts.{good-puts, says, all-allowed}
-use Rattle.proved_sets.proofs.Slots.{slots-fit}
 use Rattle.proved_sets.proofs.TableWhole.{table-means}
 use Rattle.proved_sets.proofs.MergeRest.{own-keys}
 use Rattle.proved_sets.proofs.WellFormedMeans.{means-wf}
@@ -126,7 +125,7 @@ module _ (t : List ℕ) (a b : Attrs) where
       go Passed e true f true g false h false i d =
           let c = ltb-false maxClasses (length (whole t a b .classes)) h in
           let k = ltb-false maxKeys (length (whole t a b .keys)) i in
-          record { text = e; first = f; second = g; classes = c; keys = k; is = rw (e, f, g, h, i, le-ltb maxSlots (length (whole t a b .order)) (slots-fit (whole-shaped t a b f g) k)) }
+          record { text = e; first = f; second = g; classes = c; keys = k; is = rw (e, f, g, h, i) }
 
   -- ======== the set that is handed out
   module _ (d : Done (mergeOf t a b)) where
@@ -166,8 +165,7 @@ module _ (t : List ℕ) {e : Attrs} (n : HasNothing e) (a : Attrs) (p : checkOf 
   merge-empty =
       let s = rowsIn a in
       let l = few (one t) a h in
-      let o = le-ltb maxSlots (length (s .order)) (slots-fit (shaped (one t) a h) (l .1)) in
-      rw (p, h, empty-formed t e n, nothing-rows n, le-ltb maxClasses (length (s .classes)) (l .0), le-ltb maxKeys (length (s .keys)) (l .1), o)
+      rw (p, h, empty-formed t e n, nothing-rows n, le-ltb maxClasses (length (s .classes)) (l .0), le-ltb maxKeys (length (s .keys)) (l .1))
 
   empty-merge : Done (mergeOf t e a)
   unfolding mergeOf limited
@@ -176,8 +174,7 @@ module _ (t : List ℕ) {e : Attrs} (n : HasNothing e) (a : Attrs) (p : checkOf 
       let l = few (one t) a h in
       let c : length (w .classes) ≤ maxClasses = rw (nothing-rows n) (omega (arith, count-classes (one t) (rowsIn a) noRows (shaped (one t) a h .once Class), l)) in
       let k : length (w .keys) ≤ maxKeys = rw (nothing-rows n) (omega (arith, own-keys (one t) (rowsIn a) (shaped (one t) a h), l)) in
-      let o = le-ltb maxSlots (length (w .order)) (slots-fit (whole-shaped t e a (empty-formed t e n) h) k) in
-      rw (p, h, empty-formed t e n, le-ltb maxClasses (length (w .classes)) c, le-ltb maxKeys (length (w .keys)) k, o)
+      rw (p, h, empty-formed t e n, le-ltb maxClasses (length (w .classes)) c, le-ltb maxKeys (length (w .keys)) k)
 
   no-meaning : meaningOf (one t) e ≡ []
   unfolding meaningOf meant

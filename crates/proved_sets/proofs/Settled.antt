@@ -11,8 +11,8 @@ use Rattle.block_grammar.specs.Read.{Reading, readPayload}
 use Rattle.block_chain.specs.Chain.{readBlocks}
 use Rattle.base_refusals.specs.Numbers.{maxText}
 use Rattle.base_refusals.specs.declared.Refusal.{Refusal}
-use Rattle.base_refusals.specs.declared.Refusal.the-variants.{TextTooLong, NoReading, TooManyClasses, TooManyKeys, TooManySlots, NotWellFormed}
-use Rattle.set_table.specs.Types.{Texts, one, maxClasses, maxKeys, maxSlots}
+use Rattle.base_refusals.specs.declared.Refusal.the-variants.{TextTooLong, NoReading, TooManyClasses, TooManyKeys, NotWellFormed}
+use Rattle.set_table.specs.Types.{Texts, one, maxClasses, maxKeys}
 use Rattle.set_table.specs.Rows.{Rows, noRows, withPuts, rowsIn}
 use Rattle.set_table.specs.Puts.{putsIn}
 use Rattle.base_refusals.specs.declared.Outcome.the-variants.{Passed, Refused}
@@ -37,8 +37,7 @@ limited-settled : (s : Rows) → Settled (limited s)
 unfolding limited
 limited-settled s =
     unless (ltb maxClasses (length (s .classes))) TooManyClasses
-    (unless (ltb maxKeys (length (s .keys))) TooManyKeys
-    (unless (ltb maxSlots (length (s .order))) TooManySlots (Settled.done s)))
+    (unless (ltb maxKeys (length (s .keys))) TooManyKeys (Settled.done s))
 
 reading-settled : (t : Texts) (r : Reading) → Settled (filledBy t r)
 reading-settled t Reading.refused = Settled.refused NoReading

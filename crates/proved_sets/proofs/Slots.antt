@@ -42,6 +42,6 @@ slots {s = s} h = go (isThere (s .ident)) (isSome (s .classes)) (slots-length h)
     go false true e = omega arith
     go false false e = omega arith
 
--- so whoever keeps the limit on keys keeps that on slots: refusal 8 is never met
+-- so whoever keeps the limit on keys keeps that on slots
 pub slots-fit : {t : Texts} {s : Rows} → Shaped t s → length (s .keys) ≤ maxKeys → length (s .order) ≤ maxSlots
 slots-fit h l = omega (arith, slots h)

@@ -5,7 +5,6 @@ use Prim.Native.Nat.{ℕ, _+_, _≤_}
 use lib.ListN.{length, getD}
 use Rattle.base_bytes.specs.declared.Mode.{Mode}
 use Rattle.base_refusals.specs.declared.Refusal.{Refusal}
-use Rattle.base_refusals.specs.declared.Refusal.the-variants.{TooManySlots}
 use Rattle.base_refusals.specs.declared.Outcome.the-variants.{Passed, Refused}
 use Rattle.set_table.specs.Types.{Texts, emptySet, zeroValue, zeroRow, zeroSlot}
 use Rattle.set_table.specs.Rows.{Rows, tableOf}
@@ -38,13 +37,6 @@ pub record Zeroed (a : Attrs) : Type 0 where
 abbrev pub RestZero : Type 0
 RestZero = Throughout (λ f. Zeroed (f .set))
 
--- "Slots: Id, Class and each key stand once": so there are at most two more than keys ..
+-- "Slots: Id, Class and each key stand once": so there are at most two more than keys
 abbrev pub FewSlots : Texts → Rows → Type 0
 FewSlots t s = Shaped t s → length (s .order) ≤ 2 + length (s .keys)
-
--- .. and number 8, "more than 34 slots", is given by nothing: "32 classes, 32 keys, 34 slots."
-abbrev pub NotEight : Filled → Type 0
-NotEight f = f .outcome ≡ Refused TooManySlots → ⊥
-
-abbrev pub NeverEight : Type 0
-NeverEight = Throughout NotEight

@@ -5,7 +5,7 @@ use mathlib.Core.Bool.{Bool, true, false, cond}
 use mathlib.Core.List.{List, [], _∷_}
 use Prim.Native.Nat.{ℕ, _≤_}
 use native.Mathlib.Omega.{arith}
-use borrow.Author.Tests.{ltb-false, le-ltb}
+use borrow.Author.Tests.{le-ltb}
 use lib.Dec.{ltb}
 use lib.ListN.{length}
 use lib.Seq.{slice}
@@ -13,19 +13,16 @@ use Rattle.base_lists.specs.Lists.{isIn}
 use Rattle.base_lists.proofs.More.{contra}
 use Rattle.base_bytes.specs.declared.Mode.the-variants.{Loose}
 use Rattle.base_refusals.specs.Numbers.{maxText, numberOf}
-use Rattle.base_refusals.specs.declared.Refusal.the-variants.{TextTooLong, TooManyClasses, TooManyKeys, TooManySlots, JoinFull}
+use Rattle.base_refusals.specs.declared.Refusal.the-variants.{TextTooLong, TooManyClasses, TooManyKeys, JoinFull}
 use Rattle.block_grammar.specs.Read.{Reading}
 use Rattle.block_tokens.specs.Shown.{accepted}
 use Rattle.block_chain.specs.Chain.{readBlocks, goodLine}
-use Rattle.set_table.specs.Types.{one, maxClasses, maxKeys, maxSlots, emptySet}
+use Rattle.set_table.specs.Types.{one, maxClasses, maxKeys, emptySet}
 use Rattle.set_table.specs.Rows.{Rows, tableOf}
 use Rattle.set_table.specs.Filled.{refusing}
 use Rattle.set_fill.specs.Fill as fill
 use Rattle.base_refusals.specs.declared.Outcome.the-variants.{Passed}
-use Rattle.set_table.specs.Inner.{OneEach}
-use Rattle.set_table.proofs.Puts.{shaped-none, slots}
 use Rattle.proved_sets.proofs.Zeroed.{empty-zeroed}
-use Rattle.proved_sets.proofs.NeverSlots.{shaped-puts}
 use Rattle.proved_sets.specs.HandedOut.{Zeroed}
 use Rattle.run_lines.specs.Runs.{runAt}
 use Rattle.run_lines.proofs.Bounds.{text-short}
@@ -36,15 +33,14 @@ use Rattle.sheet_blocks.proofs.Tries.{found-by, run-found-by, flush-by}
 use Rattle.set_table.specs.Filled as filled
 use Rattle.proved_sheets.specs.Blocks.{isLimited, BlockLimited, NextZeroed}
 
-limited : (s : Rows) → OneEach s → isLimited (filled.limited s .outcome) ≡ true
+limited : (s : Rows) → isLimited (filled.limited s .outcome) ≡ true
 unfolding filled.limited isIn numberOf
-limited s h = go (ltb maxClasses (length (s .classes))) (ltb maxKeys (length (s .keys))) refl
+limited s = go (ltb maxClasses (length (s .classes))) (ltb maxKeys (length (s .keys)))
   where
-    go : (x y : Bool) → ltb maxKeys (length (s .keys)) ≡ y
-        → isLimited (cond x (refusing TooManyClasses) (cond y (refusing TooManyKeys) (cond (ltb maxSlots (length (s .order))) (refusing TooManySlots) (record { outcome = Passed; set = tableOf s }))) .outcome) ≡ true
-    go true y k = refl
-    go false true k = refl
-    go false false k = rw (le-ltb maxSlots (length (s .order)) (slots h (ltb-false maxKeys (length (s .keys)) k)))
+    go : (x y : Bool) → isLimited (cond x (refusing TooManyClasses) (cond y (refusing TooManyKeys) (record { outcome = Passed; set = tableOf s })) .outcome) ≡ true
+    go true y = refl
+    go false true = refl
+    go false false = refl
 
 chain-limited : (t : List ℕ) (from to : ℕ) → length t ≤ maxText → goodLine t from to ≡ true → isLimited (fill.chainAt Loose t from to .outcome) ≡ true
 unfolding fill.chainAt goodLine
@@ -52,7 +48,7 @@ chain-limited t from to k g = rw (le-ltb maxText (length t) k) (go (readBlocks L
   where
     go : (r : Reading) → accepted r ≡ true → isLimited (fill.filledBy (one t) r .outcome) ≡ true
     go Reading.refused g = contra false g refl
-    go (Reading.items is) g = limited _ (shaped-puts (one t) _ shaped-none)
+    go (Reading.items is) g = limited _
 
 pub block-limited : BlockLimited
 unfolding blockOf

@@ -1,4 +1,4 @@
--- The numbers of a block at a place: "9 or 5 as the run meets them, 6, 7, 8".
+-- The numbers of a block at a place: "9 or 5 as the run meets them, 6, 7".
 -- Assumes nothing.
 use mathlib.Core.Path.{_≡_, refl, _∙_, ap}
 use mathlib.Core.Bool.{Bool, true, false, cond}

@@ -13,8 +13,8 @@ use Rattle.base_lists.specs.Lists.{over}
 use Rattle.base_bytes.specs.declared.Mode.the-variants.{Loose}
 use Rattle.base_refusals.specs.Numbers.{maxText, numberOf}
 use Rattle.base_refusals.specs.declared.Refusal.{Refusal}
-use Rattle.base_refusals.specs.declared.Refusal.the-variants.{TextTooLong, NothingThere, NoReading, TooManyClasses, TooManyKeys, TooManySlots}
-use Rattle.set_table.specs.Types.{one, maxClasses, maxKeys, maxSlots}
+use Rattle.base_refusals.specs.declared.Refusal.the-variants.{TextTooLong, NothingThere, NoReading, TooManyClasses, TooManyKeys}
+use Rattle.set_table.specs.Types.{one, maxClasses, maxKeys}
 use Rattle.set_table.specs.Rows.{Rows, tableOf}
 use Rattle.block_grammar.specs.Read.{Reading}
 use Rattle.block_tokens.specs.Shown.{accepted}
@@ -38,13 +38,12 @@ use Rattle.read_blocks.specs.Inner.{isUnread}
 -- a limit that is passed isn't 5
 limited-read : (s : Rows) → isUnread (limited s .outcome) ≡ false
 unfolding limited numberOf
-limited-read s = go (ltb maxClasses (length (s .classes))) (ltb maxKeys (length (s .keys))) (ltb maxSlots (length (s .order)))
+limited-read s = go (ltb maxClasses (length (s .classes))) (ltb maxKeys (length (s .keys)))
   where
-    go : (a b c : Bool) → isUnread (cond a (refusing TooManyClasses) (cond b (refusing TooManyKeys) (cond c (refusing TooManySlots) (record { outcome = Passed; set = tableOf s }))) .outcome) ≡ false
-    go true b c = refl
-    go false true c = refl
-    go false false true = refl
-    go false false false = refl
+    go : (a b : Bool) → isUnread (cond a (refusing TooManyClasses) (cond b (refusing TooManyKeys) (record { outcome = Passed; set = tableOf s })) .outcome) ≡ false
+    go true b = refl
+    go false true = refl
+    go false false = refl
 
 read-is : (t : List ℕ) (r : Reading) → isUnread (filledBy (one t) r .outcome) ≡ not (accepted r)
 unfolding numberOf

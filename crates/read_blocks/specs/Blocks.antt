@@ -123,6 +123,6 @@ module _ (g : List ℕ → ℕ → ℕ → List Ground) where
       (g t (frontOf t at .from) (frontOf t at .to))
       (Ground.given NoReading (frontOf t at .closes) ∷ ranOrder (runAt cap base t at))
 
--- ".., 6, 7, 8" where a good line is read
+-- ".., 6, 7" where a good line is read
 abbrev pub readOrder : List ℕ → ℕ → ℕ → List Ground
 readOrder t from to = readingOrder (one t) (readBlocks Loose from (slice from to t))

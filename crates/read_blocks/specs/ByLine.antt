@@ -13,7 +13,7 @@ blockFound t n base cap = onStart nothing (λ at. found t at base cap) (startAt 
 unfoldable pub wrappedFound : List ℕ → ℕ → ℕ → ℕ → Found
 wrappedFound t n base cap = onStart nothing (λ at. wrapped t at base cap) (startAt t n)
 
--- ---- where they are read: "1, 2, 3, 9 or 5 as the run meets them, 6, 7, 8"
+-- ---- where they are read: "1, 2, 3, 9 or 5 as the run meets them, 6, 7"
 
 -- `parse_standalone_attrs_block`
 abbrev pub blockOrder : List ℕ → ℕ → ℕ → List Ground

@@ -1,4 +1,4 @@
--- The numbers at a brace, with the place behind the close: "at a brace 1, 3, 4, 2, 5, 6, 7, 8".
+-- The numbers at a brace, with the place behind the close: "at a brace 1, 3, 4, 2, 5, 6, 7".
 -- Assumes nothing.
 use mathlib.Core.Path.{_≡_, refl, ap, _∙_}
 use mathlib.Core.List.{List, [], _∷_}

@@ -1,4 +1,4 @@
--- Reading at a brace. "Order: at a brace 1, 3, 4, 2, 5, 6, 7, 8".
+-- Reading at a brace. "Order: at a brace 1, 3, 4, 2, 5, 6, 7".
 use Prim.Native.Nat.{ℕ, suc}
 use mathlib.Core.Bool.{Bool, true, cond, _&&_}
 use mathlib.Core.List.{List, [], _∷_}
@@ -52,7 +52,7 @@ answerAt outcome.Passed next = Next next
 unfoldable pub finished : Filled → ℕ → Read
 finished f next = record { answer = answerAt (f .outcome) next; set = f .set }
 
--- 4, then 2 of the payload alone, then 5 to 8
+-- 4, then 2 of the payload alone, then 5 to 7
 abbrev pub readTo : Mode → List ℕ → ℕ → Place → Read
 readTo m t i Nothing = refusingRead NoClose
 readTo m t i (At e) =
@@ -67,7 +67,7 @@ atBrace long none to t i = cond (tooLong t) long (cond (braceAt t i) (to (findCl
 unfoldable pub readAttrsAt : Mode → List ℕ → ℕ → Read
 readAttrsAt m t i = atBrace (refusingRead TextTooLong) (refusingRead NothingThere) (readTo m t i) t i
 
--- ---- "at a brace 1, 3, 4, 2, 5, 6, 7, 8"
+-- ---- "at a brace 1, 3, 4, 2, 5, 6, 7"
 
 abbrev pub closeOrder : Mode → List ℕ → ℕ → Place → List Ground
 closeOrder m t i Nothing = Ground.given NoClose true ∷ []

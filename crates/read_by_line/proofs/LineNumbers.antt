@@ -1,4 +1,4 @@
--- The numbers of the entries that read by line: "elsewhere 1, 2, 3, 9 or 5 as the run meets them, 6, 7, 8".
+-- The numbers of the entries that read by line: "elsewhere 1, 2, 3, 9 or 5 as the run meets them, 6, 7".
 -- Assumes nothing.
 use mathlib.Core.Path.{_≡_, refl}
 use mathlib.Core.List.{List, [], _∷_}

@@ -19,6 +19,6 @@ lineRead t at = cond (opensAt t at) (chainAt Loose t (frontOf t at .from) (front
 unfoldable pub parseStandalone : List ℕ → ℕ → Filled
 parseStandalone t n = onStart refusing (lineRead t) (startAt t n)
 
--- "1, 2, 3, .. 5 .., 6, 7, 8"
+-- "1, 2, 3, .. 5 .., 6, 7"
 abbrev pub standaloneOrder : List ℕ → ℕ → List Ground
 standaloneOrder t n = lineOrder t n (λ at. Ground.lacking NothingThere (opensAt t at) ∷ readOrder t (frontOf t at .from) (frontOf t at .to))

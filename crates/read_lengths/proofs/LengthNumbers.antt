@@ -1,4 +1,4 @@
--- The numbers of the entries that measure: "elsewhere 1, 2, 3, 9 or 5 as the run meets them"; "Measuring never gives 6 to 8".
+-- The numbers of the entries that measure: "elsewhere 1, 2, 3, 9 or 5 as the run meets them"; "Measuring never gives 6 or 7".
 -- Assumes nothing.
 use mathlib.Core.Path.{_≡_, refl, _∙_, ap}
 use mathlib.Core.Bool.{true, false, cond}

@@ -17,7 +17,7 @@ use Rattle.read_lengths.specs.declared.Length as lengths
 use Rattle.read_lengths.specs.declared.Length.the-variants as lengthIs
 use Rattle.read_lengths.specs.declared.Measure.{Measure}
 
--- ---- measuring: "Measuring never gives 6 to 8"
+-- ---- measuring: "Measuring never gives 6 or 7"
 
 abbrev pub lengthOf : Found → lengths.Length
 lengthOf Found.line = lengthIs.Lines 1
@@ -56,7 +56,7 @@ unlessLine f = cond (eqb (linesOf f) 1) (nothing NoReading) f
 unfoldable pub indentedFound : List ℕ → ℕ → ℕ → Found
 indentedFound t n cap = unlessLine (blockFound t n 0 cap)
 
--- ---- "elsewhere 1, 2, 3, 9 or 5 as the run meets them"; "Measuring never gives 6 to 8": of a good line nothing more is asked
+-- ---- "elsewhere 1, 2, 3, 9 or 5 as the run meets them"; "Measuring never gives 6 or 7": of a good line nothing more is asked
 
 abbrev pub measureOrder : List ℕ → ℕ → ℕ → ℕ → List Ground
 measureOrder t at base cap = foundOrder (λ s from to. []) t at base cap

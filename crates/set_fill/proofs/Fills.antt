@@ -16,10 +16,9 @@ use Rattle.base_refusals.specs.declared.Refusal.the-variants.{NoReading}
 use Rattle.set_table.specs.declared.Value.{Value}
 use Rattle.set_table.specs.declared.Name.{Name}
 use Rattle.set_table.specs.declared.Attrs.{Attrs}
-use Rattle.set_table.specs.Types.{Texts, maxClasses, maxKeys, maxSlots, emptySet}
+use Rattle.set_table.specs.Types.{Texts, maxClasses, maxKeys, emptySet}
 use Rattle.set_table.specs.Rows.{Rows, Put, noRows, keyAt, withPut, withPuts}
 use Rattle.set_table.specs.Inner.{Holds}
-use Rattle.set_table.proofs.Puts.{slots}
 use Rattle.set_table.proofs.Holding.{holds-none, nclass, class-count, key-more}
 use Rattle.set_fill.specs.declared.Cursor.{Cursor}
 use Rattle.set_fill.specs.declared.Next as nexts
@@ -76,7 +75,7 @@ module _ {t : Texts} {m : Mode} {w : List ℕ} {whole : Filled} {a : Attrs} {e :
       last k =
           let h = inv .holds in
           let r = inv .rows in
-          rw (h .is) (rw (chains.last (inv .stands) y o g k, le-ltb maxClasses (length (r .classes)) (h .classes), le-ltb maxKeys (length (r .keys)) (h .keys), le-ltb maxSlots (length (r .order)) (slots (h .each) (h .keys))) at (inv .rest))
+          rw (h .is) (rw (chains.last (inv .stands) y o g k, le-ltb maxClasses (length (r .classes)) (h .classes), le-ltb maxKeys (length (r .keys)) (h .keys)) at (inv .rest))
 
       pub unread : {f : Filled} → x ≡ Unread → f ≡ refusing NoReading → f ≡ whole
       unfolding filledFrom

@@ -1,4 +1,4 @@
--- The numbers of `fill` and `fill_chain`: 1 of the text, 5 where no reading exists, then 6, 7 and 8, else none.
+-- The numbers of `fill` and `fill_chain`: 1 of the text, 5 where no reading exists, then 6 and 7, else none.
 -- Assumes nothing.
 use mathlib.Core.Path.{_≡_, refl}
 use mathlib.Core.Bool.{cond}

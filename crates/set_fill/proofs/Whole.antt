@@ -86,5 +86,3 @@ module _ (t : List ℕ) (from to : ℕ) where
           let z = chains.goes o k in
           let y = some-read m w from (omega (arith, z .ahead, z .within)) in
           g ∙ sym (ap (filledFrom (one t) noRows) (z .is)) ∙ by-reading (one t) (blocksFrom m (drop from w) 0 from) ∙ (rw y at line)
-
--- ---- for callers: "more than 34 slots" is no refusal of a payload

@@ -20,7 +20,7 @@ abbrev pub filledBy : Texts → Reading → Filled
 filledBy t Reading.refused = refusing NoReading
 filledBy t (Reading.items is) = limited (withPuts t noRows (putsIn is))
 
--- ".., 5, 6, 7, 8"
+-- ".., 5, 6, 7"
 abbrev pub readingOrder : Texts → Reading → List Ground
 readingOrder t Reading.refused = Ground.given NoReading true ∷ []
 readingOrder t (Reading.items is) = limitOrder (withPuts t noRows (putsIn is))

@@ -1,4 +1,4 @@
--- The numbers of `merge_attrs`: 1 and 2 of the text, 11 of either set, then 6, 7 and 8, else none. Those of `merge_leading_attrs` are the same
+-- The numbers of `merge_attrs`: 1 and 2 of the text, 11 of either set, then 6 and 7, else none. Those of `merge_leading_attrs` are the same
 -- with the sets in the other order.
 -- Assumes nothing.
 use mathlib.Core.Path.{_≡_, refl}

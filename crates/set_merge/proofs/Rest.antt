@@ -24,7 +24,7 @@ use Rattle.set_table.specs.declared.Slot.{Slot}
 use Rattle.set_table.specs.declared.Slot.the-variants.{Id, Class, Key}
 use Rattle.set_table.specs.declared.Value.{Value}
 use Rattle.set_table.proofs.Slots.{slot-same}
-use Rattle.set_table.proofs.Puts.{puts-after, puts-grow, slots}
+use Rattle.set_table.proofs.Puts.{puts-after, puts-grow}
 use Rattle.set_table.proofs.Holding.{nclass, rows-of, held-own}
 use Rattle.set_table.specs.Inner.{Holds}
 use Rattle.set_table.specs.declared.Filled.{Filled}
@@ -117,7 +117,7 @@ module _ (w : Rows) where
 
   pub none-many : {a : Attrs} → Holds a (rowsIn a) → rowsIn a ≡ w → record { outcome = Passed; set = a } ≡ limited w
   unfolding limited
-  none-many h e = rw (h .is, e, le-ltb maxClasses (length (w .classes)) (rw (← e) (h .classes)), le-ltb maxKeys (length (w .keys)) (rw (← e) (h .keys)), le-ltb maxSlots (length (w .order)) (rw (← e) (slots (h .each) (h .keys))))
+  none-many h e = rw (h .is, e, le-ltb maxClasses (length (w .classes)) (rw (← e) (h .classes)), le-ltb maxKeys (length (w .keys)) (rw (← e) (h .keys)))
 
 -- ---- the loop: the slots before i are put
 pub record Merges (t : Texts) (a b : Attrs) (set : Attrs) (i : ℕ) : Type 0 where

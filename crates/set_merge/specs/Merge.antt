@@ -37,7 +37,7 @@ putsAt s (slot.Key k) = putOfRow (getD (s .keys) k zeroRow) ∷ []
 abbrev pub putsBy : Rows → List Put
 putsBy s = flatMap (putsAt s) (s .order)
 
--- ---- the merge: "merge 1, 2, 11 (either set), 6, 7, 8"
+-- ---- the merge: "merge 1, 2, 11 (either set), 6, 7"
 
 abbrev pub mergedBy : outcomes.Outcome → List ℕ → Attrs → Attrs → Filled
 mergedBy (Refused r) t a b = refusing r

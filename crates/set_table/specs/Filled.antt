@@ -4,9 +4,9 @@ use lib.Dec.{ltb}
 use lib.ListN.{length}
 use Rattle.base_refusals.specs.Orders.{Ground, inOrder}
 use Rattle.base_refusals.specs.declared.Refusal.{Refusal}
-use Rattle.base_refusals.specs.declared.Refusal.the-variants.{TooManyClasses, TooManyKeys, TooManySlots}
+use Rattle.base_refusals.specs.declared.Refusal.the-variants.{TooManyClasses, TooManyKeys}
 use Rattle.base_refusals.specs.declared.Outcome.the-variants.{Passed, Refused}
-use Rattle.set_table.specs.Types.{emptySet, maxClasses, maxKeys, maxSlots}
+use Rattle.set_table.specs.Types.{emptySet, maxClasses, maxKeys}
 use Rattle.set_table.specs.Rows.{Rows, tableOf}
 use Rattle.set_table.specs.declared.Filled.{Filled}
 
@@ -14,12 +14,11 @@ use Rattle.set_table.specs.declared.Filled.{Filled}
 abbrev pub refusing : Refusal → Filled
 refusing r = record { outcome = Refused r; set = emptySet }
 
--- "grammatical, more than 32 classes", then "more than 32 distinct keys", then "more than 34 slots"
+-- "grammatical, more than 32 classes", then "more than 32 distinct keys"
 abbrev pub limitOrder : Rows → List Ground
 limitOrder s =
     Ground.given TooManyClasses (ltb maxClasses (length (s .classes)))
     ∷ Ground.given TooManyKeys (ltb maxKeys (length (s .keys)))
-    ∷ Ground.given TooManySlots (ltb maxSlots (length (s .order)))
     ∷ []
 
 unfoldable pub limited : Rows → Filled

@@ -1,4 +1,4 @@
--- The numbers of `next_block`: 1, 9, 3 where there is no block, else 6, 7, 8.
+-- The numbers of `next_block`: 1, 9, 3 where there is no block, else 6, 7.
 -- Assumes nothing.
 use mathlib.Core.Path.{_≡_, refl, _∙_, ap}
 use mathlib.Core.Bool.{Bool, true, false, cond}

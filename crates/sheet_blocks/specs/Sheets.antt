@@ -83,7 +83,7 @@ nextOf t cap at =
 unfoldable pub nextTries : List ℕ → ℕ → ℕ → List Try
 nextTries t cap at = cond (tooLong t) [] (cond (ltb cap maxText) [] (upToBlock (triesAt t cap 0 at)))
 
--- ---- its order: 1, 9, then 3 where there is no block, else what its set gives: ".., 6, 7, 8"
+-- ---- its order: 1, 9, then 3 where there is no block, else what its set gives: ".., 6, 7"
 
 abbrev pub firstOrder : List ℕ → ℕ → List Try → List Ground
 firstOrder t cap [] = Ground.given NothingThere true ∷ []

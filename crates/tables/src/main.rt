@@ -2,6 +2,7 @@
 mod broken;
 mod buffers;
 mod changed;
+mod full;
 mod good;
 
 use base_refusals::Outcome;
@@ -107,5 +108,6 @@ fn say_refused(r: Refusal, set: Attrs) {
 fn main() {
     let text = b"v17 wheel side left id class 9x a b\xC3\xA9\n\"\\ lang";
     broken::run(text);
+    full::run();
     buffers::run(text);
 }

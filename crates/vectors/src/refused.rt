@@ -23,12 +23,11 @@ fn numbers_of_readers(t: Tally) -> Tally {
     n
 }
 
-// 6 to 8 and 10 to 12: sets, and what is written of them.
+// 6, 7 and 10 to 12: sets, and what is written of them.
 fn numbers_of_sets(t: Tally) -> Tally {
     let mut n = t;
     n = held(n, base_refusals::number(Refusal::TooManyClasses) == 6);
     n = held(n, base_refusals::number(Refusal::TooManyKeys) == 7);
-    n = held(n, base_refusals::number(Refusal::TooManySlots) == 8);
     n = held(n, base_refusals::number(Refusal::CanonTooLong) == 10);
     n = held(n, base_refusals::number(Refusal::NotWellFormed) == 11);
     n = held(n, base_refusals::number(Refusal::EmptySet) == 12);

@@ -36,9 +36,6 @@ enum-told-10 c = search needs
 enum-told-11 : tie.Need-enum-told-11
 enum-told-11 c = search needs
 
-enum-told-12 : tie.Need-enum-told-12
-enum-told-12 c = search needs
-
 returns : tie.Need-returns
 unfolding numberOf
 returns c = rw (c .enum-told .given .1)
@@ -83,10 +80,6 @@ returns-11 : tie.Need-returns-11
 unfolding numberOf
 returns-11 c = rw (c .enum-told11 .given .1)
 
-returns-12 : tie.Need-returns-12
-unfolding numberOf
-returns-12 c = rw (c .enum-told12 .given .1)
-
 pub number-spec : {M : Type 1} → statement M
 number-spec =
     tie.close
@@ -102,7 +95,6 @@ number-spec =
     enum-told-9
     enum-told-10
     enum-told-11
-    enum-told-12
     returns
     returns-2
     returns-3
@@ -113,5 +105,4 @@ number-spec =
     returns-8
     returns-9
     returns-10
-    returns-11
-    returns-12)
+    returns-11)
