@@ -53,7 +53,7 @@ outcomeNo (Refused r) = numberOf r
 
 -- ---- "When an answer is an enum, a definition provides this paper's number and values for each of the enum's cases. The promises use that definition."
 
--- a number of the table, 0 where nothing is refused, and the values that are answered with it
+-- a number of the table, 0 where none of it is given, and the values that are answered with it
 pub record Paper : Type 0 where
   pub number : ℕ
   pub values : List ℕ

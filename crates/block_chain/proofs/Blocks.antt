@@ -14,14 +14,16 @@ use lib.Seq.{drop-nil, drop-cons, drop-drop, take-at, slice}
 use Rattle.base_lists.proofs.More.{contra}
 use Rattle.base_lists.proofs.Parts.{slice-part, drop-behind}
 use Rattle.base_bytes.specs.declared.Mode.{Mode}
-use Rattle.block_grammar.specs.Grammar.{Placed, Payload}
-use Rattle.block_grammar.specs.Read.{Reading, readFrom, oneOrMore, readPayload}
-use Rattle.block_grammar.specs.Close.{Closes, fresh, closeFrom, findClose}
+use Rattle.block_grammar.specs.Grammar.{Placed, Payload, Reading}
+use Rattle.block_grammar.specs.Computed.{readFrom, oneOrMore, readPayload}
+use Rattle.block_grammar.specs.Close.{Closes, fresh}
+use Rattle.block_grammar.specs.ComputedClose.{closeFrom, findClose}
 use Rattle.block_grammar.specs.declared.Place.{Place}
 use Rattle.block_grammar.specs.declared.Place.the-variants.{Nothing, At}
 use Rattle.block_grammar.proofs.Close.{close-found, found}
 use Rattle.block_grammar.proofs.Payload as payload
-use Rattle.block_chain.specs.Chain.{OneBlock, Blocks, joined, blockTo, blocksFrom, readBlocks}
+use Rattle.block_chain.specs.Chain.{OneBlock, Blocks}
+use Rattle.block_chain.specs.Computed.{joined, blockTo, blocksFrom, readBlocks}
 
 -- ---- what a block took is skipped
 skipped : (m : Mode) (s : List ℕ) (k at : ℕ) → blocksFrom m s k at ≡ blocksFrom m (drop k s) 0 (at + k)

@@ -11,13 +11,14 @@ use Rattle.base_lists.proofs.Parts.{slice-part}
 use Rattle.base_bytes.specs.declared.Mode.{Mode}
 use Rattle.base_bytes.specs.declared.Mode.the-variants.{Loose}
 use Rattle.base_bytes.specs.Bytes.{isBlank}
-use Rattle.block_grammar.specs.Grammar.{Placed}
-use Rattle.block_grammar.specs.Read.{First, Reading, text, tailOf, tokenOf, also, turn, readFrom, oneOrMore, readPayload}
-use Rattle.block_grammar.specs.Close.{findClose}
+use Rattle.block_grammar.specs.Grammar.{Placed, Reading}
+use Rattle.block_grammar.specs.Computed.{First, text, tailOf, tokenOf, also, turn, readFrom, oneOrMore, readPayload}
+use Rattle.block_grammar.specs.ComputedClose.{findClose}
 use Rattle.block_grammar.specs.declared.Place.{Place}
 use Rattle.block_grammar.specs.declared.Place.the-variants.{Nothing, At}
 use Rattle.block_tokens.specs.Shown.{accepted}
-use Rattle.block_chain.specs.Chain.{joined, blocksFrom, readBlocks, goodLine}
+use Rattle.block_chain.specs.Chain.{goodLine}
+use Rattle.block_chain.specs.Computed.{joined, blocksFrom, readBlocks}
 use Rattle.block_chain.specs.Inner.{blocksOk, WentPast}
 use Rattle.block_chain.proofs.Blocks as blocks
 

@@ -8,7 +8,7 @@ use Rattle.base_bytes.specs.declared.Mode.{Mode}
 use Rattle.block_grammar.specs.declared.Place.{Place}
 use Rattle.block_grammar.specs.declared.Place.the-variants.{Nothing, At}
 use Rattle.block_tokens.specs.Shown.{accepted}
-use Rattle.block_chain.specs.Chain.{blocksFrom}
+use Rattle.block_chain.specs.Computed.{blocksFrom}
 
 -- whether blocks stand from i on up to the end
 abbrev pub blocksOk : Mode → List ℕ → ℕ → Bool

@@ -15,7 +15,8 @@ use Rattle.base_lists.specs.Lists.{all, isIn}
 use Rattle.base_lists.proofs.Steady.{met}
 use Rattle.base_lists.proofs.More.{contra, among-not}
 use Rattle.base_bytes.specs.Bytes.{isQuote}
-use Rattle.block_grammar.specs.Close.{uncovered, turned, scanStep, closeFrom, fresh, findClose}
+use Rattle.block_grammar.specs.Close.{uncovered, turned, fresh}
+use Rattle.block_grammar.specs.ComputedClose.{scanStep, closeFrom, findClose}
 use Rattle.block_grammar.specs.declared.Quote.{Quote}
 use Rattle.block_grammar.specs.declared.Quote.the-variants.{In}
 use Rattle.block_grammar.specs.declared.Scan.{Scan}

@@ -5,7 +5,8 @@ use mathlib.Core.List.{List}
 use Prim.Native.Nat.{ℕ, _+_, _<_, _≤_}
 use lib.Dec.{eqb}
 use lib.ListN.{length, drop}
-use Rattle.block_grammar.specs.Close.{uncovered, closeFrom, findClose}
+use Rattle.block_grammar.specs.Close.{uncovered}
+use Rattle.block_grammar.specs.ComputedClose.{closeFrom, findClose}
 use Rattle.block_grammar.specs.declared.Quote.{Quote}
 use Rattle.block_grammar.specs.declared.Place.{Place}
 use Rattle.block_grammar.specs.declared.Place.the-variants.{Nothing, At}

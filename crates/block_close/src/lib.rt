@@ -3,7 +3,8 @@ ghost use mathlib.Core.Path.{_≡_};
 ghost use mathlib.Core.Bool.{true};
 ghost use lib.ListN.{drop};
 ghost use Rattle.base_bytes.specs.Bytes.{isQuote};
-ghost use Rattle.block_grammar.specs.Close.{findClose, closePaper};
+ghost use Rattle.block_grammar.specs.Close.{closePaper};
+ghost use Rattle.block_grammar.specs.ComputedClose.{findClose};
 ghost use Rattle.block_close.specs.Inner.{noLfFirst, Shuts};
 use block_grammar::Place;
 

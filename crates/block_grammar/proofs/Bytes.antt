@@ -13,7 +13,7 @@ use Rattle.base_bytes.specs.declared.Mode.the-variants.{Strict, Loose}
 use Rattle.base_bytes.specs.Bytes.{isBlank, within, isLetter, isDigit, isAlnum, isNameStart, isNamePart, isKeyStart}
 use Rattle.text_names.specs.Names.{isName, isKey, isBareName}
 use Rattle.text_names.specs.Grammar.{Tag, Language}
-use Rattle.block_grammar.specs.Read.{ends}
+use Rattle.block_grammar.specs.Computed.{ends}
 
 -- ---- a blank fails every test that space, CR and LF fail
 abbrev pub blanks : List ℕ

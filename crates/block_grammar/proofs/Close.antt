@@ -18,10 +18,10 @@ use Rattle.block_grammar.specs.Grammar.{Inside}
 use Rattle.block_grammar.specs.declared.Quote.{Quote}
 use Rattle.block_grammar.specs.declared.Quote.the-variants.{Out, In}
 use Rattle.block_grammar.specs.declared.Scan.{Scan}
-use Rattle.block_grammar.specs.declared.Step.the-variants.{Closed, Broken, Go}
 use Rattle.block_grammar.specs.declared.Place.{Place}
 use Rattle.block_grammar.specs.declared.Place.the-variants.{Nothing, At}
-use Rattle.block_grammar.specs.Close.{going, turned, bareStep, scanStep, goOn, closeFrom, fresh, findClose, Covered, noLf, Closes}
+use Rattle.block_grammar.specs.Close.{turned, fresh, Covered, noLf, Closes}
+use Rattle.block_grammar.specs.ComputedClose.{Scanned, going, bareStep, scanStep, goOn, closeFrom, findClose}
 use Rattle.block_grammar.proofs.Tokens.{covering}
 
 -- ======== what is found is a close
@@ -92,7 +92,7 @@ unfolding closeFrom scanStep turned noLf all
 close-from [] q x i e h = contra true refl (cc)
 close-from (b ∷ s) q x i e h = go (eqb b 10) (eqb b 92) q x refl refl h (λ q x. close-from s q x (suc i) e)
   where
-    out : (y z : Bool) → isQuote b ≡ y → eqb b 125 ≡ z → eqb b 10 ≡ false → eqb b 92 ≡ false → goOn (cond z Closed (going (cond y (In b) Out) false)) i (λ v. closeFrom s v (suc i)) ≡ At e → ((q : Quote) (x : Bool) → closeFrom s (record { quote = q; escaped = x }) (suc i) ≡ At e → Ends q x s (suc i) e) → Ends Out false (b ∷ s) i e
+    out : (y z : Bool) → isQuote b ≡ y → eqb b 125 ≡ z → eqb b 10 ≡ false → eqb b 92 ≡ false → goOn (cond z Scanned.closed (going (cond y (In b) Out) false)) i (λ v. closeFrom s v (suc i)) ≡ At e → ((q : Quote) (x : Bool) → closeFrom s (record { quote = q; escaped = x }) (suc i) ≡ At e → Ends q x s (suc i) e) → Ends Out false (b ∷ s) i e
     out true true p r n w h ih = contra (eqb b 125) r (quote-close b p)
     out true false p r n w h ih = longer b n (by-quote b p) (ih (In b) false h)
     out false true p r n w h ih = let z : i ≡ e = cc in record { inside = []; rest = s; whole = rw (eqb-true b 125 r); place = rw add-zero (sym z); left = Covered.end; flat = refl }
@@ -102,7 +102,7 @@ close-from (b ∷ s) q x i e h = go (eqb b 10) (eqb b 92) q x refl refl h (λ q 
     inq k true p n w h ih = longer b n (by-end k b p) (ih Out false h)
     inq k false p n w h ih = longer b n (by-inside k b p w) (ih (In k) false h)
 
-    go : (l y : Bool) (q : Quote) (x : Bool) → eqb b 10 ≡ l → eqb b 92 ≡ y → goOn (cond l Broken (cond x (going q false) (cond y (going q true) (bareStep q b)))) i (λ v. closeFrom s v (suc i)) ≡ At e → ((q : Quote) (x : Bool) → closeFrom s (record { quote = q; escaped = x }) (suc i) ≡ At e → Ends q x s (suc i) e) → Ends q x (b ∷ s) i e
+    go : (l y : Bool) (q : Quote) (x : Bool) → eqb b 10 ≡ l → eqb b 92 ≡ y → goOn (cond l Scanned.broken (cond x (going q false) (cond y (going q true) (bareStep q b)))) i (λ v. closeFrom s v (suc i)) ≡ At e → ((q : Quote) (x : Bool) → closeFrom s (record { quote = q; escaped = x }) (suc i) ≡ At e → Ends q x s (suc i) e) → Ends q x (b ∷ s) i e
     go true y q x n w h ih = contra true refl (cc)
     go false y q true n w h ih = longer b n (by-covered q b) (ih q false h)
     go false true q false n w h ih = longer b n (by-backslash q b w) (ih q true h)
@@ -155,14 +155,14 @@ module _ {s : List ℕ} {r : Place} {i : ℕ} {st : Scan} (inv : Scans s r i st)
   end h = rw (drop-of-length-le s h) at (inv .rest)
 
   module _ (h : i < length s) where
-    pub closed : Closed ≡ scanStep st (getD s i 0) → At i ≡ r
+    pub closed : Scanned.closed ≡ scanStep st (getD s i 0) → At i ≡ r
     unfolding closeFrom
     closed e = rw (drop-cons s i 0 h, ← e) at (inv .rest)
 
-    pub broken : Broken ≡ scanStep st (getD s i 0) → Nothing ≡ r
+    pub broken : Scanned.broken ≡ scanStep st (getD s i 0) → Nothing ≡ r
     unfolding closeFrom
     broken e = rw (drop-cons s i 0 h, ← e) at (inv .rest)
 
-    pub go : {v : Scan} → Go v ≡ scanStep st (getD s i 0) → Scans s r (i + 1) v
+    pub go : {v : Scan} → Scanned.on v ≡ scanStep st (getD s i 0) → Scans s r (i + 1) v
     unfolding closeFrom
     go e = record { rest = rw add-one (rw (drop-cons s i 0 h, ← e) at (inv .rest)) }

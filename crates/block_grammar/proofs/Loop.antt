@@ -13,8 +13,8 @@ use Rattle.base_lists.proofs.Scan.{run-le}
 use Rattle.base_lists.proofs.More.{run-stops}
 use Rattle.base_bytes.specs.declared.Mode.{Mode}
 use Rattle.base_bytes.specs.Bytes.{isBlank}
-use Rattle.block_grammar.specs.Grammar.{Item, Placed}
-use Rattle.block_grammar.specs.Read.{First, Reading, text, tokenOf, also, readFrom}
+use Rattle.block_grammar.specs.Grammar.{Item, Placed, Reading}
+use Rattle.block_grammar.specs.Computed.{First, text, tokenOf, also, readFrom}
 use Rattle.block_grammar.proofs.Tokens.{token-sound}
 use Rattle.block_grammar.proofs.Payload.{blank-step, token-step}
 

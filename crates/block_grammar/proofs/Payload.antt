@@ -15,8 +15,8 @@ use Rattle.base_lists.proofs.Parts.{drop-behind}
 use Rattle.base_bytes.specs.declared.Mode.{Mode}
 use Rattle.base_bytes.specs.Bytes.{isBlank, within, isLetter, isNamePart, isKeyStart}
 use Rattle.text_names.specs.Names.{isKey}
-use Rattle.block_grammar.specs.Grammar.{Item, Placed, IsToken, Blanks, Payload}
-use Rattle.block_grammar.specs.Read.{First, Reading, ends, text, tokenOf, also, tailOf, turn, readFrom, oneOrMore, readPayload}
+use Rattle.block_grammar.specs.Grammar.{Item, Placed, IsToken, Blanks, Payload, Reading}
+use Rattle.block_grammar.specs.Computed.{First, ends, text, tokenOf, also, tailOf, turn, readFrom, oneOrMore, readPayload}
 use Rattle.block_grammar.proofs.Bytes.{blanks, not-blank, bare-key}
 use Rattle.block_grammar.proofs.Tokens.{token-complete, token-sound}
 use Rattle.block_grammar.proofs.Chain.{Chain, no-blanks, blanks-cons, payload-chain, chain-payload}

@@ -15,10 +15,10 @@ use Rattle.base_lists.proofs.Parts.{drop-behind}
 use Rattle.base_bytes.specs.declared.Mode.{Mode}
 use Rattle.base_bytes.specs.Bytes.{isBlank, within, isLetter, isDigit, isAlnum, isNamePart, isKeyStart, isQuote, isPlain}
 use Rattle.text_names.specs.Names.{isName, isKey, isBareName}
-use Rattle.text_names.specs.Tags.{isLanguage}
+use Rattle.text_names.specs.Computed.{isLanguage}
 use Rattle.text_names.proofs.Grammar.{language-sound, language-complete}
 use Rattle.block_grammar.specs.Grammar.{Item, Inside, IsToken, isValue}
-use Rattle.block_grammar.specs.Read.{First, Shut, ends, finish, text, later, shutStep, shutOf, quotedToken, plainToken, valueToken, afterName, nameToken, wordToken, tokenOf}
+use Rattle.block_grammar.specs.Computed.{First, Shut, ends, finish, text, later, shutStep, shutOf, quotedToken, plainToken, valueToken, afterName, nameToken, wordToken, tokenOf}
 use Rattle.block_grammar.proofs.Bytes.{blank-not, ends-stop, part-ends, name-parts, key-parts, bare-key, language-parts}
 
 -- ======== every token is read

@@ -1,10 +1,10 @@
--- Where a block closes: by computing, over types that code has too, and by rules.
+-- Where a block closes, by rules; the search that computes it is ComputedClose.
 use mathlib.Core.Path.{_≡_}
 use mathlib.Core.Bool.{Bool, true, false, cond, not}
 use mathlib.Core.List.{List, [], _∷_, _++_}
-use Prim.Native.Nat.{ℕ, suc, _+_}
+use Prim.Native.Nat.{ℕ, _+_}
 use lib.Dec.{eqb}
-use lib.ListN.{length, drop}
+use lib.ListN.{length}
 use Rattle.base_lists.specs.Lists.{all, isIn}
 use Rattle.base_refusals.specs.Numbers.{Paper, refusedPaper, passedPaper}
 use Rattle.base_refusals.specs.declared.Refusal.the-variants.{NoClose}
@@ -13,54 +13,22 @@ use Rattle.block_grammar.specs.Grammar.{Inside}
 use Rattle.block_grammar.specs.declared.Quote.{Quote}
 use Rattle.block_grammar.specs.declared.Quote.the-variants.{Out, In}
 use Rattle.block_grammar.specs.declared.Scan.{Scan}
-use Rattle.block_grammar.specs.declared.Step.{Step}
-use Rattle.block_grammar.specs.declared.Step.the-variants.{Closed, Broken, Go}
 use Rattle.block_grammar.specs.declared.Place.{Place}
 use Rattle.block_grammar.specs.declared.Place.the-variants.{Nothing, At}
 
--- ---- by computing
+-- ---- over types that code has too
 
 -- in a quote or outside, where no backslash covers the next byte
 abbrev pub uncovered : Quote → Scan
 uncovered q = record { quote = q; escaped = false }
-
-abbrev pub going : Quote → Bool → Step
-going q e = Go (record { quote = q; escaped = e })
 
 -- "text in one kind of quote": a quote opens outside, and the same one closes
 unfoldable pub turned : Quote → ℕ → Quote
 turned Out b = cond (isQuote b) (In b) Out
 turned (In k) b = cond (eqb b k) Out (In k)
 
--- a byte that no backslash covers, by the quote that it stands in
-abbrev pub bareStep : Quote → ℕ → Step
-bareStep (In k) b = going (turned (In k) b) false
-bareStep Out b = cond (eqb b closeBrace) Closed (going (turned Out b) false)
-
--- an LF stops the search also where a backslash or a quote covers it; a backslash covers the next byte in quotes and outside
-unfoldable pub scanStep : Scan → ℕ → Step
-scanStep st b =
-    cond (eqb b lf) Broken
-    (cond (st .escaped) (going (st .quote) false)
-    (cond (eqb b backslash) (going (st .quote) true)
-    (bareStep (st .quote) b)))
-
-abbrev pub goOn : Step → ℕ → (Scan → Place) → Place
-goOn Closed i rest = At i
-goOn Broken i rest = Nothing
-goOn (Go st) i rest = rest st
-
--- the search in the state st over a list whose first byte stands at i
-unfoldable pub closeFrom : List ℕ → Scan → ℕ → Place
-closeFrom [] st i = Nothing
-closeFrom (b ∷ s) st i = goOn (scanStep st b) i (λ v. closeFrom s v (suc i))
-
 abbrev pub fresh : Scan
 fresh = uncovered Out
-
--- the search from `at` on
-unfoldable pub findClose : List ℕ → ℕ → Place
-findClose s at = closeFrom (drop at s) fresh at
 
 -- on paper: the place, or 4: "at a brace: no close"
 abbrev pub closePaper : Place → Paper

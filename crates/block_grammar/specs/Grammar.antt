@@ -64,3 +64,8 @@ pub data Tokens (m : Mode) : ℕ → List ℕ → List Placed → Type 0 where
 -- "A payload is one or more tokens parted by blanks, which may stand at both ends." Its first byte stands at `at`.
 pub data Payload (m : Mode) : ℕ → List ℕ → List Placed → Type 0 where
   payload : {at : ℕ} {b t e : List ℕ} {is : List Placed} → Blanks m b → Tokens m (at + length b) t is → Blanks m e → Payload m at (b ++ (t ++ e)) is
+
+-- what reading comes to: items, or that there is no reading
+pub data Reading : Type 0 where
+  refused : Reading
+  items : List Placed → Reading

@@ -1,6 +1,7 @@
--- The payload grammar: its rules, reading by computing, the meaning, the close and the quick test.
+-- The payload grammar: its rules and reading by computing, what a meaning is made of, the close by rules and by computing, the quick test.
 pub mod Grammar
-pub mod Read
+pub mod Computed
 pub mod Meaning
 pub mod Close
+pub mod ComputedClose
 pub mod Quick

@@ -12,13 +12,6 @@ pub struct Scan {
     pub escaped: bool,
 }
 
-// What a byte does: it closes the block, it is a line's end, or the search goes on.
-pub enum Step {
-    Closed,
-    Broken,
-    Go(Scan),
-}
-
 // A place of a text, or none.
 pub enum Place {
     Nothing,

@@ -14,8 +14,8 @@ use Rattle.base_lists.specs.Lists.{run}
 use Rattle.base_lists.proofs.More.{contra}
 use Rattle.base_bytes.specs.declared.Mode.{Mode}
 use Rattle.base_bytes.specs.Bytes.{isBlank}
-use Rattle.block_grammar.specs.Grammar.{Placed}
-use Rattle.block_grammar.specs.Read.{First, Reading, text, tokenOf, also, readFrom}
+use Rattle.block_grammar.specs.Grammar.{Placed, Reading}
+use Rattle.block_grammar.specs.Computed.{First, text, tokenOf, also, readFrom}
 use Rattle.block_tokens.specs.Shown.{shown, tokenEnd}
 use Rattle.block_tokens.specs.declared.Token.{Token}
 use Rattle.block_tokens.specs.declared.Token.the-variants.{Bad}

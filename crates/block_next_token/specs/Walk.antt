@@ -9,8 +9,8 @@ use Rattle.base_lists.specs.Lists.{run}
 use Rattle.base_refusals.specs.Numbers.{Paper, passedPaper}
 use Rattle.base_bytes.specs.declared.Mode.{Mode}
 use Rattle.base_bytes.specs.Bytes.{isBlank}
-use Rattle.block_grammar.specs.Grammar.{Placed}
-use Rattle.block_grammar.specs.Read.{Reading, tokenOf}
+use Rattle.block_grammar.specs.Grammar.{Placed, Reading}
+use Rattle.block_grammar.specs.Computed.{tokenOf}
 use Rattle.block_grammar.specs.declared.Place.{Place}
 use Rattle.block_grammar.specs.declared.Place.the-variants.{Nothing, At}
 use Rattle.block_tokens.specs.Shown.{shownItem, shown, tokenEnd, tokenPaper}
@@ -68,7 +68,7 @@ abbrev pub counted : Reading → Count
 counted Reading.refused = count.Bad
 counted (Reading.items is) = count.Tokens (length is)
 
--- ---- on paper: the places of what stands ahead, before them the place behind it, or how many there are
+-- ---- on paper: what stands ahead, none at the end, before it the place behind it; or how many there are
 
 abbrev pub aheadPaper : Ahead → Paper
 aheadPaper End = passedPaper []

@@ -1,6 +1,6 @@
 // A walker, which holds a text, a place in it and a mode, and gives the text's tokens one after the other.
 ghost use mathlib.Core.Path.{_≡_};
-ghost use Rattle.block_grammar.specs.Read.{readFrom};
+ghost use Rattle.block_grammar.specs.Computed.{readFrom};
 ghost use Rattle.block_tokens.specs.Shown.{tokenEnd};
 ghost use Rattle.block_next_token.specs.Walk.{goneTo, stepAt, setDown, atFront, walkerStep, aheadOf, gone, counted, aheadPaper, stepPaper, countPaper};
 use base_bytes::Mode;

@@ -10,7 +10,7 @@ use lib.Dec.{eqb}
 use lib.ListN.{length, getD, take, drop, length-drop}
 use lib.Seq.{drop-cons, take-all}
 use Rattle.base_bytes.specs.declared.Mode.the-variants.{Loose}
-use Rattle.block_grammar.specs.Read.{readPayload, readFrom}
+use Rattle.block_grammar.specs.Computed.{readPayload, readFrom}
 use Rattle.block_tokens.specs.Shown.{accepted}
 use Rattle.text_lines.specs.declared.Range.{Range}
 use Rattle.text_lines.specs.Trim.{trimRange}

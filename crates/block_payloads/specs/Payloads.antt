@@ -8,7 +8,7 @@ use Rattle.base_bytes.specs.declared.Mode.{Mode}
 use Rattle.base_bytes.specs.declared.Mode.the-variants.{Loose}
 use Rattle.base_bytes.specs.Bytes.{closeBrace, openBrace}
 use Rattle.text_checks.specs.Check.{isText}
-use Rattle.block_grammar.specs.Read.{readPayload}
+use Rattle.block_grammar.specs.Computed.{readPayload}
 use Rattle.block_tokens.specs.Shown.{accepted}
 use Rattle.text_lines.specs.Trim.{trim, trimStart}
 

@@ -10,8 +10,8 @@ use Rattle.base_lists.specs.Lists.{run}
 use Rattle.base_lists.proofs.More.{contra}
 use Rattle.base_bytes.specs.declared.Mode.{Mode}
 use Rattle.base_bytes.specs.Bytes.{isBlank}
-use Rattle.block_grammar.specs.Grammar.{Placed}
-use Rattle.block_grammar.specs.Read.{First, Reading, tokenOf, also, readFrom, oneOrMore, readPayload}
+use Rattle.block_grammar.specs.Grammar.{Placed, Reading}
+use Rattle.block_grammar.specs.Computed.{First, tokenOf, also, readFrom, oneOrMore, readPayload}
 use Rattle.block_grammar.specs.declared.Place.the-variants.{Nothing, At}
 use Rattle.block_tokens.specs.Shown.{shown, tokenEnd, accepted}
 use Rattle.block_tokens.proofs.Steps as steps

@@ -12,7 +12,7 @@ use lib.ListN.{length, getD, drop, drop-of-length-le, length-drop}
 use lib.Seq.{drop-cons, drop-drop}
 use borrow.Author.Tests.{eq-eqb, ne-eqb}
 use Rattle.base_lists.proofs.More.{contra}
-use Rattle.block_grammar.specs.Read.{Shut, later, shutStep, shutOf}
+use Rattle.block_grammar.specs.Computed.{Shut, later, shutStep, shutOf}
 use Rattle.block_grammar.specs.declared.Place.{Place}
 use Rattle.block_grammar.specs.declared.Place.the-variants.{Nothing, At}
 use Rattle.block_tokens.specs.Inner.{shutAt}

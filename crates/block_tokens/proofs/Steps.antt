@@ -11,9 +11,9 @@ use Rattle.base_lists.specs.Lists.{run}
 use Rattle.base_lists.proofs.Parts.{slice-add}
 use Rattle.base_bytes.specs.declared.Mode.{Mode}
 use Rattle.base_bytes.specs.Bytes.{isBlank}
-use Rattle.block_grammar.specs.Grammar.{Item, Placed}
+use Rattle.block_grammar.specs.Grammar.{Item, Placed, Reading}
 use Rattle.block_grammar.specs.Grammar as rules
-use Rattle.block_grammar.specs.Read.{First, Reading, text, tokenOf, also, readFrom}
+use Rattle.block_grammar.specs.Computed.{First, text, tokenOf, also, readFrom}
 use Rattle.block_grammar.specs.declared.Place.the-variants.{At}
 use Rattle.block_grammar.proofs.Tokens.{token-sound}
 use Rattle.block_grammar.proofs.Payload.{token-front}

@@ -17,7 +17,7 @@ use Rattle.base_bytes.specs.declared.Mode.{Mode}
 use Rattle.base_bytes.specs.Bytes.{isNamePart, isKeyStart, isQuote, isPlain}
 use Rattle.text_names.specs.Names.{isKey, isBareName}
 use Rattle.block_grammar.specs.Grammar.{Item, isValue}
-use Rattle.block_grammar.specs.Read.{First, Shut, ends, finish, frontToken, shutOf, quotedToken, plainToken, valueToken, afterName, nameToken, tokenOf}
+use Rattle.block_grammar.specs.Computed.{First, Shut, ends, finish, frontToken, shutOf, quotedToken, plainToken, valueToken, afterName, nameToken, tokenOf}
 use Rattle.block_grammar.proofs.Bytes.{key-part}
 use Rattle.block_grammar.specs.declared.Place.the-variants.{Nothing}
 use Rattle.block_tokens.specs.declared.Token.{Token}

@@ -6,9 +6,9 @@ use lib.ListN.{take, drop}
 use Rattle.base_bytes.specs.declared.Mode.{Mode}
 use Rattle.base_bytes.specs.Bytes.{equals}
 use Rattle.text_names.specs.Names.{isName}
-use Rattle.text_names.specs.Tags.{isLanguage}
+use Rattle.text_names.specs.Computed.{isLanguage}
 use Rattle.block_grammar.specs.Grammar.{Item}
-use Rattle.block_grammar.specs.Read.{First, Shut, shutOf, wordToken, quotedToken}
+use Rattle.block_grammar.specs.Computed.{First, Shut, shutOf, wordToken, quotedToken}
 use Rattle.block_grammar.specs.declared.Place.{Place}
 use Rattle.block_grammar.specs.declared.Place.the-variants.{Nothing, At}
 use Rattle.base_lists.specs.Lists.{begins}

@@ -4,8 +4,8 @@ use mathlib.Core.List.{[], _∷_}
 use Prim.Native.Nat.{ℕ, _+_}
 use lib.ListN.{length}
 use Rattle.base_refusals.specs.Numbers.{Paper, passedPaper}
-use Rattle.block_grammar.specs.Grammar.{Item}
-use Rattle.block_grammar.specs.Read.{First, Reading}
+use Rattle.block_grammar.specs.Grammar.{Item, Reading}
+use Rattle.block_grammar.specs.Computed.{First}
 use Rattle.block_grammar.specs.declared.Place.{Place}
 use Rattle.block_grammar.specs.declared.Place.the-variants.{Nothing, At}
 use Rattle.block_tokens.specs.declared.Token.{Token}
@@ -33,15 +33,15 @@ tokenEnd (Token.Plain f k e) = At e
 tokenEnd (Token.Quoted f k e) = At e
 tokenEnd (Token.Bare f e) = At e
 
--- on paper: the places of a token, or that there is none
+-- on paper: the kind of a token and its places, or that there is none, for which document 01 has no number
 abbrev pub tokenPaper : Token → Paper
-tokenPaper Token.Bad = passedPaper []
-tokenPaper (Token.Tag f e) = passedPaper (f ∷ e ∷ [])
-tokenPaper (Token.Id f e) = passedPaper (f ∷ e ∷ [])
-tokenPaper (Token.Class f e) = passedPaper (f ∷ e ∷ [])
-tokenPaper (Token.Plain f k e) = passedPaper (f ∷ k ∷ e ∷ [])
-tokenPaper (Token.Quoted f k e) = passedPaper (f ∷ k ∷ e ∷ [])
-tokenPaper (Token.Bare f e) = passedPaper (f ∷ e ∷ [])
+tokenPaper Token.Bad = passedPaper (0 ∷ [])
+tokenPaper (Token.Tag f e) = passedPaper (1 ∷ f ∷ e ∷ [])
+tokenPaper (Token.Id f e) = passedPaper (2 ∷ f ∷ e ∷ [])
+tokenPaper (Token.Class f e) = passedPaper (3 ∷ f ∷ e ∷ [])
+tokenPaper (Token.Plain f k e) = passedPaper (4 ∷ f ∷ k ∷ e ∷ [])
+tokenPaper (Token.Quoted f k e) = passedPaper (5 ∷ f ∷ k ∷ e ∷ [])
+tokenPaper (Token.Bare f e) = passedPaper (6 ∷ f ∷ e ∷ [])
 
 -- whether there is a reading
 abbrev pub accepted : Reading → Bool

@@ -5,7 +5,7 @@ ghost use Prim.Native.Nat.{_+_, _-_, _<_, _≤_};
 ghost use lib.ListN.{length, getD, drop};
 ghost use Rattle.base_lists.specs.Lists.{run, firstIs};
 ghost use Rattle.base_bytes.specs.Bytes.{isLetter, isNameStart, isNamePart, isKeyStart, isPlain, isBlank};
-ghost use Rattle.block_grammar.specs.Read.{ends, shutOf, nameToken, valueToken, tokenOf, readPayload};
+ghost use Rattle.block_grammar.specs.Computed.{ends, shutOf, nameToken, valueToken, tokenOf, readPayload};
 ghost use Rattle.block_tokens.specs.Shown.{accepted, shown, tokenEnd, tokenPaper};
 ghost use Rattle.block_tokens.specs.Inner.{startsEq, tagToken, idToken, classToken, quotedFrom, part, shutAt};
 use base_bytes::Mode;

@@ -10,7 +10,8 @@ use lib.Seq.{take-at}
 use Rattle.base_lists.proofs.More.{contra}
 use Rattle.base_refusals.specs.Numbers.{maxText}
 use Rattle.base_refusals.specs.declared.Refusal.{Refusal}
-use Rattle.block_chain.specs.Chain.{blocksFrom, readBlocks, goodLine}
+use Rattle.block_chain.specs.Chain.{goodLine}
+use Rattle.block_chain.specs.Computed.{blocksFrom, readBlocks}
 use Rattle.base_lists.specs.Lists.{isSome}
 use Rattle.run_lines.specs.Runs.{Run, runAt}
 use Rattle.base_refusals.specs.declared.Outcome as outcomes

@@ -2,7 +2,7 @@
 ghost use mathlib.Core.Path.{_≡_};
 ghost use Rattle.base_refusals.specs.Numbers.{outcomeNo};
 ghost use Rattle.base_bytes.specs.declared.Mode.the-variants.{Strict, Loose};
-ghost use Rattle.text_utf8.specs.Utf8.{isUtf8};
+ghost use Rattle.text_utf8.specs.Computed.{isUtf8};
 ghost use Rattle.text_checks.specs.Check.{checkOf};
 ghost use Rattle.block_payloads.specs.Payloads.{isPayload, isContinuation};
 

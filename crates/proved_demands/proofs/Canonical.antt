@@ -15,7 +15,7 @@ use Rattle.base_lists.proofs.More.{contra}
 use Rattle.base_lists.proofs.Each.{some-not, not-some}
 use Rattle.base_bytes.specs.Bytes.{within, isLetter, isDigit, isAlnum, isKeyStart, isNamePart, isMarked}
 use Rattle.base_bytes.specs.declared.Mode.the-variants.{Strict}
-use Rattle.text_utf8.specs.Utf8.{isUtf8}
+use Rattle.text_utf8.specs.Computed.{isUtf8}
 use Rattle.proved_texts.proofs.Utf8Boundaries.{ascii}
 use Rattle.base_refusals.specs.Numbers.{maxText}
 use Rattle.base_refusals.specs.declared.Refusal.the-variants.{CanonTooLong, NotWellFormed, EmptySet}

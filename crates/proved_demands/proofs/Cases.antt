@@ -4,15 +4,16 @@ use mathlib.Core.Path.{refl}
 use mathlib.Core.List.{flatMap}
 use Rattle.base_lists.specs.Lists.{all, headed, run, isIn, same}
 use Rattle.base_bytes.specs.Bytes.{within, isLetter, isDigit, isAlnum, isNameStart, isNamePart, isKeyStart, isBlank, isQuote, isPlain, isPunct, isSpace, isMarked}
-use Rattle.text_utf8.specs.Utf8.{isUtf8, octetsFrom, leadOf, afterOf}
+use Rattle.text_utf8.specs.Computed.{isUtf8, octetsFrom, leadOf, afterOf}
 use Rattle.base_refusals.specs.Numbers.{numberOf}
 use Rattle.text_names.specs.Names.{isName, isKey, isBareName}
-use Rattle.text_names.specs.Tags.{isSize, tagFrom, isTag, isLanguage}
+use Rattle.text_names.specs.Computed.{isSize, tagFrom, isTag, isLanguage}
 use Rattle.text_escapes.specs.Unescape.{unescapeFrom, unescape}
 use Rattle.block_grammar.specs.Grammar.{isValue}
-use Rattle.block_grammar.specs.Read.{ends, finish, shutOf, valueToken, afterName, tokenOf, text, readFrom, readPayload}
+use Rattle.block_grammar.specs.Computed.{ends, finish, shutOf, valueToken, afterName, tokenOf, text, readFrom, readPayload}
 use Rattle.block_grammar.specs.Meaning.{pieceRanges}
-use Rattle.block_grammar.specs.Close.{turned, scanStep, closeFrom, findClose}
+use Rattle.block_grammar.specs.Close.{turned}
+use Rattle.block_grammar.specs.ComputedClose.{scanStep, closeFrom, findClose}
 use Rattle.set_canon.specs.Canon.{marked, escape, moreText, pairsText, pairsOf, pairs, canon}
 use Rattle.set_table.specs.Types.{rangeBytes, nameBytes, valueBytes}
 use Rattle.set_table.specs.Rows.{hasKey, putRow, withPut, withPuts, slotEntry, meant, padded, tableOf, rowsIn, meaningOf}

@@ -3,7 +3,7 @@
 use mathlib.Core.Path.{_≡_, refl, sym}
 use mathlib.Core.Bool.{Bool, true, false, cond}
 use mathlib.Core.List.{List, [], _∷_, map}
-use Prim.Native.Nat.{ℕ, suc}
+use Prim.Native.Nat.{ℕ}
 use lib.Dec.{ltb}
 use lib.ListN.{length, drop}
 use lib.Seq.{take-at, drop-at}
@@ -21,9 +21,6 @@ use Rattle.text_lines.specs.declared.Line.the-variants as place
 use Rattle.text_checks.specs.Check.{isText}
 use Rattle.text_checks.specs.Outcomes.{orLeft}
 use Rattle.text_line_start.specs.Starts.{placeOf}
-use Rattle.block_grammar.specs.Close.{findClose}
-use Rattle.proved_grammar.specs.Close.{lastClose, isBefore}
-use Rattle.block_grammar.specs.declared.Place.the-variants.{Nothing}
 use Rattle.block_grammar.proofs.Payload as payloads
 use Rattle.block_chain.proofs.Blocks as chains
 use Rattle.set_canon.specs.Canon.{canon}
@@ -48,7 +45,6 @@ use Rattle.proved_texts.proofs.Utf8Grammar as utf8
 use Rattle.proved_texts.proofs.Escapes as escapes
 use Rattle.proved_texts.proofs.Tabs.{no-tab, columns-count, indent-spaces}
 use Rattle.proved_grammar.proofs.Blocks as lines-of-blocks
-use Rattle.proved_grammar.proofs.Close.{third-argument}
 use Rattle.proved_grammar.proofs.Quick.{quick-passes}
 use Rattle.proved_sets.proofs.MergeMeans.{merge-gives}
 use Rattle.proved_sets.proofs.MergeRules.{merge-by-rules}
@@ -57,14 +53,16 @@ use Rattle.proved_sets.proofs.Zeroed.{rest-zero}
 use Rattle.proved_runs.proofs.Bounds as runs
 use Rattle.proved_runs.proofs.RefusedBounds as refused-runs
 use Rattle.proved_runs.proofs.EndingBounds.{sum-of-runs}
-use Rattle.proved_reading.proofs.Meaning.{brace-by-rules, tidy, refused-empty}
+use Rattle.proved_reading.proofs.Meaning.{brace-by-rules, third-dropped, tidy, refused-empty}
 use Rattle.proved_reading.proofs.HandedOut.{handed-out-ok, fill-out-ok}
+use Rattle.proved_reading.proofs.ChainsOut.{chain-out-ok}
 use Rattle.proved_reading.proofs.ByLines.{blocks-by-rules, line-by-rules, block-by-rules, run-by-rules}
 use Rattle.proved_reading.proofs.BlockSets.{block-zeroed, filled-empty, block-empty, empty-fits}
 use Rattle.proved_reading.proofs.LineSets.{line-empty, line-zeroed, line-set-ok, block-set-ok, run-set-ok}
 use Rattle.proved_reading.proofs.LengthsAgree.{agree}
 use Rattle.proved_reading.proofs.LengthsFair.{fair-block, fair-wraps}
 use Rattle.proved_sheets.proofs.Answers.{next-zeroed}
+use Rattle.proved_sheets.proofs.BlockSets.{next-set-ok}
 use Rattle.proved_sheets.proofs.Calls.{refused-laid}
 use Rattle.proved_demands.specs.Demands.{Numbered, NoneIfRefused, NoSet, LeftAsStated, ByStandards, ByGrammar, LastCloseDropped, QuickTest, Lookahead, RowsZero, SetsWellFormed}
 
@@ -160,11 +158,7 @@ by-grammar =
 -- ======== to be proved
 
 pub last-close-dropped : LastCloseDropped
-last-close-dropped t start i h = go (isBefore (lastClose t) start) refl
-  where
-    go : (x : Bool) → isBefore (lastClose t) start ≡ x → cond x Nothing (findClose t (suc i)) ≡ findClose t (suc i)
-    go true e = sym (third-argument t start (suc i) h e)
-    go false e = refl
+last-close-dropped = third-dropped
 
 pub quick-test : QuickTest
 quick-test m t i e is c p = quick-passes p t (c .rest) i (c .whole)
@@ -208,5 +202,7 @@ sets-well-formed =
       block = λ t n base cap h. block-set-ok t h n base cap;
       run = λ t n base cap h. run-set-ok t h n base cap;
       merge = merge-well;
+      chain = chain-out-ok;
       fill = fill-out-ok;
+      next = next-set-ok;
     }

@@ -4,18 +4,19 @@ use mathlib.Core.Path.{refl}
 use mathlib.Core.List.{flatMap}
 use Rattle.base_lists.specs.Lists.{isIn, all, headed, run, same}
 use Rattle.base_bytes.specs.Bytes.{isBlank, isPlain, isQuote, within, isLetter, isDigit, isAlnum, isNamePart, isKeyStart, isNameStart, isSpace, isPunct, isTail, isIndent, isMarked}
-use Rattle.text_utf8.specs.Utf8.{leadOf, afterOf, octetsFrom, isUtf8}
+use Rattle.text_utf8.specs.Computed.{leadOf, afterOf, octetsFrom, isUtf8}
 use Rattle.base_refusals.specs.Numbers.{numberOf}
 use Rattle.text_checks.specs.Check.{checkOf}
 use Rattle.text_names.specs.Names.{isKey, isBareName, isName}
-use Rattle.text_names.specs.Tags.{isSize, tagFrom, isTag, isLanguage}
+use Rattle.text_names.specs.Computed.{isSize, tagFrom, isTag, isLanguage}
 use Rattle.text_escapes.specs.Unescape.{unescapeFrom, unescape}
 use Rattle.text_lines.specs.Lines.{lines, eol, lineFrom, rangesFrom, ranges}
 use Rattle.text_lines.specs.Trim.{trimEnd, trimStart, trim, trimRange, isBlankLine}
 use Rattle.text_tabs.specs.Columns.{tabStop, columnAfter, indentFrom, capped}
-use Rattle.block_grammar.specs.Read.{ends, finish, shutOf, valueToken, afterName, tokenOf, text, readFrom, readPayload}
+use Rattle.block_grammar.specs.Computed.{ends, finish, shutOf, valueToken, afterName, tokenOf, text, readFrom, readPayload}
 use Rattle.block_grammar.specs.Grammar.{isValue}
-use Rattle.block_grammar.specs.Close.{turned, scanStep, closeFrom}
+use Rattle.block_grammar.specs.Close.{turned}
+use Rattle.block_grammar.specs.ComputedClose.{scanStep, closeFrom}
 use Rattle.block_grammar.specs.Meaning as meaning
 use Rattle.set_canon.specs.Canon.{pairsOf, pairs, marked, escape, moreText, pairsText, canon}
 use Rattle.block_payloads.specs.Payloads.{endsInClose, behindFrom, behindLast, continues}
@@ -24,7 +25,8 @@ use Rattle.set_table.specs.Rows.{padded, tableOf, putRow, hasKey, withPut, with
 use Rattle.set_table.specs.Puts.{byName, valued, putsOf, putsIn}
 use Rattle.set_table.specs.Types.{rangeBytes, nameBytes, valueBytes}
 use Rattle.set_table.specs.Filled.{limited}
-use Rattle.block_chain.specs.Chain.{blocksFrom, readBlocks, goodLine}
+use Rattle.block_chain.specs.Chain.{goodLine}
+use Rattle.block_chain.specs.Computed.{blocksFrom, readBlocks}
 use Rattle.set_fill.specs.Fill.{chainAt}
 use Rattle.run_joins.specs.Joins.{passes}
 use Rattle.run_lines.specs.Runs.{runFrom, runAt}

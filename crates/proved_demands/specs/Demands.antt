@@ -2,7 +2,7 @@
 -- three demands. `Canonical` beside this page says demand 3 again of the bytes that calls write, and `Cases` has the twelve cases and the example; the other crates
 -- proved_* state the theorems of their subjects. A statement's proof is in proofs/Demands.antt, under its name with hyphens, or in proofs/Single.antt and proofs/Canonical.antt.
 use mathlib.Core.Path.{_≡_}
-use mathlib.Core.Bool.{true, false, not, cond}
+use mathlib.Core.Bool.{true, false, not}
 use mathlib.Core.List.{List, [], map}
 use Prim.Native.Nat.{ℕ, suc, _+_, _≤_}
 use lib.Dec.{eqb}
@@ -15,7 +15,8 @@ use Rattle.base_refusals.specs.Numbers.{maxText, lastNumber, numberOf}
 use Rattle.base_refusals.specs.declared.Refusal.{Refusal}
 use Rattle.base_refusals.specs.declared.Outcome.{Outcome}
 use Rattle.base_refusals.specs.declared.Outcome.the-variants as outcome
-use Rattle.text_utf8.specs.Utf8.{isUtf8, charCount}
+use Rattle.text_utf8.specs.Computed.{isUtf8}
+use Rattle.text_utf8.specs.Utf8.{charCount}
 use Rattle.proved_texts.specs.Utf8Rules.{WellFormed}
 use Rattle.text_escapes.specs.Unescape.{unescape}
 use Rattle.proved_texts.specs.EscapeRules.{StandsFor}
@@ -24,19 +25,19 @@ use Rattle.proved_texts.specs.Tabs.{expandFrom}
 use Rattle.text_lines.specs.Lines.{lines}
 use Rattle.text_checks.specs.Check.{isText}
 use Rattle.text_line_start.specs.Starts.{placeOf}
-use Rattle.block_grammar.specs.Grammar.{Placed, Payload}
-use Rattle.block_grammar.specs.Read.{Reading, readPayload}
-use Rattle.block_grammar.specs.Close.{Closes, findClose}
-use Rattle.proved_grammar.specs.Close.{lastClose, isBefore}
+use Rattle.block_grammar.specs.Grammar.{Placed, Payload, Reading}
+use Rattle.block_grammar.specs.Computed.{readPayload}
+use Rattle.block_grammar.specs.Close.{Closes}
 use Rattle.block_grammar.specs.Quick.{quickRefuses}
 use Rattle.block_grammar.specs.Meaning.{Entry}
-use Rattle.block_grammar.specs.declared.Place.the-variants.{Nothing}
-use Rattle.block_chain.specs.Chain.{Blocks, readBlocks}
+use Rattle.block_chain.specs.Chain.{Blocks}
+use Rattle.block_chain.specs.Computed.{readBlocks}
 use Rattle.set_canon.specs.Canon.{canon}
 use Rattle.set_table.specs.Types.{one, emptySet}
 use Rattle.set_table.specs.Rows.{meaningOf}
 use Rattle.set_table.specs.declared.Attrs.{Attrs}
 use Rattle.set_table.specs.declared.Filled.{Filled}
+use Rattle.set_fill.specs.Fill.{chainAt}
 use Rattle.set_wellformed.specs.WellFormed.{wellFormed}
 use Rattle.set_writer.specs.Write.{attrsWrote, attrsContent}
 use Rattle.set_writer.specs.declared.Wrote.the-variants as wrote
@@ -56,9 +57,10 @@ use Rattle.sheet_report.specs.Parts.{partOf, startOf}
 use Rattle.sheet_report.specs.declared.Told.the-variants as told
 use Rattle.proved_sets.specs.HandedOut.{Zeroed}
 use Rattle.proved_sets.specs.Merged.{MergeByRules}
-use Rattle.proved_reading.specs.AtBraces.{BraceByRules}
+use Rattle.proved_reading.specs.AtBraces.{BraceByRules, ThirdDropped}
 use Rattle.proved_reading.specs.HandedSets.{FillFormed}
 use Rattle.proved_reading.specs.ByLines.{BlocksByRules, LineByRules, BlockByRules, RunByRules}
+use Rattle.proved_sheets.specs.Blocks.{NextSetOk}
 use Rattle.proved_sheets.specs.Calls.{refusedLays}
 
 -- "exactly when"
@@ -79,7 +81,7 @@ abbrev pub SingleBoth : {A B : Type 0} → A → B → A → A → B → B → T
 SingleBoth v w r r′ m m′ = (r ≡ v) × (m ≡ w) → (r′ ≡ v) × (m′ ≡ w) → (r ≡ r′) × (m ≡ m′)
 
 -- "a refusal has its number from document 01": one of the table, and no two have the same. Which comes when, in which order,
--- is stated below of what reads or merges (`ByGrammar`), and by the other crates proved_* of the other entries.
+-- is stated below of what reads or merges (`ByGrammar`), and of every entry by its promise, which cites its order of refusals.
 pub record Numbered : Type 0 where
   pub among : (r : Refusal) → (1 ≤ numberOf r) × (numberOf r ≤ lastNumber)
   pub own : (q r : Refusal) → numberOf q ≡ numberOf r → q ≡ r
@@ -139,7 +141,7 @@ pub record ByGrammar : Type 0 where
   -- "blocks stand back to back to its end"
   pub blocks : (m : Mode) (at : ℕ) (s : List ℕ) (is : List Placed) → Iff (readBlocks m at s ≡ Reading.items is) (Blocks m at s is)
   -- "Given exactly when": rules name the answers, and what the set means that is handed out. Reading answers by a rule, and
-  -- nothing else (`Exactly`, proved_sets/specs/Limits): "a reader that always refuses or always gives one set" is shut out. At a brace by `Given` (read_brace/specs/Table)
+  -- nothing else (`Exactly`, proved_sets/specs/Limits): "a reader that always refuses or always gives one set" is shut out. At a brace by `Given` (proved_reading/specs/Table)
   pub brace : BraceByRules
   -- Elsewhere by the rules of proved_reading/specs/ByLines: blocks back to back, which "are merged left to right", on a line, in a block, in a run. "a chain reader
   -- that reads block one and skips the others" is shut out
@@ -154,10 +156,9 @@ pub record ByGrammar : Type 0 where
 
 -- ======== "To be proved"
 
--- "its dropped third argument, the true place of the text's last `}`, changes nothing": to find no close wherever that `}` stands before the place `start`, as
--- 000 does, finds what is found without it
+-- "its dropped third argument, the true place of the text's last `}`, changes nothing": `read_attrs_at` with 000's test of it is `read_attrs_at` without it
 abbrev pub LastCloseDropped : Type 0
-LastCloseDropped = (t : List ℕ) (start i : ℕ) → start ≤ suc i → cond (isBefore (lastClose t) start) Nothing (findClose t (suc i)) ≡ findClose t (suc i)
+LastCloseDropped = ThirdDropped
 
 -- "the quick test refuses nothing that the grammar accepts": a payload in either mode between the brace at i and its close
 abbrev pub QuickTest : Type 0
@@ -188,7 +189,11 @@ pub record SetsWellFormed : Type 0 where
   pub block : (t : List ℕ) (n base cap : ℕ) → isText t ≡ true → wellFormed (textIn t (blockFound t n base cap)) (blockOf t (placeOf t n) (blockFound t n base cap) .set) ≡ true
   pub run : (t : List ℕ) (n base cap : ℕ) → isText t ≡ true → wellFormed (textIn t (wrappedFound t n base cap)) (blockOf t (placeOf t n) (wrappedFound t n base cap) .set) ≡ true
   pub merge : (t : List ℕ) (a b : Attrs) → isText t ≡ true → wellFormed t (mergeOf t a b .set) ≡ true
+  -- `fill_chain`, of any part of a text; `fill` only of a part that is UTF-8 by itself and holds no LF, which its callers see to
+  pub chain : (m : Mode) (t : List ℕ) (from to : ℕ) → isText t ≡ true → wellFormed t (chainAt m t from to .set) ≡ true
   pub fill : FillFormed
+  -- `next_block`, of a whole sheet
+  pub next : NextSetOk
 
 -- ======== Demand 3
 

@@ -10,12 +10,14 @@ use lib.Seq.{take-at}
 use Rattle.base_lists.proofs.More.{contra}
 use Rattle.base_lists.proofs.Parts.{drop-behind}
 use Rattle.base_bytes.specs.declared.Mode.{Mode}
-use Rattle.block_grammar.specs.Grammar.{Placed}
-use Rattle.block_grammar.specs.Read.{Reading, oneOrMore}
-use Rattle.block_grammar.specs.Close.{fresh, closeFrom}
+use Rattle.block_grammar.specs.Grammar.{Placed, Reading}
+use Rattle.block_grammar.specs.Computed.{oneOrMore}
+use Rattle.block_grammar.specs.Close.{fresh}
+use Rattle.block_grammar.specs.ComputedClose.{closeFrom}
 use Rattle.block_grammar.specs.declared.Place.the-variants.{At}
 use Rattle.block_grammar.proofs.Payload as payload
-use Rattle.block_chain.specs.Chain.{OneBlock, Blocks, joined, blocksFrom, readBlocks}
+use Rattle.block_chain.specs.Chain.{OneBlock, Blocks}
+use Rattle.block_chain.specs.Computed.{joined, blocksFrom, readBlocks}
 use Rattle.block_chain.proofs.Blocks.{block-at, block-some}
 use Rattle.block_chain.proofs.Blocks as laws
 use Rattle.proved_grammar.specs.Blocks.{ReadIsBlocks, BlocksAreRead, OneReadingOfBlocks, RefusedIsNoBlocks}

@@ -16,10 +16,10 @@ use Rattle.base_lists.proofs.More.{contra, all-parts}
 use Rattle.base_bytes.specs.Bytes.{isQuote}
 use Rattle.block_grammar.specs.Grammar.{Inside}
 use Rattle.block_grammar.specs.declared.Quote.the-variants.{Out, In}
-use Rattle.block_grammar.specs.declared.Step.the-variants.{Closed}
 use Rattle.block_grammar.specs.declared.Place.{Place}
 use Rattle.block_grammar.specs.declared.Place.the-variants.{Nothing, At}
-use Rattle.block_grammar.specs.Close.{uncovered, going, turned, scanStep, goOn, closeFrom, fresh, findClose, Covered, noLf}
+use Rattle.block_grammar.specs.Close.{uncovered, turned, fresh, Covered, noLf}
+use Rattle.block_grammar.specs.ComputedClose.{Scanned, going, scanStep, goOn, closeFrom, findClose}
 use Rattle.proved_grammar.specs.Close.{lastFrom, lastClose, isBefore, FoundCloses, CloseIsFound, OneClose, NothingIsNoClose, notClose, IsLast, LastIsTrue, NoBraceNoClose, ThirdArgument, ThirdChangesNothing}
 use Rattle.block_grammar.proofs.Tokens.{quote-not}
 use Rattle.block_grammar.proofs.Close.{quote-close, quote-lf}
@@ -34,7 +34,7 @@ byte-pass : (b : ℕ) (t : List ℕ) (i : ℕ) → isIn (34 ∷ 39 ∷ 92 ∷ 12
 unfolding closeFrom scanStep turned isQuote isIn
 byte-pass b t i h n = rw n (go (eqb b 34) (eqb b 39) (eqb b 92) (eqb b 125) h)
   where
-    go : (w x y z : Bool) → (w || (x || (y || (z || false)))) ≡ false → goOn (cond y (going Out true) (cond z Closed (going (cond (w || (x || false)) (In b) Out) false))) i (λ v. closeFrom t v (suc i)) ≡ closeFrom t fresh (suc i)
+    go : (w x y z : Bool) → (w || (x || (y || (z || false)))) ≡ false → goOn (cond y (going Out true) (cond z Scanned.closed (going (cond (w || (x || false)) (In b) Out) false))) i (λ v. closeFrom t v (suc i)) ≡ closeFrom t fresh (suc i)
     go true x y z h = contra true refl h
     go false true y z h = contra true refl h
     go false false true z h = contra true refl h

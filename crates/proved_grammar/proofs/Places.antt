@@ -9,7 +9,7 @@ use lib.ListN.{length, drop, length-append}
 use lib.Seq.{drop-at}
 use Rattle.base_bytes.specs.declared.Mode.{Mode}
 use Rattle.block_grammar.specs.Grammar.{Placed}
-use Rattle.block_grammar.specs.Read.{text}
+use Rattle.block_grammar.specs.Computed.{text}
 use Rattle.block_grammar.proofs.Chain.{Chain, payload-chain}
 use Rattle.block_grammar.proofs.Payload.{token-text}
 use Rattle.proved_grammar.specs.Places.{PayloadStands}

@@ -9,8 +9,8 @@ use lib.ListN.{length}
 use denote.Ref.{RefT, now}
 use Rattle.base_lists.proofs.More.{contra}
 use Rattle.base_bytes.specs.declared.Mode.{Mode}
-use Rattle.block_grammar.specs.Grammar.{Placed}
-use Rattle.block_grammar.specs.Read.{Reading, also, oneOrMore, readPayload}
+use Rattle.block_grammar.specs.Grammar.{Placed, Reading}
+use Rattle.block_grammar.specs.Computed.{also, oneOrMore, readPayload}
 use Rattle.block_tokens.specs.declared.Token.{Token}
 use Rattle.block_tokens.specs.declared.Token.the-variants.{Bad}
 use Rattle.block_next_token.specs.Walk.{stepAt, setDown, gone, shownPlaced}

@@ -3,9 +3,9 @@ use mathlib.Core.Path.{_≡_}
 use mathlib.Core.List.{List}
 use Prim.Native.Nat.{ℕ}
 use Rattle.base_bytes.specs.declared.Mode.{Mode}
-use Rattle.block_grammar.specs.Grammar.{Placed}
-use Rattle.block_grammar.specs.Read.{Reading}
-use Rattle.block_chain.specs.Chain.{Blocks, readBlocks}
+use Rattle.block_grammar.specs.Grammar.{Placed, Reading}
+use Rattle.block_chain.specs.Chain.{Blocks}
+use Rattle.block_chain.specs.Computed.{readBlocks}
 
 -- what is read is blocks back to back with these items, ..
 abbrev pub ReadIsBlocks : Type 0

@@ -1,5 +1,5 @@
 -- "the payload ends before the first `}` that no quote or backslash covers; here a backslash covers the next byte outside quotes too. An LF before it means
--- no close." The rules `Closes` and the search `findClose` are in block_grammar/specs/Close.
+-- no close." The rules `Closes` are in block_grammar/specs/Close, the search `findClose` in ComputedClose beside it.
 use mathlib.Core.Path.{_≡_}
 use mathlib.Core.Bool.{Bool, true, cond, not}
 use mathlib.Core.List.{List, [], _∷_, _++_}
@@ -10,7 +10,8 @@ use Rattle.base_lists.specs.Lists.{all}
 use Rattle.base_bytes.specs.Bytes.{closeBrace}
 use Rattle.block_grammar.specs.declared.Place.{Place}
 use Rattle.block_grammar.specs.declared.Place.the-variants.{Nothing, At}
-use Rattle.block_grammar.specs.Close.{closeFrom, fresh, findClose, Closes}
+use Rattle.block_grammar.specs.Close.{fresh, Closes}
+use Rattle.block_grammar.specs.ComputedClose.{closeFrom, findClose}
 
 -- the search over s, whose first byte stands at i, finds a close by the rules, ..
 abbrev pub FoundCloses : Type 0

@@ -4,8 +4,8 @@ use mathlib.Core.Path.{_≡_}
 use mathlib.Core.List.{List}
 use Prim.Native.Nat.{ℕ}
 use Rattle.base_bytes.specs.declared.Mode.{Mode}
-use Rattle.block_grammar.specs.Grammar.{Placed, Payload}
-use Rattle.block_grammar.specs.Read.{Reading, readPayload}
+use Rattle.block_grammar.specs.Grammar.{Placed, Payload, Reading}
+use Rattle.block_grammar.specs.Computed.{readPayload}
 
 -- what is read is a payload with these items, ..
 abbrev pub ReadIsPayload : Type 0

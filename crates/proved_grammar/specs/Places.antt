@@ -5,9 +5,10 @@ use Prim.Native.Nat.{ℕ}
 use lib.ListN.{length, drop}
 use lib.Seq.{slice}
 use Rattle.base_bytes.specs.declared.Mode.{Mode}
-use Rattle.block_grammar.specs.Grammar.{Placed, Payload}
-use Rattle.block_grammar.specs.Read.{Reading, text}
-use Rattle.block_chain.specs.Chain.{Blocks, readBlocks}
+use Rattle.block_grammar.specs.Grammar.{Placed, Payload, Reading}
+use Rattle.block_grammar.specs.Computed.{text}
+use Rattle.block_chain.specs.Chain.{Blocks}
+use Rattle.block_chain.specs.Computed.{readBlocks}
 
 -- the items' texts stand in w at their places
 pub data Standing (w : List ℕ) : List Placed → Type 0 where

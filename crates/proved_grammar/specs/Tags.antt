@@ -4,7 +4,7 @@ use mathlib.Core.Path.{_≡_}
 use mathlib.Core.Bool.{true}
 use mathlib.Core.List.{List}
 use Prim.Native.Nat.{ℕ}
-use Rattle.text_names.specs.Tags.{isTag, isLanguage}
+use Rattle.text_names.specs.Computed.{isTag, isLanguage}
 use Rattle.text_names.specs.Grammar.{Tag, Language}
 
 -- "A tag is one subtag, or a subtag, a hyphen and a tag.": what passes is a tag, ..

@@ -7,8 +7,8 @@ use lib.ListN.{length, take, drop}
 use lib.Seq.{slice}
 use denote.Ref.{RefT, now}
 use Rattle.base_bytes.specs.declared.Mode.{Mode}
-use Rattle.block_grammar.specs.Grammar.{Placed}
-use Rattle.block_grammar.specs.Read.{Reading, readFrom, readPayload}
+use Rattle.block_grammar.specs.Grammar.{Placed, Reading}
+use Rattle.block_grammar.specs.Computed.{readFrom, readPayload}
 use Rattle.block_tokens.specs.declared.Token.{Token}
 use Rattle.block_tokens.specs.declared.Token.the-variants.{Bad}
 use Rattle.block_next_token.specs.Walk.{stepAt, setDown, aheadOf, gone, shownPlaced}

@@ -12,14 +12,14 @@ use lib.ListN.{length, getD, List·getD-eq-default}
 use Rattle.base_lists.specs.Lists.{isIn}
 use Rattle.base_lists.proofs.More.{contra}
 use Rattle.base_bytes.specs.declared.Mode.{Mode}
-use Rattle.text_utf8.specs.Utf8.{isUtf8}
+use Rattle.text_utf8.specs.Computed.{isUtf8}
 use Rattle.proved_texts.specs.Utf8Rules.{WellFormed}
 use Rattle.proved_texts.proofs.Utf8Grammar as utf8
 use Rattle.proved_texts.proofs.Utf8Boundaries.{before-ascii, after-ascii, part-utf8}
 use Rattle.base_refusals.specs.Numbers.{maxText, numberOf}
 use Rattle.block_grammar.specs.Meaning.{Entry}
 use Rattle.proved_grammar.specs.Meaning.{meaning}
-use Rattle.block_grammar.specs.Close.{findClose}
+use Rattle.block_grammar.specs.ComputedClose.{findClose}
 use Rattle.block_grammar.proofs.Close.{found, payload-is}
 use Rattle.proved_sets.proofs.CanonAtBrace as rules
 use Rattle.proved_sets.proofs.CanonAtBrace.{AtBrace, readAt}

@@ -21,11 +21,11 @@ use Rattle.text_lines.specs.declared.Line.the-variants as place
 use Rattle.text_line_start.specs.declared.Start as starts
 use Rattle.text_line_start.specs.declared.Start.the-variants as start
 use Rattle.text_line_start.specs.Starts.{begun, startAt, onStart}
-use Rattle.block_grammar.specs.Grammar.{Placed}
-use Rattle.block_grammar.specs.Read.{Reading}
+use Rattle.block_grammar.specs.Grammar.{Placed, Reading}
 use Rattle.block_grammar.specs.Meaning.{Entry}
 use Rattle.proved_grammar.specs.Meaning.{entriesOf, meaning}
-use Rattle.block_chain.specs.Chain.{Blocks, readBlocks, goodLine}
+use Rattle.block_chain.specs.Chain.{Blocks, goodLine}
+use Rattle.block_chain.specs.Computed.{readBlocks}
 use Rattle.proved_grammar.specs.Merged.{blockItems, merged}
 use Rattle.block_trimmed_line.specs.Fronts.{frontOf, opensAt}
 use Rattle.set_table.specs.Types.{one}

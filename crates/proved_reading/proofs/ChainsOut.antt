@@ -11,13 +11,13 @@ use lib.Seq.{slice}
 use Rattle.text_checks.proofs.Texts.{text-utf8}
 use Rattle.base_lists.specs.Lists.{all}
 use Rattle.base_bytes.specs.declared.Mode.{Mode}
-use Rattle.text_utf8.specs.Utf8.{isUtf8}
+use Rattle.text_utf8.specs.Computed.{isUtf8}
 use Rattle.text_checks.specs.Check.{isText}
 use Rattle.base_refusals.specs.Numbers.{maxText}
 use Rattle.base_refusals.specs.declared.Refusal.the-variants.{TextTooLong}
-use Rattle.block_grammar.specs.Grammar.{Placed}
-use Rattle.block_grammar.specs.Read.{Reading}
-use Rattle.block_chain.specs.Chain.{OneBlock, Blocks, readBlocks}
+use Rattle.block_grammar.specs.Grammar.{Placed, Reading}
+use Rattle.block_chain.specs.Chain.{OneBlock, Blocks}
+use Rattle.block_chain.specs.Computed.{readBlocks}
 use Rattle.block_chain.proofs.Blocks.{sound}
 use Rattle.set_table.specs.Types.{one}
 use Rattle.set_table.specs.Puts.{putsIn}

@@ -12,13 +12,13 @@ use lib.Seq.{slice}
 use Rattle.base_lists.specs.Lists.{all}
 use Rattle.base_lists.proofs.Scan.{both}
 use Rattle.base_lists.proofs.More.{contra}
-use Rattle.text_utf8.specs.Utf8.{isUtf8}
+use Rattle.text_utf8.specs.Computed.{isUtf8}
 use Rattle.text_checks.proofs.Texts.{text-utf8}
 use Rattle.base_refusals.specs.Numbers.{maxText}
 use Rattle.base_refusals.specs.declared.Refusal.the-variants.{NotUtf8, NothingThere, TextTooLong, TooManyClasses, TooManyKeys}
-use Rattle.block_grammar.specs.Grammar.{Placed}
-use Rattle.block_grammar.specs.Read.{Reading, readFrom, readPayload}
-use Rattle.block_grammar.specs.Close.{findClose}
+use Rattle.block_grammar.specs.Grammar.{Placed, Reading}
+use Rattle.block_grammar.specs.Computed.{readFrom, readPayload}
+use Rattle.block_grammar.specs.ComputedClose.{findClose}
 use Rattle.block_grammar.specs.declared.Place.{Place}
 use Rattle.block_grammar.specs.declared.Place.the-variants.{Nothing, At}
 use Rattle.set_table.specs.Types.{Texts, one, emptySet, maxClasses, maxKeys}

@@ -12,16 +12,17 @@ use Rattle.base_lists.proofs.Scan.{both}
 use Rattle.base_lists.proofs.Parts.{slice-part}
 use Rattle.base_lists.proofs.More.{contra}
 use Rattle.base_bytes.specs.declared.Mode.{Mode}
-use Rattle.text_utf8.specs.Utf8.{isUtf8}
+use Rattle.text_utf8.specs.Computed.{isUtf8}
 use Rattle.proved_texts.proofs.Utf8Grammar as utf8
 use Rattle.base_refusals.specs.Numbers.{maxText, numberOf}
 use Rattle.base_refusals.specs.declared.Refusal.{Refusal}
 use Rattle.base_refusals.specs.declared.Refusal.the-variants.{NothingThere, NoClose, NoReading, TooManyClasses, TooManyKeys}
-use Rattle.block_grammar.specs.Grammar.{Placed, Payload}
-use Rattle.block_grammar.specs.Read.{Reading, readPayload}
+use Rattle.block_grammar.specs.Grammar.{Placed, Payload, Reading}
+use Rattle.block_grammar.specs.Computed.{readPayload}
 use Rattle.block_grammar.specs.Meaning.{Entry}
 use Rattle.proved_grammar.specs.Meaning.{entriesOf, meaning}
-use Rattle.block_grammar.specs.Close.{Closes, findClose}
+use Rattle.block_grammar.specs.Close.{Closes}
+use Rattle.block_grammar.specs.ComputedClose.{findClose}
 use Rattle.block_grammar.specs.declared.Place.{Place}
 use Rattle.block_grammar.specs.declared.Place.the-variants.{Nothing, At}
 use Rattle.block_grammar.proofs.Payload.{sound, complete}
@@ -45,10 +46,10 @@ use Rattle.read_brace.specs.declared.Read.{Read}
 use Rattle.read_brace.specs.Brace.{bracePaper, refusingRead, braceAt, payloadOf, finished, readTo, atBrace, readAttrsAt}
 use Rattle.proved_reading.specs.Table.{BraceAt, BlockAt, Reads, Given}
 use Rattle.proved_sets.specs.Limits.{classCount, keyCount}
-use Rattle.proved_reading.specs.AtBraces.{AnswersSo, BraceByRules, UpToSeven}
+use Rattle.proved_reading.specs.AtBraces.{AnswersSo, BraceByRules, UpToSeven, ThirdDropped}
 use Rattle.proved_reading.specs.HandedSets.{BraceRefused, Tidy, BraceTidy}
 use Rattle.proved_sets.proofs.Counts.{class-fill, key-fill}
-use Rattle.proved_grammar.proofs.Close.{close-complete, no-close}
+use Rattle.proved_grammar.proofs.Close.{close-complete, no-close, third-changes-nothing}
 use Rattle.proved_grammar.proofs.Payload.{no-reading}
 use Rattle.proved_grammar.proofs.Places.{Standing, standing}
 
@@ -274,3 +275,9 @@ module _ (m : Mode) (t : List ℕ) (i : ℕ) where
       go (Given.classes h l) = omega arith
       go (Given.keys h l k) = omega arith
       go (Given.read h l k) = omega arith
+
+-- ======== the dropped argument
+
+pub third-dropped : ThirdDropped
+unfolding readAttrsAt atBrace
+third-dropped m t i = rw (third-changes-nothing t i)

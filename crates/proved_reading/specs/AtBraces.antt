@@ -1,13 +1,14 @@
 -- Reading at a brace against the table 'Sizes and refusal numbers', whose rows are the rules `Given` of Table.
 use Prim.Native.Nat.{ℕ, _≤_}
 use mathlib.Core.Path.{_≡_}
-use mathlib.Core.Bool.{true}
+use mathlib.Core.Bool.{true, cond}
 use mathlib.Core.List.{List, []}
 use lib.ListN.{length}
 use Rattle.base_bytes.specs.declared.Mode.{Mode}
 use Rattle.base_bytes.specs.declared.Mode.the-variants.{Strict}
-use Rattle.base_refusals.specs.Numbers.{maxText}
-use Rattle.text_utf8.specs.Utf8.{isUtf8}
+use Rattle.base_refusals.specs.Numbers.{maxText, tooLong}
+use Rattle.base_refusals.specs.declared.Refusal.the-variants.{TextTooLong, NothingThere}
+use Rattle.text_utf8.specs.Computed.{isUtf8}
 use Rattle.block_grammar.specs.Meaning.{Entry}
 use Rattle.set_canon.specs.Canon.{canon}
 use Rattle.proved_sets.specs.Formed.{wf}
@@ -15,7 +16,9 @@ use Rattle.set_table.specs.Types.{one}
 use Rattle.set_table.specs.Rows.{meaningOf}
 use Rattle.read_brace.specs.declared.Answer.{Answer}
 use Rattle.read_brace.specs.declared.Answer.the-variants.{Next}
-use Rattle.read_brace.specs.Brace.{bracePaper, readAttrsAt}
+use Rattle.read_brace.specs.declared.Read.{Read}
+use Rattle.read_brace.specs.Brace.{bracePaper, refusingRead, braceAt, readTo, readAttrsAt}
+use Rattle.proved_grammar.specs.Close.{lastClose, searchWith}
 use Rattle.proved_reading.specs.Table.{Given}
 use Rattle.proved_sets.specs.Limits.{Exactly}
 
@@ -47,3 +50,12 @@ ReadIsWell m t i n = readAttrsAt m t i .answer ≡ Next n → (wf (meantAt m t i
 abbrev pub ReadsBackAgain : Mode → List ℕ → ℕ → ℕ → Type 0
 ReadsBackAgain m t i n = readAttrsAt m t i .answer ≡ Next n → length (canon (meantAt m t i)) ≤ maxText → isUtf8 (canon (meantAt m t i)) ≡ true
     → AnswersSo Strict (canon (meantAt m t i)) 0 (Next (length (canon (meantAt m t i)))) (meantAt m t i)
+
+-- ---- "its dropped third argument, the true place of the text's last `}`, changes nothing"
+
+-- reading with 000's test of that argument before the search for the close
+abbrev pub readWithLast : Mode → List ℕ → ℕ → Read
+readWithLast m t i = cond (tooLong t) (refusingRead TextTooLong) (cond (braceAt t i) (readTo m t i (searchWith (lastClose t) t i)) (refusingRead NothingThere))
+
+abbrev pub ThirdDropped : Type 0
+ThirdDropped = (m : Mode) (t : List ℕ) (i : ℕ) → readWithLast m t i ≡ readAttrsAt m t i

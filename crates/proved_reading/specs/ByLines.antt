@@ -1,4 +1,5 @@
--- Reading lines, blocks and runs against the table 'Sizes and refusal numbers', by rules: "elsewhere 1, 2, 3, 9 or 5 as the run meets them, 6, 7, ..".
+-- Reading lines, blocks and runs against the table 'Sizes and refusal numbers', by rules: "elsewhere 1, 2, 3, 9 or 5 as the run meets them, 6, 7".
+-- What a run meets, and whether a line is trimmed or makes a run, is by the definitions that the promises cite.
 use Prim.Native.Nat.{ℕ}
 use mathlib.Core.Path.{_≡_}
 use mathlib.Core.Bool.{true, false}

@@ -8,7 +8,7 @@ use lib.Seq.{slice}
 use Rattle.base_bytes.specs.declared.Mode.{Mode}
 use Rattle.base_refusals.specs.declared.Refusal.{Refusal}
 use Rattle.base_refusals.specs.declared.Outcome.the-variants as outcome
-use Rattle.text_utf8.specs.Utf8.{isUtf8}
+use Rattle.text_utf8.specs.Computed.{isUtf8}
 use Rattle.text_checks.specs.Check.{isText}
 use Rattle.text_line_start.specs.Starts.{placeOf}
 use Rattle.block_grammar.specs.Close.{noLf}

@@ -15,7 +15,7 @@ use Rattle.base_lists.proofs.Scan.{both, all-append, all-drop, all-take}
 use Rattle.base_lists.proofs.More.{among, contra}
 use Rattle.base_lists.proofs.Parts.{drop-min}
 use Rattle.base_bytes.specs.Bytes.{isSpace}
-use Rattle.text_utf8.specs.Utf8.{isUtf8, octetsFrom}
+use Rattle.text_utf8.specs.Computed.{isUtf8, octetsFrom}
 use Rattle.text_utf8.proofs.Laws.{past-ascii}
 use Rattle.proved_texts.proofs.Utf8Grammar.{utf8-append}
 use Rattle.proved_texts.proofs.Utf8Boundaries.{parts, before-ascii, after-ascii}

@@ -8,7 +8,7 @@ use lib.ListN.{length, drop}
 use Rattle.base_lists.specs.Lists.{all}
 use Rattle.base_bytes.specs.Bytes.{lf}
 use Rattle.base_refusals.specs.Numbers.{outcomeNo}
-use Rattle.text_utf8.specs.Utf8.{isUtf8}
+use Rattle.text_utf8.specs.Computed.{isUtf8}
 use Rattle.text_lines.specs.Lines.{lineOf, lineAt}
 use Rattle.text_lines.specs.declared.Range.{Range}
 use Rattle.text_lines.specs.declared.Line.the-variants.{At}

@@ -1,4 +1,4 @@
--- The last open brace by rules, texts in which all scanners agree, and texts by characters.
+-- The last open brace by rules, bytes that stand nowhere outside quotes, and texts by characters.
 use mathlib.Core.Path.{_≡_}
 use mathlib.Core.Bool.{Bool, true, cond, not, _&&_}
 use mathlib.Core.List.{List, [], _∷_, _++_}

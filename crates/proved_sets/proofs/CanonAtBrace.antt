@@ -9,13 +9,14 @@ use lib.Dec.{eqb}
 use lib.ListN.{getD, take, drop}
 use borrow.Author.Tests.{eqb-true, eqb-false, eq-eqb, ne-eqb}
 use Rattle.base_bytes.specs.declared.Mode.{Mode}
-use Rattle.block_grammar.specs.Grammar.{Placed, Payload}
-use Rattle.block_grammar.specs.Read.{Reading, readPayload}
+use Rattle.block_grammar.specs.Grammar.{Placed, Payload, Reading}
+use Rattle.block_grammar.specs.Computed.{readPayload}
 use Rattle.block_grammar.specs.Meaning.{Entry}
 use Rattle.proved_grammar.specs.Meaning.{meaning}
 use Rattle.block_grammar.specs.declared.Place.{Place}
 use Rattle.block_grammar.specs.declared.Place.the-variants.{Nothing, At}
-use Rattle.block_grammar.specs.Close.{findClose, Closes}
+use Rattle.block_grammar.specs.Close.{Closes}
+use Rattle.block_grammar.specs.ComputedClose.{findClose}
 use Rattle.block_grammar.proofs.Payload.{sound, complete}
 use Rattle.block_grammar.proofs.Close.{found, payload-is}
 use Rattle.proved_grammar.proofs.Close.{close-complete, no-close}

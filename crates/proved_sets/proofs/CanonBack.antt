@@ -15,11 +15,12 @@ use Rattle.base_bytes.specs.declared.Mode.the-variants.{Strict}
 use Rattle.base_bytes.specs.Bytes.{isBlank, within, isLetter, isDigit, isAlnum, isNamePart, isQuote}
 use Rattle.text_names.specs.Names.{isKey}
 use Rattle.block_grammar.specs.Grammar.{Item, Placed, IsToken}
-use Rattle.block_grammar.specs.Read.{readFrom, readPayload}
+use Rattle.block_grammar.specs.Computed.{readFrom, readPayload}
 use Rattle.block_grammar.specs.Meaning.{Entry}
 use Rattle.proved_grammar.specs.Meaning.{isClass, said, puts, entriesOf, meaning}
 use Rattle.block_grammar.specs.declared.Place.the-variants.{At}
-use Rattle.block_grammar.specs.Close.{scanStep, closeFrom, fresh, findClose, Covered, noLf}
+use Rattle.block_grammar.specs.Close.{fresh, Covered, noLf}
+use Rattle.block_grammar.specs.ComputedClose.{scanStep, closeFrom, findClose}
 use Rattle.block_grammar.proofs.Bytes.{key-parts}
 use Rattle.block_grammar.proofs.Chain.{Chain, no-blanks, chain-payload}
 use Rattle.block_grammar.proofs.Payload.{complete}

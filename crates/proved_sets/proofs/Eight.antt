@@ -14,8 +14,9 @@ use Rattle.base_refusals.specs.declared.Refusal.the-variants.{TooManyClasses, T
 use Rattle.base_refusals.specs.declared.Outcome.the-variants.{Passed}
 use Rattle.text_checks.specs.Check.{isText}
 use Rattle.text_checks.proofs.Texts.{text-passes}
-use Rattle.block_grammar.specs.Read.{Reading, readPayload}
-use Rattle.block_chain.specs.Chain.{readBlocks}
+use Rattle.block_grammar.specs.Computed.{readPayload}
+use Rattle.block_grammar.specs.Grammar.{Reading}
+use Rattle.block_chain.specs.Computed.{readBlocks}
 use Rattle.set_table.specs.Types.{Texts, one, maxClasses, maxKeys, maxSlots}
 use Rattle.set_table.specs.Rows.{Rows, Put, noRows, withPuts, tableOf, rowsIn}
 use Rattle.set_table.specs.Puts.{putsIn}

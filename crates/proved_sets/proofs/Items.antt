@@ -14,8 +14,8 @@ use Rattle.base_lists.proofs.Same.{same-refl, same-true}
 use Rattle.base_lists.proofs.More.{contra}
 use Rattle.base_bytes.specs.declared.Mode.{Mode}
 use Rattle.text_escapes.specs.Unescape.{unescape}
-use Rattle.block_grammar.specs.Grammar.{Item, Placed}
-use Rattle.block_grammar.specs.Read.{Reading, text, readFrom, readPayload}
+use Rattle.block_grammar.specs.Grammar.{Item, Placed, Reading}
+use Rattle.block_grammar.specs.Computed.{text, readFrom, readPayload}
 use Rattle.block_grammar.specs.Meaning.{Entry, PieceAt, pieceRanges, idName, className, orWhole}
 use Rattle.proved_grammar.specs.Meaning.{piecesFrom, classesOf, valuesOf, isClass, said, withValues, put, puts, entriesOf, meaning}
 use Rattle.block_grammar.proofs.Payload.{sound}

@@ -14,7 +14,7 @@ use Rattle.base_refusals.specs.declared.Refusal.{Refusal}
 use Rattle.base_refusals.specs.declared.Refusal.the-variants.{TextTooLong, NotUtf8}
 use Rattle.base_refusals.specs.declared.Outcome.{Outcome}
 use Rattle.base_refusals.specs.declared.Outcome.the-variants.{Passed, Refused}
-use Rattle.text_utf8.specs.Utf8.{isUtf8}
+use Rattle.text_utf8.specs.Computed.{isUtf8}
 use Rattle.proved_texts.specs.Utf8Rules.{WellFormed}
 use Rattle.text_checks.specs.Check.{checkOf}
 use Rattle.proved_texts.proofs.Utf8Grammar as utf8

@@ -8,10 +8,10 @@ use lib.Dec.{ltb}
 use lib.ListN.{length}
 use lib.Seq.{slice}
 use Rattle.base_lists.proofs.More.{contra}
-use Rattle.block_grammar.specs.Grammar.{Placed}
-use Rattle.block_grammar.specs.Read.{Reading, readPayload}
+use Rattle.block_grammar.specs.Grammar.{Placed, Reading}
+use Rattle.block_grammar.specs.Computed.{readPayload}
 use Rattle.proved_grammar.specs.Meaning.{meaning}
-use Rattle.block_chain.specs.Chain.{readBlocks}
+use Rattle.block_chain.specs.Computed.{readBlocks}
 use Rattle.proved_grammar.proofs.Stands.{read-stands}
 use Rattle.proved_grammar.proofs.Merged.{line-merges}
 use Rattle.proved_grammar.proofs.Blocks.{complete}

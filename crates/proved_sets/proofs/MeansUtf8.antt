@@ -15,7 +15,8 @@ use Rattle.base_lists.proofs.Flat.{all-flat}
 use Rattle.base_bytes.specs.Bytes.{within, isLetter, isDigit, isAlnum, isNamePart, isPunct, isMarked}
 use Rattle.text_names.specs.Names.{isKey}
 use Rattle.proved_texts.specs.Utf8Rules as utf8
-use Rattle.text_utf8.specs.Utf8.{isUtf8, isBoundary}
+use Rattle.text_utf8.specs.Computed.{isUtf8}
+use Rattle.text_utf8.specs.Utf8.{isBoundary}
 use Rattle.text_utf8.proofs.Laws.{past-ascii}
 use Rattle.proved_texts.proofs.Utf8Grammar.{char, sound, utf8-append}
 use Rattle.proved_texts.proofs.Utf8Boundaries.{ascii, slice-utf8}

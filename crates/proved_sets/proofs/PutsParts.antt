@@ -13,7 +13,8 @@ use borrow.Author.Tests.{le-leb, leb-true, leb-false}
 use Rattle.base_lists.proofs.Parts.{slice-part, slice-add, drop-past, seam}
 use Rattle.base_lists.proofs.Scan.{both}
 use Rattle.base_bytes.specs.Bytes.{isTail}
-use Rattle.text_utf8.specs.Utf8.{isUtf8, isBoundary}
+use Rattle.text_utf8.specs.Computed.{isUtf8}
+use Rattle.text_utf8.specs.Utf8.{isBoundary}
 use Rattle.text_utf8.proofs.Laws.{past-ascii}
 use Rattle.proved_texts.proofs.Utf8Boundaries.{parts, rest-boundary, before-ascii}
 use Rattle.proved_texts.proofs.Utf8Grammar.{utf8-append}

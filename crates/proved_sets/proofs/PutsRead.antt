@@ -11,11 +11,13 @@ use lib.Seq.{slice}
 use Rattle.base_lists.specs.Lists.{all}
 use Rattle.base_lists.proofs.Parts.{slice-part}
 use Rattle.base_bytes.specs.declared.Mode.{Mode}
-use Rattle.text_utf8.specs.Utf8.{isUtf8, isBoundary}
+use Rattle.text_utf8.specs.Computed.{isUtf8}
+use Rattle.text_utf8.specs.Utf8.{isBoundary}
 use Rattle.proved_texts.proofs.Utf8Boundaries.{before-ascii, after-ascii}
-use Rattle.block_grammar.specs.Grammar.{Placed}
-use Rattle.block_grammar.specs.Read.{Reading, readPayload}
-use Rattle.block_grammar.specs.Close.{noLf, findClose}
+use Rattle.block_grammar.specs.Grammar.{Placed, Reading}
+use Rattle.block_grammar.specs.Computed.{readPayload}
+use Rattle.block_grammar.specs.Close.{noLf}
+use Rattle.block_grammar.specs.ComputedClose.{findClose}
 use Rattle.block_grammar.specs.declared.Place.the-variants.{At}
 use Rattle.block_grammar.proofs.Payload.{sound}
 use Rattle.block_grammar.proofs.Close.{found}

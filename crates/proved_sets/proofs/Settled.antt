@@ -7,8 +7,9 @@ use lib.Dec.{ltb}
 use lib.ListN.{length}
 use lib.Seq.{slice}
 use Rattle.base_bytes.specs.declared.Mode.{Mode}
-use Rattle.block_grammar.specs.Read.{Reading, readPayload}
-use Rattle.block_chain.specs.Chain.{readBlocks}
+use Rattle.block_grammar.specs.Computed.{readPayload}
+use Rattle.block_grammar.specs.Grammar.{Reading}
+use Rattle.block_chain.specs.Computed.{readBlocks}
 use Rattle.base_refusals.specs.Numbers.{maxText}
 use Rattle.base_refusals.specs.declared.Refusal.{Refusal}
 use Rattle.base_refusals.specs.declared.Refusal.the-variants.{TextTooLong, NoReading, TooManyClasses, TooManyKeys, NotWellFormed}

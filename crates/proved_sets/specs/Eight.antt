@@ -8,8 +8,9 @@ use lib.ListN.{length}
 use lib.Seq.{slice}
 use Rattle.base_bytes.specs.declared.Mode.{Mode}
 use Rattle.base_refusals.specs.Numbers.{maxText, outcomeNo}
-use Rattle.block_grammar.specs.Read.{Reading, readPayload}
-use Rattle.block_chain.specs.Chain.{readBlocks}
+use Rattle.block_grammar.specs.Computed.{readPayload}
+use Rattle.block_grammar.specs.Grammar.{Reading}
+use Rattle.block_chain.specs.Computed.{readBlocks}
 use Rattle.set_table.specs.Types.{Texts, one, maxClasses, maxKeys, maxSlots}
 use Rattle.set_table.specs.Rows.{Rows, noRows, withPuts, rowsIn}
 use Rattle.set_table.specs.Puts.{putsIn}

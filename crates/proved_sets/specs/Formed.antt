@@ -6,7 +6,7 @@ use Prim.Native.Nat.{ℕ, _≤_, _<_}
 use lib.ListN.{length, getD}
 use Rattle.base_lists.specs.Lists.{all, isSome}
 use Rattle.base_refusals.specs.declared.Outcome.the-variants.{Passed}
-use Rattle.text_utf8.specs.Utf8.{isUtf8}
+use Rattle.text_utf8.specs.Computed.{isUtf8}
 use Rattle.text_checks.specs.Check.{checkOf}
 use Rattle.text_names.specs.Names.{isKey}
 use Rattle.block_grammar.specs.Meaning.{Entry}

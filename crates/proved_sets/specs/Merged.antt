@@ -44,7 +44,7 @@ pub record MergedWell (t : List ℕ) (a b : Attrs) : Type 0 where
 abbrev pub MergeGives : Type 0
 MergeGives = (t : List ℕ) (a b : Attrs) → mergeOf t a b .outcome ≡ Passed → MergedWell t a b
 
--- ---- "merge 1, 2, 11 (either set), 6, 7, ..": where the text gives neither 1 nor 2
+-- ---- "merge 1, 2, 11 (either set), 6, 7": where the text gives neither 1 nor 2
 pub data MergeGiven (t : List ℕ) (a b : Attrs) : Outcome → List Entry → Type 0 where
   -- 11: "table not well-formed over its text"
   malformed : (wellFormed t a ≡ true → wellFormed t b ≡ true → ⊥) → MergeGiven t a b (Refused NotWellFormed) []

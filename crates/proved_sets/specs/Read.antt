@@ -7,8 +7,8 @@ use lib.Seq.{slice}
 use Rattle.base_bytes.specs.declared.Mode.{Mode}
 use Rattle.base_lists.specs.Lists.{same}
 use Rattle.base_refusals.specs.declared.Outcome.the-variants.{Passed}
-use Rattle.block_grammar.specs.Grammar.{Placed}
-use Rattle.block_grammar.specs.Read.{Reading, readPayload}
+use Rattle.block_grammar.specs.Grammar.{Placed, Reading}
+use Rattle.block_grammar.specs.Computed.{readPayload}
 use Rattle.proved_grammar.specs.Meaning.{isClass, said, meaning, absent, lookup, slotNames}
 use Rattle.block_chain.specs.Chain.{Blocks}
 use Rattle.proved_grammar.specs.Merged.{merged, blockItems}

@@ -14,9 +14,10 @@ use Rattle.base_lists.proofs.More.{contra}
 use Rattle.base_bytes.specs.declared.Mode.the-variants.{Loose}
 use Rattle.base_refusals.specs.Numbers.{maxText, numberOf}
 use Rattle.base_refusals.specs.declared.Refusal.the-variants.{TextTooLong, TooManyClasses, TooManyKeys, JoinFull}
-use Rattle.block_grammar.specs.Read.{Reading}
+use Rattle.block_grammar.specs.Grammar.{Reading}
 use Rattle.block_tokens.specs.Shown.{accepted}
-use Rattle.block_chain.specs.Chain.{readBlocks, goodLine}
+use Rattle.block_chain.specs.Chain.{goodLine}
+use Rattle.block_chain.specs.Computed.{readBlocks}
 use Rattle.set_table.specs.Types.{one, maxClasses, maxKeys, emptySet}
 use Rattle.set_table.specs.Rows.{Rows, tableOf}
 use Rattle.set_table.specs.Filled.{refusing}

@@ -10,7 +10,7 @@ use lib.Dec.{ltb}
 use lib.ListN.{length}
 use Rattle.base_lists.specs.Lists.{all, isIn}
 use Rattle.base_lists.proofs.More.{among}
-use Rattle.text_utf8.specs.Utf8.{isUtf8}
+use Rattle.text_utf8.specs.Computed.{isUtf8}
 use Rattle.base_refusals.specs.Numbers.{maxText, numberOf}
 use Rattle.base_refusals.specs.declared.Refusal.the-variants.{TextTooLong, NotUtf8, CanonTooLong}
 use Rattle.text_checks.specs.Check.{checkOf}

@@ -22,7 +22,7 @@ laidIn out r = take (shownPart r .len) (over (r .text) out)
 
 -- ---- one call
 
--- the answer that ends the calls: the report is whole, or the text is refused and the line that says so laid
+-- an answer that ends the calls: any but More
 abbrev pub NoMore : Told → Type 0
 NoMore a = a ≡ More → ⊥
 

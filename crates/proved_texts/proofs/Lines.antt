@@ -10,7 +10,7 @@ use lib.ListN.{length}
 use Rattle.base_refusals.specs.Numbers.{maxText, tooLong, numberOf}
 use Rattle.base_refusals.specs.declared.Refusal.the-variants.{TextTooLong, NotUtf8}
 use Rattle.base_refusals.specs.declared.Outcome.the-variants as outcome
-use Rattle.text_utf8.specs.Utf8.{isUtf8}
+use Rattle.text_utf8.specs.Computed.{isUtf8}
 use Rattle.text_checks.specs.Check.{checkOf, isText}
 use Rattle.text_checks.proofs.Texts.{is-text, text-passes}
 use Rattle.text_lines.specs.declared.Line.{Line}

@@ -16,7 +16,8 @@ use Rattle.base_lists.proofs.Scan.{both, all-front}
 use Rattle.base_lists.proofs.Parts.{drop-take}
 use Rattle.base_bytes.specs.Bytes.{within, isTail}
 use Rattle.proved_texts.specs.Utf8Rules.{none, more, Octets}
-use Rattle.text_utf8.specs.Utf8.{isUtf8, octetsFrom, isBoundary}
+use Rattle.text_utf8.specs.Computed.{isUtf8, octetsFrom}
+use Rattle.text_utf8.specs.Utf8.{isBoundary}
 use Rattle.text_utf8.proofs.Laws.{past-ascii}
 use Rattle.proved_texts.specs.Utf8.{BoundaryParts, PartsAtBoundary}
 use Rattle.proved_texts.proofs.Utf8Grammar.{char, octets, sound, utf8-append}

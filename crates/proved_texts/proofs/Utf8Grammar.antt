@@ -12,7 +12,7 @@ use Rattle.base_lists.proofs.Scan.{both}
 use Rattle.base_lists.proofs.Steady.{steady, values}
 use Rattle.base_bytes.specs.Bytes.{within}
 use Rattle.proved_texts.specs.Utf8Rules.{one, two, three-E0, three-E1, three-ED, three-EE, four-F0, four-F1, four-F4, none, more, Byte, Tail, Char, Octets, WellFormed}
-use Rattle.text_utf8.specs.Utf8.{Want, Follows, isUtf8, octetsFrom, leadOf, afterOf, owesNone, want, goOnChar}
+use Rattle.text_utf8.specs.Computed.{Want, Follows, isUtf8, octetsFrom, leadOf, afterOf, owesNone, want, goOnChar}
 use Rattle.text_utf8.proofs.Laws.{idle}
 use Rattle.proved_texts.specs.Utf8.{PassedIsOctets, OctetsPass}
 

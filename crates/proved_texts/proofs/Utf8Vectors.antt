@@ -2,7 +2,8 @@
 -- Assumes nothing.
 use mathlib.Core.Path.{refl}
 use Rattle.base_bytes.specs.Bytes.{within, isTail}
-use Rattle.text_utf8.specs.Utf8.{isUtf8, octetsFrom, afterOf, leadOf, charCount}
+use Rattle.text_utf8.specs.Computed.{isUtf8, octetsFrom, afterOf, leadOf}
+use Rattle.text_utf8.specs.Utf8.{charCount}
 use Rattle.proved_texts.specs.Vectors.{ExamplesPass, ExamplesCount, InsideLimits, OutsideLimits}
 
 pub examples-good : ExamplesPass

@@ -38,13 +38,13 @@ abbrev pub NoSuchLine : ℕ → List ℕ → Type 0
 NoSuchLine n t = (n ≡ 0) ⊎ (length (lines t) < n)
 
 -- "Given exactly when": either follows from the other
-abbrev pub Exactly : Type 0 → Type 0 → Type 0
-Exactly P Q = (P → Q) × (Q → P)
+abbrev pub BothWays : Type 0 → Type 0 → Type 0
+BothWays P Q = (P → Q) × (Q → P)
 
 -- `line_of` gives 3 exactly where there is no such line, ..
 abbrev pub LineThree : Type 0
-LineThree = (n : ℕ) (t : List ℕ) → Exactly (linePaper (lineOf n t) .number ≡ 3) (NoSuchLine n t)
+LineThree = (n : ℕ) (t : List ℕ) → BothWays (linePaper (lineOf n t) .number ≡ 3) (NoSuchLine n t)
 
 -- .. and `line_start` exactly where the text gives neither 1 nor 2 besides
 abbrev pub StartThree : Type 0
-StartThree = (n : ℕ) (t : List ℕ) → Exactly (startPaper (startAt t n) .number ≡ 3) ((isText t ≡ true) × NoSuchLine n t)
+StartThree = (n : ℕ) (t : List ℕ) → BothWays (startPaper (startAt t n) .number ≡ 3) ((isText t ≡ true) × NoSuchLine n t)

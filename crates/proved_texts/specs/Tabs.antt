@@ -25,7 +25,7 @@ unfoldable pub expandFrom : ℕ → List ℕ → List ℕ
 expandFrom c [] = []
 expandFrom c (b ∷ s) = cond (eqb b tab) (replicate (4 - c % 4) space ++ expandFrom (tabStop c) s) (b ∷ expandFrom (columnAfter c b) s)
 
--- CommonMark 2.2: tabs "behave as if they were replaced by spaces with a tab stop of 4 characters". So replaced, no tab is left, ..
+-- So replaced, no tab is left, ..
 abbrev pub NoTabLeft : Type 0
 NoTabLeft = (c : ℕ) (s : List ℕ) → all (λ b. not (eqb b tab)) (expandFrom c s) ≡ true
 

@@ -1,11 +1,12 @@
--- Document 01: "Added: UTF-8 check". The check, the boundaries and the count, held against the ABNF of RFC 3629, section 4 (text_utf8/specs/Grammar).
+-- Document 01: "Added: UTF-8 check". The check, the boundaries and the count, held against the ABNF of RFC 3629, section 4 (Utf8Rules).
 use mathlib.Core.Path.{_≡_}
 use mathlib.Core.Bool.{true}
 use mathlib.Core.List.{List}
 use Prim.Native.Nat.{ℕ, _≤_}
 use lib.ListN.{length, take, drop}
 use Rattle.proved_texts.specs.Utf8Rules.{Octets, WellFormed}
-use Rattle.text_utf8.specs.Utf8.{isUtf8, isBoundary, charCount}
+use Rattle.text_utf8.specs.Computed.{isUtf8}
+use Rattle.text_utf8.specs.Utf8.{isBoundary, charCount}
 
 -- RFC 3629: "UTF8-octets = *( UTF8-char )". A text that passes the check is such octets, ..
 abbrev pub PassedIsOctets : Type 0

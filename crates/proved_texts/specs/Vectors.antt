@@ -4,7 +4,8 @@ use mathlib.Core.Bool.{true, false}
 use mathlib.Core.List.{List, [], _∷_, map}
 use Prim.Native.Nat.{ℕ}
 use lib.ListN.{replicate}
-use Rattle.text_utf8.specs.Utf8.{isUtf8, charCount}
+use Rattle.text_utf8.specs.Computed.{isUtf8}
+use Rattle.text_utf8.specs.Utf8.{charCount}
 
 -- "A<NOT IDENTICAL TO><ALPHA>.", "hangugeo", "nihongo", a byte order mark and "stump of tree"
 abbrev pub rfcExamples : List (List ℕ)

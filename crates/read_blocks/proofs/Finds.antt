@@ -16,9 +16,10 @@ use Rattle.base_refusals.specs.declared.Refusal.{Refusal}
 use Rattle.base_refusals.specs.declared.Refusal.the-variants.{TextTooLong, NothingThere, NoReading, TooManyClasses, TooManyKeys}
 use Rattle.set_table.specs.Types.{one, maxClasses, maxKeys}
 use Rattle.set_table.specs.Rows.{Rows, tableOf}
-use Rattle.block_grammar.specs.Read.{Reading}
+use Rattle.block_grammar.specs.Grammar.{Reading}
 use Rattle.block_tokens.specs.Shown.{accepted}
-use Rattle.block_chain.specs.Chain.{readBlocks, goodLine}
+use Rattle.block_chain.specs.Chain.{goodLine}
+use Rattle.block_chain.specs.Computed.{readBlocks}
 use Rattle.set_fill.specs.Fill.{filledBy, chainAt}
 use Rattle.base_refusals.specs.declared.Outcome.the-variants.{Passed}
 use Rattle.base_refusals.specs.declared.Outcome.the-variants as outcome

@@ -14,13 +14,13 @@ use Rattle.base_lists.proofs.More.{contra}
 use Rattle.base_bytes.specs.declared.Mode.{Mode}
 use Rattle.base_bytes.specs.declared.Mode.the-variants.{Loose}
 use Rattle.base_refusals.specs.declared.Refusal.the-variants.{NoReading, JoinFull}
-use Rattle.block_grammar.specs.Grammar.{Placed}
-use Rattle.block_grammar.specs.Read.{Reading}
+use Rattle.block_grammar.specs.Grammar.{Placed, Reading}
 use Rattle.block_tokens.specs.Shown.{accepted}
 use Rattle.text_lines.specs.Lines.{lines, firstOf, lineAt}
 use Rattle.text_lines.specs.Trim.{trim}
 use Rattle.block_payloads.specs.Payloads.{endsInClose}
-use Rattle.block_chain.specs.Chain.{OneBlock, Blocks, readBlocks, goodLine}
+use Rattle.block_chain.specs.Chain.{OneBlock, Blocks, goodLine}
+use Rattle.block_chain.specs.Computed.{readBlocks}
 use Rattle.block_chain.proofs.Blocks.{sound}
 use Rattle.run_scanners.specs.Scanners.{holdsOpen}
 use Rattle.run_lines.specs.Runs as runs

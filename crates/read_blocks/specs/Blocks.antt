@@ -10,7 +10,8 @@ use Rattle.base_refusals.specs.Numbers.{tooLong}
 use Rattle.base_refusals.specs.Orders.{Ground, met}
 use Rattle.base_refusals.specs.declared.Refusal.{Refusal}
 use Rattle.base_refusals.specs.declared.Refusal.the-variants.{TextTooLong, NothingThere, NoReading}
-use Rattle.block_chain.specs.Chain.{readBlocks, goodLine}
+use Rattle.block_chain.specs.Chain.{goodLine}
+use Rattle.block_chain.specs.Computed.{readBlocks}
 use Rattle.set_fill.specs.Fill.{readingOrder, chainAt}
 use Rattle.set_table.specs.Types.{one}
 use Rattle.set_table.specs.declared.Filled.{Filled}

@@ -12,10 +12,10 @@ use lib.ListN.{length, getD, take, drop}
 use Rattle.base_lists.proofs.Scan.{both}
 use Rattle.base_lists.proofs.Parts.{slice-part}
 use Rattle.base_bytes.specs.declared.Mode.{Mode}
-use Rattle.text_utf8.specs.Utf8.{isUtf8}
+use Rattle.text_utf8.specs.Computed.{isUtf8}
 use Rattle.base_refusals.specs.Numbers.{maxText}
 use Rattle.base_refusals.specs.declared.Refusal.the-variants.{NotUtf8}
-use Rattle.block_grammar.specs.Close.{findClose}
+use Rattle.block_grammar.specs.ComputedClose.{findClose}
 use Rattle.block_grammar.specs.declared.Place.{Place}
 use Rattle.block_grammar.specs.declared.Place.the-variants.{Nothing, At}
 use Rattle.block_grammar.proofs.Close.{found}

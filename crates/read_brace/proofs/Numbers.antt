@@ -4,13 +4,14 @@ use mathlib.Core.Path.{_≡_, refl, ap, _∙_}
 use mathlib.Core.List.{List, [], _∷_}
 use Prim.Native.Nat.{ℕ, suc}
 use Rattle.base_bytes.specs.declared.Mode.{Mode}
-use Rattle.text_utf8.specs.Utf8.{isUtf8}
+use Rattle.text_utf8.specs.Computed.{isUtf8}
 use Rattle.base_refusals.specs.Numbers.{Paper, tooLong}
 use Rattle.base_refusals.specs.Orders.{Ground, inOrder, onPaper}
 use Rattle.base_refusals.specs.declared.Refusal.the-variants.{TextTooLong, NotUtf8, NothingThere}
 use Rattle.base_refusals.proofs.Orders.{paper-by}
-use Rattle.block_grammar.specs.Read.{Reading, readPayload}
-use Rattle.block_grammar.specs.Close.{findClose}
+use Rattle.block_grammar.specs.Computed.{readPayload}
+use Rattle.block_grammar.specs.Grammar.{Reading}
+use Rattle.block_grammar.specs.ComputedClose.{findClose}
 use Rattle.block_grammar.specs.declared.Place.{Place}
 use Rattle.block_grammar.specs.declared.Place.the-variants.{Nothing, At}
 use Rattle.set_table.specs.Types.{Texts, one}

@@ -7,13 +7,13 @@ use lib.ListN.{length, getD}
 use lib.Seq.{slice}
 use Rattle.base_bytes.specs.declared.Mode.{Mode}
 use Rattle.base_bytes.specs.Bytes.{openBrace}
-use Rattle.text_utf8.specs.Utf8.{isUtf8}
+use Rattle.text_utf8.specs.Computed.{isUtf8}
 use Rattle.base_refusals.specs.Numbers.{tooLong, Paper, refusedPaper, passedPaper}
 use Rattle.base_refusals.specs.Orders.{Ground}
 use Rattle.base_refusals.specs.declared.Refusal.{Refusal}
 use Rattle.base_refusals.specs.declared.Refusal.the-variants.{TextTooLong, NotUtf8, NothingThere, NoClose}
-use Rattle.block_grammar.specs.Close.{findClose}
-use Rattle.block_grammar.specs.Read.{readPayload}
+use Rattle.block_grammar.specs.ComputedClose.{findClose}
+use Rattle.block_grammar.specs.Computed.{readPayload}
 use Rattle.block_grammar.specs.declared.Place.{Place}
 use Rattle.block_grammar.specs.declared.Place.the-variants.{Nothing, At}
 use Rattle.set_table.specs.Types.{one, emptySet}

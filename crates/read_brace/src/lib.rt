@@ -13,7 +13,7 @@ ghost use lib.Seq.{slice};
 ghost use Rattle.base_bytes.specs.declared.Mode.the-variants.{Strict};
 ghost use Rattle.base_refusals.specs.Numbers.{maxText};
 ghost use Rattle.base_refusals.specs.Orders.{onPaper};
-ghost use Rattle.block_grammar.specs.Close.{findClose};
+ghost use Rattle.block_grammar.specs.ComputedClose.{findClose};
 ghost use Rattle.block_grammar.specs.declared.Place.the-variants.{At};
 ghost use Rattle.read_brace.specs.Brace.{bracePaper, refusingRead, braceAt, answerAt, finished, readTo, readAttrsAt, braceOrder, behindClose, partTo, payloadAt};
 

@@ -61,7 +61,7 @@ indentedFound t n cap = unlessLine (blockFound t n 0 cap)
 abbrev pub measureOrder : List ℕ → ℕ → ℕ → ℕ → List Ground
 measureOrder t at base cap = foundOrder (λ s from to. []) t at base cap
 
--- a block of one line is 5
+-- a block of one line is 5; such a block opens, so 3 isn't lost behind it
 abbrev pub moreOrder : List ℕ → ℕ → ℕ → ℕ → List Ground
 moreOrder t at base cap = Ground.given NoReading (eqb (linesOf (found t at base cap)) 1) ∷ measureOrder t at base cap
 

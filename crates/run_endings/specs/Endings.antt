@@ -115,7 +115,7 @@ triedOrder buf (ls ∷ more) =
 abbrev pub endsOrder : List ℕ → List ℕ → List Ground
 endsOrder buf t = textOrder t ++ triedOrder buf (triesOf (lines t))
 
--- Lines of them all, so many, on paper
+-- the reply is Lines, and of all `count` lines: on paper 1 and that count
 abbrev pub takesAll : RunReply → ℕ → Bool
 takesAll a count = eqb (getD (replyPaper a .values) 0 0) 1 && eqb (getD (replyPaper a .values) 1 0) count
 

@@ -12,7 +12,7 @@ use lib.Seq.{take-at, take-length}
 use Rattle.block_payloads.specs.Payloads.{opens}
 use Rattle.base_lists.specs.Lists.{over, beginsPair}
 use Rattle.base_lists.proofs.More.{contra}
-use Rattle.text_utf8.specs.Utf8.{isUtf8}
+use Rattle.text_utf8.specs.Computed.{isUtf8}
 use Rattle.base_refusals.specs.Numbers.{maxText}
 use Rattle.base_refusals.specs.declared.Refusal.{Refusal}
 use Rattle.base_refusals.specs.declared.Refusal.the-variants.{TextTooLong, NotUtf8}

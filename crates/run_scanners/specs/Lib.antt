@@ -1,3 +1,3 @@
--- The definitions that the contracts of run_scanners cite, and the last open brace by rules.
+-- The definitions that the contracts of run_scanners cite.
 pub mod Scanners
 pub mod Inner

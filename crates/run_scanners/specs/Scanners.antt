@@ -117,7 +117,7 @@ holdFrom h s = foldl holdStep h s
 abbrev pub holdStart : Hold
 holdStart = live fresh false
 
--- on paper: 1 where a block is open, and the scan
+-- on paper: 1 where a block is open, 0 where none is, and the scan; nothing where the scan has stopped
 abbrev pub holdPaper : Hold → Paper
 holdPaper Dead = passedPaper []
 holdPaper (Live h) = passedPaper (cond (h .inside) 1 0 ∷ scanPaper (h .scan) .values)

@@ -1,2 +1,2 @@
--- The canonical text of a meaning, and which meanings are well-formed.
+-- The canonical text of a meaning, and what a class may be.
 pub mod Canon

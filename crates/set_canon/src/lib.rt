@@ -1,1 +1,1 @@
-// Canonical text and well-formed meanings: definitions and theorems, no code.
+// Canonical text, and what a class may be: definitions, no code.

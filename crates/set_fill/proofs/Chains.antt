@@ -13,20 +13,20 @@ use Rattle.base_lists.specs.Lists.{run}
 use Rattle.base_lists.proofs.Flat.{flat-append}
 use Rattle.base_bytes.specs.declared.Mode.{Mode}
 use Rattle.base_bytes.specs.Bytes.{isBlank}
-use Rattle.block_grammar.specs.Grammar.{Placed}
-use Rattle.block_grammar.specs.Read.{First, Reading, text, tokenOf, also, readFrom, oneOrMore, readPayload}
-use Rattle.block_grammar.specs.Close.{findClose}
+use Rattle.block_grammar.specs.Grammar.{Placed, Reading}
+use Rattle.block_grammar.specs.Computed.{First, text, tokenOf, also, readFrom, oneOrMore, readPayload}
+use Rattle.block_grammar.specs.ComputedClose.{findClose}
 use Rattle.block_grammar.specs.declared.Place.{Place}
 use Rattle.block_grammar.specs.declared.Place.the-variants.{Nothing, At}
 use Rattle.block_tokens.specs.Shown.{shown}
 use Rattle.block_tokens.proofs.Steps as steps
-use Rattle.block_chain.specs.Chain.{joined, blocksFrom}
+use Rattle.block_chain.specs.Computed.{joined, blocksFrom}
 use Rattle.block_chain.proofs.Blocks as blocks
 use Rattle.set_table.specs.Rows.{Put}
 use Rattle.set_table.specs.Puts.{putsOf, putsIn}
 use Rattle.set_fill.specs.declared.Cursor.{Cursor}
-use Rattle.set_fill.specs.declared.Next as nexts
-use Rattle.set_fill.specs.declared.Next.the-variants.{Last, Unread, Closing}
+use Rattle.set_fill.specs.declared.Following as nexts
+use Rattle.set_fill.specs.declared.Following.the-variants.{Last, Unread, Closing}
 use Rattle.set_fill.specs.declared.Push as pushes
 use Rattle.set_fill.specs.declared.Push.the-variants.{End, Bad}
 use Rattle.set_fill.specs.Inner.{Rest, ofReading, before, tokensFrom, restOf, thenRest, blocksRest, chainRest, tokensAt, InText, Opened, PutsNext, Yields}
@@ -104,7 +104,7 @@ pub record Goes (m : Mode) (w : List ℕ) (i e : ℕ) : Type 0 where
   pub within : e < length w
   pub is : blocksRest m w i ≡ chainRest m w e (tokensAt (i + 1))
 
-pub goes : {m : Mode} {w : List ℕ} {i e : ℕ} {n : nexts.Next} → Opened m w i n → n ≡ Closing e → Goes m w i e
+pub goes : {m : Mode} {w : List ℕ} {i e : ℕ} {n : nexts.Following} → Opened m w i n → n ≡ Closing e → Goes m w i e
 goes {m} {w} {i} {e} o k =
     let z : (i < e) × (e < length w) × (blocksRest m w i ≡ chainRest m w e (tokensAt (i + 1))) = rw k at (o .told) in
     record { ahead = z .0; within = z .1; is = z .2 }
@@ -141,7 +141,7 @@ module _ {w : List ℕ} {e : ℕ} {c : Cursor} (s : Stands w e c) where
     end g = let z : restOf m (take e w) c ≡ Rest.puts [] = rw g at (y .told) in rw z (before-none (blocksRest m w (e + 1)))
 
     -- it ends
-    module _ {n : nexts.Next} (o : Opened m w (e + 1) n) where
+    module _ {n : nexts.Following} (o : Opened m w (e + 1) n) where
       pub last : q ≡ End → n ≡ Last → chainRest m w e c ≡ Rest.puts []
       last g k = let z : length w ≤ e + 1 = rw k at (o .told) in end g ∙ last-puts m w (e + 1) z
 
@@ -152,7 +152,7 @@ module _ {w : List ℕ} {e : ℕ} {c : Cursor} (s : Stands w e c) where
       entered g k h = let z : e + 1 + 1 ≡ e + 2 = omega arith in end g ∙ (rw h (rw z at (goes o k .is)))
 
   -- the next block is entered
-  module _ {m : Mode} {n : nexts.Next} {x : ℕ} {d : Cursor} (o : Opened m w (e + 1) n) (k : n ≡ Closing x) (q : d ≡ tokensAt (e + 2)) where
+  module _ {m : Mode} {n : nexts.Following} {x : ℕ} {d : Cursor} (o : Opened m w (e + 1) n) (k : n ≡ Closing x) (q : d ≡ tokensAt (e + 2)) where
     pub into : Stands w x d
     into =
         let z = goes o k in

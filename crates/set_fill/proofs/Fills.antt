@@ -21,8 +21,8 @@ use Rattle.set_table.specs.Rows.{Rows, Put, noRows, keyAt, withPut, withPuts}
 use Rattle.set_table.specs.Inner.{Holds}
 use Rattle.set_table.proofs.Holding.{holds-none, nclass, class-count, key-more}
 use Rattle.set_fill.specs.declared.Cursor.{Cursor}
-use Rattle.set_fill.specs.declared.Next as nexts
-use Rattle.set_fill.specs.declared.Next.the-variants.{Last, Unread, Closing}
+use Rattle.set_fill.specs.declared.Following as nexts
+use Rattle.set_fill.specs.declared.Following.the-variants.{Last, Unread, Closing}
 use Rattle.set_fill.specs.declared.Push as pushes
 use Rattle.set_fill.specs.declared.Push.the-variants.{End, Bad}
 use Rattle.set_table.specs.declared.Filled.{Filled}
@@ -69,7 +69,7 @@ module _ {t : Texts} {m : Mode} {w : List ℕ} {whole : Filled} {a : Attrs} {e :
     unfolding filledFrom
     bad g h = h ∙ (rw (chains.bad (inv .stands) y g) at (inv .rest))
 
-    module _ {x : nexts.Next} (o : Opened m w (e + 1) x) (g : q ≡ End) where
+    module _ {x : nexts.Following} (o : Opened m w (e + 1) x) (g : q ≡ End) where
       pub last : x ≡ Last → record { outcome = Passed; set = a } ≡ whole
       unfolding filledFrom limited withPuts
       last k =

@@ -17,8 +17,8 @@ use Rattle.set_table.specs.Rows.{Rows, Put, withPut, withPuts}
 use Rattle.set_table.specs.Filled.{refusing, limited}
 use Rattle.set_table.proofs.Puts.{put-grows}
 use Rattle.set_fill.specs.declared.Cursor.{Cursor}
-use Rattle.set_fill.specs.declared.Next as nexts
-use Rattle.set_fill.specs.declared.Next.the-variants.{Last, Unread, Closing}
+use Rattle.set_fill.specs.declared.Following as nexts
+use Rattle.set_fill.specs.declared.Following.the-variants.{Last, Unread, Closing}
 use Rattle.set_fill.specs.declared.Push as pushes
 use Rattle.set_fill.specs.declared.Push.the-variants.{End, Bad}
 use Rattle.set_fill.specs.Inner.{Rest, before, restOf, chainRest, tokensAt, InText, Opened, PutsNext, Yields, filledFrom, overBy, countedPut, countFrom, overOf}
@@ -57,7 +57,7 @@ module _ {m : Mode} {w : List ℕ} {n : ℕ} {r : Refusal} {count e : ℕ} {c : 
     unfolding overOf
     bad g = rw (chains.bad (inv .stands) y g) at (inv .rest)
 
-    module _ {x : nexts.Next} (o : Opened m w (e + 1) x) (g : q ≡ End) where
+    module _ {x : nexts.Following} (o : Opened m w (e + 1) x) (g : q ≡ End) where
       pub last : x ≡ Last → overBy count ≡ r
       unfolding overOf countFrom
       last k = rw (chains.last (inv .stands) y o g k) at (inv .rest)

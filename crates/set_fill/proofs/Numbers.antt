@@ -6,8 +6,9 @@ use mathlib.Core.List.{List, [], _∷_}
 use Prim.Native.Nat.{ℕ}
 use lib.Seq.{slice}
 use Rattle.base_bytes.specs.declared.Mode.{Mode}
-use Rattle.block_grammar.specs.Read.{Reading, readPayload}
-use Rattle.block_chain.specs.Chain.{readBlocks}
+use Rattle.block_grammar.specs.Computed.{readPayload}
+use Rattle.block_grammar.specs.Grammar.{Reading}
+use Rattle.block_chain.specs.Computed.{readBlocks}
 use Rattle.base_refusals.specs.Numbers.{tooLong, outcomeNo}
 use Rattle.base_refusals.specs.Orders.{Ground, inOrder, orderNo}
 use Rattle.base_refusals.specs.declared.Refusal.the-variants.{TextTooLong}

@@ -12,8 +12,8 @@ use Rattle.base_lists.proofs.Scan.{run-le}
 use Rattle.base_lists.proofs.Parts.{slice-part, part-end}
 use Rattle.base_bytes.specs.declared.Mode.{Mode}
 use Rattle.base_bytes.specs.Bytes.{isBlank, isSpace}
-use Rattle.block_grammar.specs.Grammar.{Item, Placed}
-use Rattle.block_grammar.specs.Read.{Reading, tokenOf, also, readFrom}
+use Rattle.block_grammar.specs.Grammar.{Item, Placed, Reading}
+use Rattle.block_grammar.specs.Computed.{tokenOf, also, readFrom}
 use Rattle.block_grammar.specs.Meaning.{idName, className}
 use Rattle.block_tokens.specs.declared.Token as tokens
 use Rattle.block_tokens.specs.declared.Token.the-variants as token

@@ -12,15 +12,16 @@ use Rattle.base_lists.specs.Lists.{run}
 use Rattle.base_lists.proofs.More.{contra}
 use Rattle.base_bytes.specs.declared.Mode.{Mode}
 use Rattle.base_bytes.specs.Bytes.{isBlank}
-use Rattle.block_grammar.specs.Read.{Reading, readFrom, oneOrMore, readPayload}
-use Rattle.block_chain.specs.Chain.{blocksFrom, readBlocks}
+use Rattle.block_grammar.specs.Computed.{readFrom, oneOrMore, readPayload}
+use Rattle.block_grammar.specs.Grammar.{Reading}
+use Rattle.block_chain.specs.Computed.{blocksFrom, readBlocks}
 use Rattle.block_chain.proofs.Blocks.{some-read}
 use Rattle.base_refusals.specs.declared.Refusal.the-variants.{TextTooLong, NoReading}
 use Rattle.base_refusals.specs.Numbers.{maxText}
 use Rattle.set_table.specs.Types.{Texts, one, rangeBytes}
 use Rattle.set_table.specs.Rows.{noRows}
-use Rattle.set_fill.specs.declared.Next as nexts
-use Rattle.set_fill.specs.declared.Next.the-variants.{Last, Unread, Closing}
+use Rattle.set_fill.specs.declared.Following as nexts
+use Rattle.set_fill.specs.declared.Following.the-variants.{Last, Unread, Closing}
 use Rattle.set_table.specs.declared.Filled.{Filled}
 use Rattle.set_table.specs.Filled.{refusing}
 use Rattle.set_fill.specs.Fill.{filledBy, filledOf, fillAt, chainAt}
@@ -70,7 +71,7 @@ module _ (t : List ℕ) (from to : ℕ) where
     unfolding rangeBytes
     line-short = rw q (omega (arith, ltb-false maxText (length t) (sym h ∙ l), length-take to t))
 
-    module _ {m : Mode} {n : nexts.Next} (o : Opened m w from n) where
+    module _ {m : Mode} {n : nexts.Following} (o : Opened m w from n) where
       line : filledBy (one t) (oneOrMore (blocksFrom m (drop from w) 0 from)) ≡ chainAt m t from to
       unfolding chainAt readBlocks rangeBytes
       line = rw (q, sym h ∙ l)

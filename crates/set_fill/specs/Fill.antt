@@ -4,8 +4,9 @@ use mathlib.Core.Bool.{true, cond}
 use mathlib.Core.List.{List, [], _∷_}
 use lib.Seq.{slice}
 use Rattle.base_bytes.specs.declared.Mode.{Mode}
-use Rattle.block_grammar.specs.Read.{Reading, readPayload}
-use Rattle.block_chain.specs.Chain.{readBlocks}
+use Rattle.block_grammar.specs.Computed.{readPayload}
+use Rattle.block_grammar.specs.Grammar.{Reading}
+use Rattle.block_chain.specs.Computed.{readBlocks}
 use Rattle.base_refusals.specs.declared.Refusal.the-variants.{TextTooLong, NoReading}
 use Rattle.base_refusals.specs.Numbers.{tooLong}
 use Rattle.base_refusals.specs.Orders.{Ground}

@@ -9,9 +9,10 @@ use lib.Seq.{slice}
 use Rattle.base_lists.specs.Lists.{run}
 use Rattle.base_bytes.specs.declared.Mode.{Mode}
 use Rattle.base_bytes.specs.Bytes.{isSpace}
-use Rattle.block_grammar.specs.Read.{Reading, readFrom}
+use Rattle.block_grammar.specs.Computed.{readFrom}
+use Rattle.block_grammar.specs.Grammar.{Reading}
 use Rattle.block_grammar.specs.Meaning.{pieceRanges, orWhole}
-use Rattle.block_chain.specs.Chain.{blocksFrom}
+use Rattle.block_chain.specs.Computed.{blocksFrom}
 use Rattle.base_refusals.specs.declared.Refusal.{Refusal}
 use Rattle.base_refusals.specs.declared.Refusal.the-variants.{NoReading, TooManyClasses, TooManyKeys}
 use Rattle.set_table.specs.declared.Text.{Text}
@@ -24,8 +25,8 @@ use Rattle.set_fill.specs.declared.Kind.the-variants.{Plain, Quoted, Emp
 use Rattle.set_fill.specs.declared.Cursor.{Cursor}
 use Rattle.set_fill.specs.declared.Push as pushes
 use Rattle.set_fill.specs.declared.Push.the-variants.{End, Bad, Id, Class, Key}
-use Rattle.set_fill.specs.declared.Next as nexts
-use Rattle.set_fill.specs.declared.Next.the-variants.{Last, Unread, Closing}
+use Rattle.set_fill.specs.declared.Following as nexts
+use Rattle.set_fill.specs.declared.Following.the-variants.{Last, Unread, Closing}
 use Rattle.set_table.specs.declared.Filled.{Filled}
 use Rattle.set_table.specs.Filled.{refusing, limited}
 use Rattle.base_refusals.specs.declared.Outcome.{Outcome}
@@ -92,12 +93,12 @@ pub record InText (s : List ℕ) (c : Cursor) : Type 0 where
   pub next : c .next ≤ length s
 
 -- ---- which block comes next: none, one that can't be read, or the one that closes at e
-abbrev pub OpensNext : Mode → List ℕ → ℕ → nexts.Next → Type 0
+abbrev pub OpensNext : Mode → List ℕ → ℕ → nexts.Following → Type 0
 OpensNext m w i Last = length w ≤ i
 OpensNext m w i Unread = blocksRest m w i ≡ Rest.refused
 OpensNext m w i (Closing e) = (i < e) × (e < length w) × (blocksRest m w i ≡ chainRest m w e (tokensAt (i + 1)))
 
-pub record Opened (m : Mode) (w : List ℕ) (i : ℕ) (n : nexts.Next) : Type 0 where
+pub record Opened (m : Mode) (w : List ℕ) (i : ℕ) (n : nexts.Following) : Type 0 where
   pub told : OpensNext m w i n
 
 -- ---- what is put next

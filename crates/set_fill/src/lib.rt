@@ -57,7 +57,7 @@ enum Push {
 }
 
 // The block that stands at a place: none, since the line ends there; one that has no reading; or the one that closes at a place.
-enum Next {
+enum Following {
     Last,
     Unread,
     Closing(usize),
@@ -200,28 +200,28 @@ fn next_push(s: &[u8], c: Cursor, mode: Mode) -> Push
 }
 
 // Which block of w begins at i. One without a token has no reading; the tokens are looked at later.
-fn next_block(w: &[u8], i: usize, mode: Mode) -> Next
+fn next_block(w: &[u8], i: usize, mode: Mode) -> Following
     ensures { λ r. ⌜ Opened mode (now (w .entry)) i r ⌝ }
 {
     if w.len() <= i {
-        return Next::Last;
+        return Following::Last;
     }
     if w[i] != b'{' {
-        return Next::Unread;
+        return Following::Unread;
     }
     match block_close::find_close(w, i + 1) {
-        Place::Nothing => Next::Unread,
+        Place::Nothing => Following::Unread,
         Place::At(e) => {
             if e <= block_tokens::blank_end(&w[..e], i + 1, mode) {
-                return Next::Unread;
+                return Following::Unread;
             }
-            Next::Closing(e)
+            Following::Closing(e)
         }
     }
 }
 
 // Which block of w stands behind the one that closes at `end`.
-fn block_behind(w: &[u8], end: usize, mode: Mode) -> Next
+fn block_behind(w: &[u8], end: usize, mode: Mode) -> Following
     requires { ⌜ (end ≤ length (now w)) × (length (now w) ≤ maxText) ⌝ }
     ensures { λ r. ⌜ Opened mode (now (w .entry)) (end + 1) r ⌝ }
 {
@@ -249,9 +249,9 @@ fn passed_limit(w: &[u8], close: usize, c: Cursor, mode: Mode, n: usize) -> Refu
     'walk: loop {
         match next_push(&w[..end], cur, mode) {
             Push::End => match block_behind(w, end, mode) {
-                Next::Last => break 'walk over(count),
-                Next::Unread => break 'walk Refusal::NoReading,
-                Next::Closing(e) => {
+                Following::Last => break 'walk over(count),
+                Following::Unread => break 'walk Refusal::NoReading,
+                Following::Closing(e) => {
                     cur = before_tokens(end + 2);
                     end = e;
                     continue 'walk;
@@ -308,12 +308,12 @@ fn fill_part(text: &[u8], w: &[u8], at: usize, close: usize, mode: Mode, start: 
     'pushes: loop {
         match next_push(&w[..end], cur, mode) {
             Push::End => match block_behind(w, end, mode) {
-                Next::Last => return Filled {
+                Following::Last => return Filled {
                     outcome: Outcome::Passed,
                     set,
                 },
-                Next::Unread => return refused_by(Refusal::NoReading, start),
-                Next::Closing(e) => {
+                Following::Unread => return refused_by(Refusal::NoReading, start),
+                Following::Closing(e) => {
                     cur = before_tokens(end + 2);
                     end = e;
                     continue 'pushes;
@@ -456,9 +456,9 @@ pub fn fill_chain(text: &[u8], from: usize, to: usize) -> Filled
     }
     let w = set_table::bytes_of(text, 0, to);
     match next_block(w, from, Mode::Loose) {
-        Next::Last => refusing(Refusal::NoReading),
-        Next::Unread => refusing(Refusal::NoReading),
-        Next::Closing(e) => fill_unless(
+        Following::Last => refusing(Refusal::NoReading),
+        Following::Unread => refusing(Refusal::NoReading),
+        Following::Closing(e) => fill_unless(
             Outcome::Passed,
             text,
             w,

@@ -30,7 +30,7 @@ use Rattle.set_table.specs.Inner.{Holds}
 use Rattle.set_table.specs.declared.Filled.{Filled}
 use Rattle.set_table.specs.Filled.{refusing, limited}
 use Rattle.base_refusals.specs.declared.Outcome.the-variants.{Passed}
-use Rattle.set_merge.specs.declared.Step.{Step}
+use Rattle.set_merge.specs.declared.Merging.{Merging}
 use Rattle.set_merge.specs.Merge.{putsOfId, putsAt, putsBy}
 use Rattle.set_merge.specs.Inner.{Steps, Sound, Fits, Present}
 
@@ -153,10 +153,10 @@ module _ {t : Texts} {a b set : Attrs} {i : ℕ} (inv : Merges t a b set i) wher
         × (length (withPuts t (rowsIn set) (putsAt (rowsIn b) (getD (b .order) i zeroSlot .slot)) .keys) ≤ length (withPuts t (rowsIn a) (putsBy (rowsIn b)) .keys))
     grown = rw (← parted) (puts-grow t (withPuts t (rowsIn set) (putsAt (rowsIn b) (getD (b .order) i zeroSlot .slot))) (flatMap (putsAt (rowsIn b)) (drop (suc i) (rowsIn b .order))))
 
-    pub next : {s : Step} → Steps t set (putsAt (rowsIn b) (getD (b .order) i zeroSlot .slot)) s → s .fits ≡ true → Merges t a b (s .set) (i + 1)
+    pub next : {s : Merging} → Steps t set (putsAt (rowsIn b) (getD (b .order) i zeroSlot .slot)) s → s .fits ≡ true → Merges t a b (s .set) (i + 1)
     next h e = let z = h .done e in record { few = inv .few; held = held-own z; rest = rw (add-one, rows-of z) parted }
 
-    pub over-keys : {s : Step} {f : Filled} → Steps t set (putsAt (rowsIn b) (getD (b .order) i zeroSlot .slot)) s → s .fits ≡ false → f ≡ refusing TooManyKeys
+    pub over-keys : {s : Merging} {f : Filled} → Steps t set (putsAt (rowsIn b) (getD (b .order) i zeroSlot .slot)) s → s .fits ≡ false → f ≡ refusing TooManyKeys
         → f ≡ limited (withPuts t (rowsIn a) (putsBy (rowsIn b)))
     over-keys h e q = many-keys (withPuts t (rowsIn a) (putsBy (rowsIn b))) (inv .few) (omega (arith, h .over e, grown)) q
 

@@ -20,12 +20,12 @@ use Rattle.set_table.specs.declared.Slot.the-variants.{Id, Class, Key}
 use Rattle.set_table.specs.declared.Value.{Value}
 use Rattle.set_table.proofs.Puts.{puts-after}
 use Rattle.set_table.proofs.Holding.{key-more}
-use Rattle.set_merge.specs.declared.Step.{Step}
+use Rattle.set_merge.specs.declared.Merging.{Merging}
 use Rattle.set_merge.specs.Merge.{putOfRow, putsAt}
 use Rattle.set_merge.specs.Inner.{Steps, Present}
 
 -- ---- what is put
-module _ {t : Texts} {a : Attrs} {s : Step} where
+module _ {t : Texts} {a : Attrs} {s : Merging} where
   pub fits : {ps : List Put} → s .fits ≡ true → Holds (s .set) (withPuts t (rowsIn a) ps) → Steps t a ps s
   fits e h = record { done = λ q. h; over = λ q. contra (s .fits) e q }
 

@@ -12,14 +12,14 @@ use Rattle.set_table.specs.Shape.{isPresent, times}
 use Rattle.set_table.specs.declared.Slot.{Slot}
 use Rattle.set_table.specs.declared.Slot.the-variants.{Id, Class, Key}
 use Rattle.set_table.specs.declared.Attrs.{Attrs}
-use Rattle.set_merge.specs.declared.Step.{Step}
+use Rattle.set_merge.specs.declared.Merging.{Merging}
 
 -- the first n rows of an array, and zero behind them
 abbrev pub firsts : {A : Type 0} → ℕ → A → ℕ → List A → List A
 firsts max zero n xs = padded max zero (take n xs)
 
 -- ps fit into a, or their keys are too many
-pub record Steps (t : Texts) (a : Attrs) (ps : List Put) (s : Step) : Type 0 where
+pub record Steps (t : Texts) (a : Attrs) (ps : List Put) (s : Merging) : Type 0 where
   pub done : s .fits ≡ true → Holds (s .set) (withPuts t (rowsIn a) ps)
   pub over : s .fits ≡ false → maxKeys < length (withPuts t (rowsIn a) ps .keys)
 

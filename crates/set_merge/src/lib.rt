@@ -25,7 +25,7 @@ ghost use Rattle.set_merge.specs.Merge.{putsAt, putsBy, mergeOf, mergeOr
 ghost use Rattle.set_merge.specs.Inner.{firsts, Steps, Sound, Present};
 
 // What becomes of a set when something is put into it: whether that fits, and the set behind it.
-struct Step {
+struct Merging {
     pub fits: bool,
     pub set: Attrs,
 }
@@ -149,7 +149,7 @@ fn put_classes(s: Attrs, from: [Value; Attrs::CLASSES], m: usize) -> Attrs
 }
 
 // A key with its value: the value alone where the key is there already, else a new row whose slot goes behind.
-fn put_key(text: &[u8], s: Attrs, name: Name, value: Value) -> Step
+fn put_key(text: &[u8], s: Attrs, name: Name, value: Value) -> Merging
     requires { ⌜ Holds s (rowsIn s) ⌝ }
     ensures { λ r. ⌜ Steps (one (now (text .entry))) s (Put.key name value ∷ []) r ⌝ }
 {
@@ -161,10 +161,10 @@ fn put_key(text: &[u8], s: Attrs, name: Name, value: Value) -> Step
         let mut row = set.keys[k];
         row.value = value;
         set.keys[k] = row;
-        return Step { fits: true, set };
+        return Merging { fits: true, set };
     }
     if Attrs::KEYS <= n {
-        return Step { fits: false, set };
+        return Merging { fits: false, set };
     }
     let p = set.norder as usize;
     set.keys[n] = Row { name, value };
@@ -173,11 +173,11 @@ fn put_key(text: &[u8], s: Attrs, name: Name, value: Value) -> Step
     };
     set.nkey = set.nkey + 1;
     set.norder = set.norder + 1;
-    Step { fits: true, set }
+    Merging { fits: true, set }
 }
 
 // What stands at one slot of b.
-fn put_slot(text: &[u8], s: Attrs, b: Attrs, slot: Slot) -> Step
+fn put_slot(text: &[u8], s: Attrs, b: Attrs, slot: Slot) -> Merging
     requires { ⌜ (Holds s (rowsIn s)) × (Present s b slot) ⌝ }
     ensures { λ r. ⌜ Steps (one (now (text .entry))) s (putsAt (rowsIn b) slot) r ⌝ }
 {
@@ -186,8 +186,8 @@ fn put_slot(text: &[u8], s: Attrs, b: Attrs, slot: Slot) -> Step
             let given = b.id;
             let id = given.id;
             match id {
-                Id::Missing => Step { fits: true, set: s },
-                Id::Given(v) => Step {
+                Id::Missing => Merging { fits: true, set: s },
+                Id::Given(v) => Merging {
                     fits: true,
                     set: put_id(s, v),
                 },
@@ -195,7 +195,7 @@ fn put_slot(text: &[u8], s: Attrs, b: Attrs, slot: Slot) -> Step
         }
         Slot::Class => {
             let classes = b.classes;
-            Step {
+            Merging {
                 fits: true,
                 set: put_classes(s, classes, b.nclass as usize),
             }

@@ -26,7 +26,8 @@ use Rattle.text_lines.specs.Trim.{trimStart}
 use Rattle.text_lines.proofs.First.{first-cons}
 use Rattle.text_lines.proofs.Lines.{to-from, to-next, ranges-end, ranges-at}
 use Rattle.block_payloads.specs.Payloads.{opens}
-use Rattle.block_chain.specs.Chain.{readBlocks, blocksFrom, goodLine}
+use Rattle.block_chain.specs.Chain.{goodLine}
+use Rattle.block_chain.specs.Computed.{readBlocks, blocksFrom}
 use Rattle.run_lines.specs.Runs as runs
 use Rattle.base_refusals.specs.declared.Outcome as outcomes
 use Rattle.base_refusals.specs.declared.Outcome.the-variants as outcome

@@ -14,7 +14,8 @@ use Rattle.base_lists.specs.Lists.{over}
 use Rattle.base_lists.proofs.More.{contra}
 use Rattle.base_lists.proofs.Sets.{over-long}
 use Rattle.base_refusals.specs.Numbers.{maxText}
-use Rattle.block_chain.specs.Chain.{readBlocks, blocksFrom, goodLine}
+use Rattle.block_chain.specs.Chain.{goodLine}
+use Rattle.block_chain.specs.Computed.{readBlocks, blocksFrom}
 use Rattle.base_refusals.specs.declared.Refusal.{Refusal}
 use Rattle.set_canon.specs.Canon.{canon}
 use Rattle.set_table.specs.Types.{one, textOver}

@@ -8,7 +8,7 @@ use native.Mathlib.Omega.{arith}
 use borrow.Author.Tests.{le-ltb}
 use lib.Dec.{ltb}
 use lib.ListN.{length}
-use Rattle.text_utf8.specs.Utf8.{isUtf8}
+use Rattle.text_utf8.specs.Computed.{isUtf8}
 use Rattle.base_lists.specs.Lists.{over}
 use Rattle.base_refusals.specs.Numbers.{maxText}
 use Rattle.base_refusals.specs.Orders.{Ground, orderNo}

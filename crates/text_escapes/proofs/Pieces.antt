@@ -2,7 +2,7 @@
 -- Assumes nothing.
 use mathlib.Core.Path.{_≡_, refl, sym, _∙_}
 use mathlib.Core.Bool.{Bool, true, false, cond, not, _&&_, _||_}
-use mathlib.Core.List.{List, [], _∷_, _++_}
+use mathlib.Core.List.{List, [], _∷_}
 use Prim.Native.Nat.{ℕ, suc, _+_, _-_, _<_, _≤_, zero-le}
 use native.Mathlib.Nat.{add-zero}
 use native.Mathlib.Omega.{arith}
@@ -201,27 +201,3 @@ no-space s = all-same (λ b. not (isSpace b)) refl s
 pub only-space : (s : List ℕ) → all isSpace (unescape s) ≡ all isSpace s
 unfolding isSpace isPunct within all
 only-space s = all-same-off-punct isSpace (none-of isPunct (32 ∷ 9 ∷ 10 ∷ 12 ∷ 13 ∷ []) refl) s
-
--- ---- parts
-
--- no escape goes over a byte that isn't punctuation, so a text is unescaped a part at a time: the parts between whitespace, or lines
-split-from : (m : Bool) (s : List ℕ) (w : ℕ) (t : List ℕ) → isPunct w ≡ false → unescapeFrom m (s ++ w ∷ t) ≡ unescapeFrom m s ++ w ∷ unescapeFrom false t
-unfolding unescapeFrom
-split-from false [] w t h = rw (punct-not w h)
-split-from true [] w t h = rw h
-split-from false (b ∷ s) w t h = go (eqb b 92) (split-from true s w t h) (split-from false s w t h)
-  where
-    go : (x : Bool) → unescapeFrom true (s ++ w ∷ t) ≡ unescapeFrom true s ++ w ∷ unescapeFrom false t → unescapeFrom false (s ++ w ∷ t) ≡ unescapeFrom false s ++ w ∷ unescapeFrom false t
-        → cond x (unescapeFrom true (s ++ w ∷ t)) (b ∷ unescapeFrom false (s ++ w ∷ t)) ≡ cond x (unescapeFrom true s) (b ∷ unescapeFrom false s) ++ w ∷ unescapeFrom false t
-    go true p q = p
-    go false p q = rw q
-split-from true (b ∷ s) w t h = go (isPunct b) (split-from false s w t h)
-  where
-    go : (x : Bool) → unescapeFrom false (s ++ w ∷ t) ≡ unescapeFrom false s ++ w ∷ unescapeFrom false t
-        → cond x (b ∷ unescapeFrom false (s ++ w ∷ t)) (92 ∷ (b ∷ unescapeFrom false (s ++ w ∷ t))) ≡ cond x (b ∷ unescapeFrom false s) (92 ∷ (b ∷ unescapeFrom false s)) ++ w ∷ unescapeFrom false t
-    go true q = rw q
-    go false q = rw q
-
-pub unescape-split : (s : List ℕ) (w : ℕ) (t : List ℕ) → isPunct w ≡ false → unescape (s ++ w ∷ t) ≡ unescape s ++ w ∷ unescape t
-unfolding unescape
-unescape-split s w t h = split-from false s w t h

@@ -4,7 +4,7 @@ use mathlib.Core.Path.{_≡_, refl, sym}
 use mathlib.Core.List.{List, [], _∷_}
 use Prim.Native.Nat.{ℕ, _≤_}
 use lib.ListN.{length}
-use Rattle.text_utf8.specs.Utf8.{isUtf8}
+use Rattle.text_utf8.specs.Computed.{isUtf8}
 use Rattle.base_refusals.specs.Numbers.{maxText, numberOf, Paper, refusedPaper, passedPaper}
 use Rattle.base_refusals.specs.Orders.{Ground, inOrder, orderNo, onPaper}
 use Rattle.base_refusals.specs.declared.Refusal.{Refusal}

@@ -12,7 +12,7 @@ use lib.ListN.{length, length-append}
 use Rattle.base_lists.specs.Lists.{all}
 use Rattle.base_lists.proofs.Scan.{both, all-append}
 use Rattle.base_bytes.specs.Bytes.{isAlnum, isLetter, isDigit, within}
-use Rattle.text_names.specs.Tags.{isSize, tagFrom, isTag, isLanguage}
+use Rattle.text_names.specs.Computed.{isSize, tagFrom, isTag, isLanguage}
 use Rattle.text_names.specs.Grammar.{Subtag, Tag, Language}
 
 -- letters and digits are passed over, and counted

@@ -14,7 +14,7 @@ use borrow.Author.Tests.{lt-leb, le-leb, ne-eqb, eq-eqb}
 use Rattle.base_lists.specs.Lists.{run}
 use Rattle.base_lists.proofs.Scan.{run-le}
 use Rattle.base_bytes.specs.Bytes.{isAlnum, within}
-use Rattle.text_names.specs.Tags.{isSize, tagFrom, isTag, isLanguage}
+use Rattle.text_names.specs.Computed.{isSize, tagFrom, isTag, isLanguage}
 
 -- what follows the run, where the subtag has k bytes
 tagEnd : List ℕ → ℕ → Bool

@@ -3,7 +3,7 @@ ghost use mathlib.Core.Path.{_≡_};
 ghost use Rattle.base_lists.specs.Lists.{all, run};
 ghost use Rattle.base_bytes.specs.Bytes.{isAlnum, isNamePart};
 ghost use Rattle.text_names.specs.Names.{isName, isKey, isBareName};
-ghost use Rattle.text_names.specs.Tags.{isSize, isTag, isLanguage};
+ghost use Rattle.text_names.specs.Computed.{isSize, isTag, isLanguage};
 
 // Whether each byte is a later byte of a name.
 fn all_parts(s: &[u8]) -> bool

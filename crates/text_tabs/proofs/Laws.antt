@@ -2,7 +2,7 @@
 -- Assumes nothing.
 use mathlib.Core.Path.{_≡_, refl, sym, _∙_, ap}
 use mathlib.Core.Bool.{Bool, true, false, cond}
-use mathlib.Core.List.{List, [], _∷_, _++_, foldl-append}
+use mathlib.Core.List.{List, [], _∷_}
 use Prim.Native.Nat.{ℕ, suc, _+_, _-_, _*_, _%_, _<_, _≤_}
 use native.Mathlib.Omega.{arith}
 use native.Mathlib.Numerals.{add-one}
@@ -34,10 +34,6 @@ after-le c b = go (eqb b 9) (isTail b)
     go false false = omega arith
 
 -- ---- a text
-pub columns-append : (c : ℕ) (s t : List ℕ) → columnsFrom c (s ++ t) ≡ columnsFrom (columnsFrom c s) t
-unfolding columnsFrom
-columns-append = foldl-append columnAfter
-
 pub columns-le : (c : ℕ) (s : List ℕ) → columnsFrom c s ≤ c + 4 * length s
 unfolding columnsFrom
 columns-le c [] = omega arith
@@ -101,10 +97,7 @@ capped-columns c (b ∷ s) = sym (capped-columns (columnAfter (capped c) b) s) �
 pub capped-indent : (c : ℕ) (s : List ℕ) → capped (indentFrom (capped c) s) ≡ capped (indentFrom c s)
 capped-indent c s = rw (indent-front (capped c) s, indent-front c s) (capped-columns c (take (run isIndent s) s))
 
--- nothing is cut of the columns of a text that a number can count four times over
-pub columns-whole : (c : ℕ) (s : List ℕ) → c + 4 * length s ≤ most → capped (columnsFrom c s) ≡ columnsFrom c s
-columns-whole c s h = capped-id (columnsFrom c s) (omega (arith, columns-le c s))
-
+-- nothing is cut of the indentation of a text that a number can count four times over
 pub indent-whole : (s : List ℕ) → 4 * length s ≤ most → capped (indentColumns s) ≡ indentColumns s
 indent-whole s h = capped-id (indentColumns s) (omega (arith, indent-le s))
 

@@ -14,7 +14,8 @@ use borrow.Author.Tests.{leb-true, eqb-true, eqb-false, eq-eqb, ne-eqb, le-leb, 
 use Rattle.base_lists.proofs.Scan.{both}
 use Rattle.base_lists.proofs.Steady.{steady, values}
 use Rattle.base_bytes.specs.Bytes.{isTail, within}
-use Rattle.text_utf8.specs.Utf8.{Want, Follows, isUtf8, octetsFrom, leadOf, afterOf, owesNone, want, goOnChar, isBoundary, charCount}
+use Rattle.text_utf8.specs.Computed.{Want, Follows, isUtf8, octetsFrom, leadOf, afterOf, owesNone, want, goOnChar}
+use Rattle.text_utf8.specs.Utf8.{isBoundary, charCount}
 use Rattle.text_utf8.specs.Inner.{NoneAbove, Same, PassedTo, Begins}
 
 -- ---- where nothing is owed, the range does not matter

@@ -4,7 +4,7 @@ use mathlib.Core.Bool.{false}
 use Prim.Native.Nat.{ℕ, _<_, _≤_}
 use mathlib.Core.List.{List}
 use lib.ListN.{length, getD, drop}
-use Rattle.text_utf8.specs.Utf8.{octetsFrom, leadOf, want, owesNone}
+use Rattle.text_utf8.specs.Computed.{octetsFrom, leadOf, want, owesNone}
 
 -- no byte from i to before e is above m
 pub record NoneAbove (s : List ℕ) (i e m : ℕ) : Type 0 where

@@ -1,3 +1,4 @@
--- The definitions that the contracts of text_utf8 cite, and the grammar that they compute.
+-- The definitions that the contracts of text_utf8 cite.
+pub mod Computed
 pub mod Utf8
 pub mod Inner

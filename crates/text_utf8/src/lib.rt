@@ -4,7 +4,8 @@ ghost use Prim.Native.Nat.{_+_, _≤_, _<_};
 ghost use lib.ListN.{length, getD};
 ghost use mathlib.Core.Bool.{cond};
 ghost use Rattle.base_bytes.specs.Bytes.{isTail};
-ghost use Rattle.text_utf8.specs.Utf8.{isUtf8, isBoundary, charCount};
+ghost use Rattle.text_utf8.specs.Computed.{isUtf8};
+ghost use Rattle.text_utf8.specs.Utf8.{isBoundary, charCount};
 ghost use Rattle.text_utf8.specs.Inner.{NoneAbove, Same, PassedTo, Begins};
 
 // A byte that none from i to before e is above.

@@ -4,7 +4,8 @@ use native.Mathlib.Omega.{arith}
 use borrow.Author.Needs.{needs}
 use borrow.Author.Tests.{not-true}
 use lib.ListN.{length}
-use Rattle.block_grammar.specs.Close.{fresh, findClose, closePaper}
+use Rattle.block_grammar.specs.Close.{fresh, closePaper}
+use Rattle.block_grammar.specs.ComputedClose.{findClose}
 use Rattle.base_refusals.proofs.Said.{said}
 use Rattle.block_grammar.proofs.Close as close
 use Rattle.block_close.proofs.Search as laws

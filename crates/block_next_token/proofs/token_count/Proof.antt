@@ -4,7 +4,7 @@ use native.Mathlib.Omega.{arith}
 use borrow.Author.Needs.{needs}
 use lib.ListN.{length}
 use Rattle.base_refusals.proofs.Said.{said}
-use Rattle.block_grammar.specs.Read.{readFrom}
+use Rattle.block_grammar.specs.Computed.{readFrom}
 use Rattle.block_next_token.specs.Walk.{counted, countPaper}
 use Rattle.block_next_token.specs.declared.Ahead.the-variants.{Found}
 use Rattle.block_next_token.proofs.Counting as counting

@@ -3,7 +3,7 @@ use native.Mathlib.Omega.{arith}
 use borrow.Author.Tests.{not-true, not-false}
 use lib.ListN.{drop-of-length-le}
 use lib.Seq.{drop-cons}
-use Rattle.block_grammar.specs.Read.{ends}
+use Rattle.block_grammar.specs.Computed.{ends}
 use borrow.Author.Needs.{needs}
 use Rattle.block_tokens.proofs.finish.Statement.{statement}
 use Rattle.block_tokens.proofs.finish.Tie as tie

@@ -3,7 +3,7 @@ use Prim.Native.Nat.{_-_}
 use native.Mathlib.Omega.{arith}
 use borrow.Author.Needs.{needs}
 use lib.ListN.{length}
-use Rattle.block_grammar.specs.Read.{readPayload}
+use Rattle.block_grammar.specs.Computed.{readPayload}
 use Rattle.block_tokens.specs.Shown.{accepted, tokenEnd}
 use Rattle.block_tokens.proofs.Payload as payload
 use Rattle.block_tokens.proofs.payload_ok.Statement.{statement}

@@ -2,7 +2,7 @@ use mathlib.Core.Bool.{false}
 use Prim.Native.Nat.{_-_}
 use native.Mathlib.Omega.{arith}
 use lib.ListN.{length, drop}
-use Rattle.block_grammar.specs.Read.{shutOf}
+use Rattle.block_grammar.specs.Computed.{shutOf}
 use Rattle.block_tokens.specs.Inner.{shutAt}
 use Rattle.block_tokens.proofs.Quotes as quotes
 use Rattle.block_tokens.proofs.quote_end.Statement.{statement}

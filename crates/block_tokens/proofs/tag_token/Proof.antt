@@ -1,6 +1,6 @@
 use native.Mathlib.Omega.{arith}
 use Rattle.base_bytes.specs.Bytes.{isNamePart}
-use Rattle.text_names.specs.Tags.{isLanguage}
+use Rattle.text_names.specs.Computed.{isLanguage}
 use Rattle.block_grammar.specs.Grammar.{Item}
 use Rattle.block_tokens.specs.Shown.{shownItem}
 use Rattle.base_lists.proofs.Runs as runs

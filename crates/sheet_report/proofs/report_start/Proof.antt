@@ -36,7 +36,8 @@ same-length-3 c = search needs
 returns-2 : tie.Need-returns-2
 returns-2 c =
     let at4 = c .before .before .before .before in let at7 = at4 .before .before .before in let at9 = at7 .before .before in let at13 = at9 .before .before .before .before in
-    start-said (at13 .args .join .now) (at13 .args .out .now) (at13 .args .text .now) (entries.told-by (at13 .args .join .now) (at13 .args .out .now) (entries.start-passed (at13 .args .text .now) (at13 .args .join .now) (at13 .args .out .now) (at9 .check-text .ensures .0) (at7 .enum-told .given .1)) (at4 .report-part .ensures .0, (at4 .report-part .ensures .1 .0, at4 .report-part .ensures .1 .1 .0)))
+    start-said (at13 .args .join .now) (at13 .args .out .now) (at13 .args .text .now)
+    (entries.told-by (at13 .args .join .now) (at13 .args .out .now) (entries.start-passed (at13 .args .text .now) (at13 .args .join .now) (at13 .args .out .now) (at9 .check-text .ensures .0) (at7 .enum-told .given .1)) (at4 .report-part .ensures .0, (at4 .report-part .ensures .1 .0, at4 .report-part .ensures .1 .1 .0)))
 
 pub report-start-spec : {M : Type 1} → statement M
 report-start-spec =

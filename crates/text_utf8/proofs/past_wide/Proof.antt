@@ -1,7 +1,7 @@
 use native.Mathlib.Omega.{arith}
 use Rattle.text_utf8.proofs.Laws as laws
 use mathlib.Core.Path.{refl}
-use Rattle.text_utf8.specs.Utf8.{leadOf}
+use Rattle.text_utf8.specs.Computed.{leadOf}
 use borrow.Author.Needs.{needs}
 use Rattle.text_utf8.proofs.past_wide.Statement.{statement}
 use Rattle.text_utf8.proofs.past_wide.Tie as tie

@@ -1,4 +1,4 @@
--- Language tags by computing, a byte at a time.
+-- Language tags by computing, a byte at a time. The rules are Grammar; the two are proved to agree (proved_grammar/specs/Tags).
 use Prim.Native.Nat.{ℕ, suc}
 use mathlib.Core.Bool.{Bool, true, cond, _&&_}
 use mathlib.Core.List.{List, [], _∷_}

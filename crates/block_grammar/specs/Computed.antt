@@ -1,4 +1,5 @@
--- A payload read by computing: token by token, recursion on the list; what a token took is then skipped.
+-- A payload read by computing: token by token, recursion on the list; what a token took is then skipped. The rules are Grammar; the two are proved to agree
+-- (proved_grammar/specs/Payload).
 use mathlib.Core.Bool.{Bool, true, false, cond, _&&_}
 use mathlib.Core.List.{List, [], _∷_, _++_}
 use Prim.Native.Nat.{ℕ, zero, suc}
@@ -8,8 +9,8 @@ use Rattle.base_lists.specs.Lists.{run}
 use Rattle.base_bytes.specs.declared.Mode.{Mode}
 use Rattle.base_bytes.specs.Bytes.{isBlank, isNamePart, isQuote, isPlain, backslash, colon, dot, equals, hash}
 use Rattle.text_names.specs.Names.{isName, isKey, isBareName}
-use Rattle.text_names.specs.Tags.{isLanguage}
-use Rattle.block_grammar.specs.Grammar.{Item, Placed, isValue}
+use Rattle.text_names.specs.Computed.{isLanguage}
+use Rattle.block_grammar.specs.Grammar.{Item, Placed, isValue, Reading}
 
 -- the token at the front of a list
 pub data First : Type 0 where
@@ -82,10 +83,6 @@ tokenOf m (b ∷ s) =
     (nameToken m (b ∷ s))))
 
 -- ---- the payload
-
-pub data Reading : Type 0 where
-  refused : Reading
-  items : List Placed → Reading
 
 -- the text of an item
 unfoldable pub text : Item → List ℕ
