@@ -9,6 +9,15 @@ pub const WHEEL: &[u8] = b"{#v17 .wheel variant=17 wheel=front-left valve=120}";
 /// The smallest block.
 pub const SMALL: &[u8] = b"{.a}";
 
+/// Names in capitals with digits, `_` and `-`, 64 bytes.
+pub const CAPITALS: &[u8] = b"{#V17_A-2 .WHEEL-4_B VARIANT_1=17 WHEEL-2=FRONT_L VALVE_X-3=120}";
+
+/// A block of 6,000 ids.
+pub fn ids() -> Vec<u8> {
+    let names: Vec<String> = (1..=6000).map(|n| format!("#v{n}")).collect();
+    format!("{{{}}}", names.join(" ")).into_bytes()
+}
+
 /// Lines from `next`, numbered from 0, as long as they fit into `size` bytes.
 fn filled(size: usize, mut next: impl FnMut(usize) -> String) -> Vec<u8> {
     let mut text = Vec::new();

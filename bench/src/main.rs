@@ -79,7 +79,14 @@ fn at_a_brace() {
     let mut set = Set::new();
     let mut m = Lent::new();
     let mut out = Vec::new();
-    for (name, text, goal) in [("wheel, 51 bytes", inputs::WHEEL, 0.25), ("`{.a}`", inputs::SMALL, 0.8)] {
+    let ids = inputs::ids();
+    let texts: [(&str, &[u8], f64); 4] = [
+        ("wheel, 51 bytes", inputs::WHEEL, 0.25),
+        ("`{.a}`", inputs::SMALL, 0.8),
+        ("names in capitals, 64 bytes", inputs::CAPITALS, 0.0),
+        ("6,000 ids", &ids, 0.0),
+    ];
+    for (name, text, goal) in texts {
         ours::read_set(text, 0, &mut set);
         assert!(set.was_read() && original_at(text).is_some());
         let (number, len) = ours::read_attrs_at(text, 0, &mut m);

@@ -1284,8 +1284,37 @@ const TEXT_FORMS: &[(&str, &[u8], &[u8])] = &[
 const ROW_FORMS: &[(&str, &[u8], &[u8])] =
     &[("rows 0 strict", b"{", b"}"), ("rows 0 loose", b"{", b"}"), ("rows 3 strict", b"\xC3\xA9\xFF{", b"}{.z}")];
 
+/// Each of the 256 bytes.
+const BYTES: &[[u8; 1]; 256] = &{
+    let mut bytes = [[0]; 256];
+    let mut n = 0;
+    while n < 256 {
+        bytes[n] = [n as u8];
+        n += 1;
+    }
+    bytes
+};
+const EACH_BYTE: [&[u8]; 256] = {
+    let mut atoms: [&[u8]; 256] = [&[]; 256];
+    let mut n = 0;
+    while n < 256 {
+        atoms[n] = &BYTES[n];
+        n += 1;
+    }
+    atoms
+};
+
 fn sections(family: &str) -> &'static [Section] {
     match family {
+        "bytes" => &[Section {
+            atoms: &EACH_BYTE,
+            forms: &[
+                ("leaf is_identifier", b"", b""),
+                ("leaf is_css_identifier", b"", b""),
+                ("leaf is_boolean_attr_name", b"", b""),
+                ("leaf is_language_tag", b"", b""),
+            ],
+        }],
         "payload" => &[Section {
             atoms: &[b"a", b"1", b"_", b"-", b".", b"#", b":", b"=", b"\"", b"'", b"\\", b" ", b"\t", b"\n", b"}", b"|"],
             forms: &[("read_attrs_at 0 strict", b"{", b"}"), ("read_attrs_at 0 loose", b"{", b"}")],
@@ -1528,7 +1557,7 @@ fn main() -> io::Result<()> {
     let words: Vec<&str> = words.iter().map(String::as_str).collect();
     let number_of = |word: &str| word.parse::<u64>().ok();
     let known = |name: &str| FAMILIES.contains(&name);
-    let listed = |name: &str| known(name) || ["payload", "text", "refused-text"].contains(&name);
+    let listed = |name: &str| known(name) || ["payload", "text", "refused-text", "bytes"].contains(&name);
     let mut to = BufWriter::with_capacity(1 << 20, io::stdout().lock());
     let mut out = Out { line: Vec::new() };
     let mut write = |out: &mut Out| {

@@ -9,7 +9,7 @@ use native.Mathlib.Numerals.{add-one}
 use lib.Dec.{eqb, eqb·zero-suc, eqb·suc-suc}
 use lib.ListN.{length, getD, drop, drop-of-length-le, take}
 use lib.Seq.{drop-cons}
-use Rattle.base_lists.specs.Lists.{all, run}
+use Rattle.base_lists.specs.Lists.{all, run, firstIs}
 
 pub both : (a b : Bool) → (a && b) ≡ true → (a ≡ true) × (b ≡ true)
 both true b e = (refl, e)
@@ -50,6 +50,14 @@ run-le f (a ∷ s) = go (f a) refl (run-le f s)
     go : (b : Bool) → f a ≡ b → run f s ≤ length s → run f (a ∷ s) ≤ length (a ∷ s)
     go true e h = rw e (omega arith)
     go false e h = rw e zero-le
+
+-- ---- the byte at i, if there is one
+module _ (f : ℕ → Bool) (s : List ℕ) (i : ℕ) where
+  pub first-none : length s ≤ i → false ≡ firstIs f (drop i s)
+  first-none h = rw (drop-of-length-le s h)
+
+  pub first-some : i < length s → f (getD s i 0) ≡ firstIs f (drop i s)
+  first-some h = rw (drop-cons s i 0 h)
 
 -- `all` with a byte more at the end
 pub all-snoc : (f : ℕ → Bool) (s : List ℕ) (b : ℕ) (t : Bool) → f b ≡ t → all f (s ++ (b ∷ [])) ≡ cond t (all f s) false

@@ -2,7 +2,7 @@
 ghost use mathlib.Core.Path.{_≡_};
 ghost use Rattle.block_grammar.specs.declared.Walk.{Walk};
 ghost use Rattle.block_grammar.specs.Quick.{edge, quickStep, quickRefuses};
-ghost use Rattle.block_quick.specs.Inner.{Leads};
+ghost use Rattle.block_quick.specs.Inner.{Leads, Tells};
 use block_grammar::Walk;
 
 // What a byte does to the quick test: it answers, or it goes on.
@@ -13,7 +13,8 @@ enum Turn {
 }
 
 // A byte between tokens.
-fn edge_turn(c: u8) -> Turn
+fn edge_turn(table: &[u64; 16], c: u8) -> Turn
+    requires { ⌜ Tells (now table) ⌝ }
     ensures { λ r. ⌜ Leads r (λ rest. edge c rest) ⌝ }
 {
     if 128 <= c {
@@ -24,7 +25,7 @@ fn edge_turn(c: u8) -> Turn
         b' ' | b'\t' | b'\r' => Turn::On(Walk::Edge),
         b'#' | b'.' => Turn::On(Walk::Sigil),
         _ => {
-            if base_letters::is_attr_ident_start(c) {
+            if base_letters::is_of(table, base_letters::KEY_START, c) {
                 return Turn::On(Walk::Word);
             }
             Turn::Refuse
@@ -33,16 +34,17 @@ fn edge_turn(c: u8) -> Turn
 }
 
 // A byte in a key or bare name.
-fn word_turn(c: u8) -> Turn
+fn word_turn(table: &[u64; 16], c: u8) -> Turn
+    requires { ⌜ Tells (now table) ⌝ }
     ensures { λ r. ⌜ Leads r (λ rest. quickStep Walk.Word c rest) ⌝ }
 {
-    if base_letters::is_attr_ident_part(c) {
+    if base_letters::is_of(table, base_letters::NAME_PART, c) {
         return Turn::On(Walk::Word);
     }
     if c == b'=' {
         return Turn::On(Walk::Value);
     }
-    edge_turn(c)
+    edge_turn(table, c)
 }
 
 // The byte behind `=`.
@@ -56,23 +58,24 @@ fn value_turn(c: u8) -> Turn
 }
 
 // A byte of the quick test.
-fn turn_by(w: Walk, c: u8) -> Turn
+fn turn_by(table: &[u64; 16], w: Walk, c: u8) -> Turn
+    requires { ⌜ Tells (now table) ⌝ }
     ensures { λ r. ⌜ Leads r (λ rest. quickStep w c rest) ⌝ }
 {
     match w {
-        Walk::Edge => edge_turn(c),
-        Walk::Word => word_turn(c),
+        Walk::Edge => edge_turn(table, c),
+        Walk::Word => word_turn(table, c),
         Walk::Sigil => {
-            if base_letters::is_css_ident_start(c) {
+            if base_letters::is_of(table, base_letters::NAME_START, c) {
                 return Turn::On(Walk::Ident);
             }
             Turn::Refuse
         }
         Walk::Ident => {
-            if base_letters::is_attr_ident_part(c) {
+            if base_letters::is_of(table, base_letters::NAME_PART, c) {
                 return Turn::On(Walk::Ident);
             }
-            edge_turn(c)
+            edge_turn(table, c)
         }
         Walk::Value => value_turn(c),
     }
@@ -85,10 +88,11 @@ pub fn attr_payload_provably_invalid(s: &[u8], brace: usize) -> bool
     if s.len() <= brace {
         return true;
     }
+    let table = base_letters::CLASS;
     let mut w = Walk::Edge;
     let mut i = brace + 1;
     while i < s.len() {
-        match turn_by(w, s[i]) {
+        match turn_by(&table, w, s[i]) {
             Turn::Refuse => return true,
             Turn::Leave => return false,
             Turn::On(v) => w = v,

@@ -1,6 +1,6 @@
 -- From the places that the code finds to a token by ranges.
 -- Assumes nothing.
-use mathlib.Core.Path.{_≡_, refl, sym, _∙_}
+use mathlib.Core.Path.{_≡_, refl, sym, _∙_, ap}
 use mathlib.Core.Bool.{Bool, true, false, _&&_, cond}
 use mathlib.Core.List.{List, [], _∷_}
 use Prim.Native.Nat.{ℕ, suc, _+_, _-_, _<_, _≤_}
@@ -9,19 +9,21 @@ use native.Mathlib.Numerals.{add-one}
 use lib.Dec.{eqb, ltb, leb}
 use lib.ListN.{length, getD, take, drop, drop-of-length-le, length-drop, length-take}
 use lib.Seq.{drop-cons, drop-drop, length-take-le}
-use borrow.Author.Tests.{ne-eqb, lt-ltb, le-ltb, leb-true, leb-false}
+use borrow.Author.Tests.{ne-eqb, lt-ltb, le-ltb, leb-true, leb-false, ltb-true, ltb-false}
 use Rattle.base_lists.specs.Lists.{headed, run, firstIs}
-use Rattle.base_lists.proofs.Scan.{run-le, run-all}
+use Rattle.base_lists.proofs.Scan.{run-le, run-all, first-none}
 use Rattle.base_lists.proofs.More.{contra}
 use Rattle.base_bytes.specs.declared.Mode.{Mode}
-use Rattle.base_bytes.specs.Bytes.{isNamePart, isKeyStart, isQuote, isPlain}
+use Rattle.base_bytes.specs.Bytes.{isLetter, isNamePart, isKeyStart, isQuote, isPlain}
+use Rattle.base_letters.specs.Classes.{frontRun}
+use Rattle.base_letters.proofs.Fronts as fronts
 use Rattle.text_names.specs.Names.{isKey, isBareName}
 use Rattle.block_grammar.specs.Grammar.{Item, isValue}
 use Rattle.block_grammar.specs.Computed.{First, Shut, ends, finish, frontToken, shutOf, quotedToken, plainToken, valueToken, afterName, nameToken, tokenOf}
-use Rattle.block_grammar.proofs.Bytes.{key-part}
+use Rattle.block_grammar.proofs.Bytes.{key-part, letter-key}
 use Rattle.block_grammar.specs.declared.Place.the-variants.{Nothing}
 use Rattle.block_tokens.specs.declared.Token.{Token}
-use Rattle.block_tokens.specs.declared.Token.the-variants.{Bad, Plain, Quoted}
+use Rattle.block_tokens.specs.declared.Token.the-variants.{Bad, Plain, Quoted, Bare}
 use Rattle.block_tokens.specs.Shown.{shownItem, shown}
 use Rattle.block_tokens.specs.Inner.{tagToken, idToken, classToken, quotedFrom, part, startsEq, shutAt}
 use Rattle.block_tokens.proofs.Quotes.{Closed}
@@ -47,14 +49,6 @@ word i m f test item s {a} {e} is h good shows q =
     let l : e ≤ length s = omega (arith, run-le f (drop a s), length-drop a s) in
     rw (z, shown-finish i m (test (part a e s)) (item (part a e s)) (drop (e - a) (drop a s)), drop-drop (e - a) a s, y, ← good, shows (part a e s) (part-length a e s (omega arith) l)) q
 
--- ---- the first byte
-module _ (f : ℕ → Bool) (s : List ℕ) (i : ℕ) where
-  pub first-none : length s ≤ i → false ≡ firstIs f (drop i s)
-  first-none h = rw (drop-of-length-le s h)
-
-  pub first-some : i < length s → f (getD s i 0) ≡ firstIs f (drop i s)
-  first-some h = rw (drop-cons s i 0 h)
-
 run-headed : (f g : ℕ → Bool) → ((b : ℕ) → f b ≡ true → g b ≡ true) → (s : List ℕ) → firstIs f s ≡ headed f g (take (run g s) s)
 unfolding run headed
 run-headed f g of [] = refl
@@ -66,6 +60,14 @@ run-headed f g of (b ∷ s) = go (f b) (g b) refl refl
     go false true p q = rw p
     go false false p q = refl
 
+first-not : (f g : ℕ → Bool) → ((b : ℕ) → f b ≡ true → g b ≡ true) → (s : List ℕ) → firstIs g s ≡ false → firstIs f s ≡ false
+first-not f g of [] e = refl
+first-not f g of (b ∷ s) e = go (f b) refl
+  where
+    go : (x : Bool) → f b ≡ x → x ≡ false
+    go true p = contra (g b) (of b p) e
+    go false p = refl
+
 -- a run from a to e is a name if its first byte begins one: each byte that does is one of the run
 module _ (f g : ℕ → Bool) (of : (b : ℕ) → f b ≡ true → g b ≡ true) (s : List ℕ) {e : ℕ} where
   pub headed-run : (a : ℕ) → e ≡ a + run g (drop a s) → {r : Bool} → r ≡ firstIs f (drop a s) → r ≡ headed f g (part a e s)
@@ -75,6 +77,19 @@ module _ (f g : ℕ → Bool) (of : (b : ℕ) → f b ≡ true → g b ≡ true)
       → {t r : Token} → ((n : List ℕ) → a + length n ≡ e → shownItem i (item n) ≡ t) → r ≡ cond (good && ends m (drop e s)) t Bad
       → r ≡ shown i (frontToken m (run g (drop a s)) (headed f g) item (drop a s))
   headed-word i m item {a} is h good shows q = word i m g (headed f g) item s is h (headed-run a is good) shows q
+
+-- the same by the end that is found with the first byte asked
+module _ (f g : ℕ → Bool) (of : (b : ℕ) → f b ≡ true → g b ≡ true) (s : List ℕ) {a e : ℕ} (is : e ≡ a + frontRun f g (drop a s)) (h : a ≤ length s) where
+  pub headed-front : (i : ℕ) (m : Mode) (item : List ℕ → Item) (tok : ℕ → Token) → ((n : List ℕ) → shownItem i (item n) ≡ tok (a + length n)) → {r : Token} → r ≡ cond (ltb a e && ends m (drop e s)) (tok e) Bad
+      → r ≡ shown i (frontToken m (run g (drop a s)) (headed f g) item (drop a s))
+  headed-front i m item tok shows {r} q = go (ltb a e) refl q
+    where
+      go : (x : Bool) → ltb a e ≡ x → r ≡ cond (x && ends m (drop e s)) (tok e) Bad → r ≡ shown i (frontToken m (run g (drop a s)) (headed f g) item (drop a s))
+      go true p q =
+          let b = fronts.begun f g of s is (λ z. omega (arith, ltb-true a e p, z)) in
+          headed-word f g of s i m item (b .1) h (sym (b .0)) (λ n k. shows n ∙ ap tok k) q
+      go false p q =
+          headed-word f g of s i m item {a = a} refl h {good = false} (sym (fronts.nothing f g of s is (omega (arith, ltb-false a e p, is)))) {t = tok (a + run g (drop a s))} (λ n k. shows n ∙ ap tok k) q
 
 -- ---- the value behind `=` at k
 run-value : (v : ℕ) (s : List ℕ) → ltb v (v + run isPlain s) ≡ isValue (take (run isPlain s) s)
@@ -160,6 +175,15 @@ module _ (m : Mode) (i : ℕ) (s : List ℕ) {e : ℕ} (is : e ≡ i + run isNam
   pub name-bad : startsEq (drop e s) ≡ true → firstIs isKeyStart (drop i s) ≡ false → Bad ≡ shown i (nameToken m (drop i s))
   unfolding shown
   name-bad h k = rw (front, rest, after-equals m (part i e s) (drop e s) h, is-key, k)
+
+  -- neither a key nor a bare name begins so
+  pub name-none : firstIs isKeyStart (drop i s) ≡ false → i ≤ length s → Bad ≡ shown i (nameToken m (drop i s))
+  unfolding isBareName shownItem
+  name-none k h = go (startsEq (drop e s)) refl
+    where
+      go : (x : Bool) → startsEq (drop e s) ≡ x → Bad ≡ shown i (nameToken m (drop i s))
+      go true p = name-bad p k
+      go false p = name-bare p (headed-word isLetter isNamePart (λ b h. key-part b (letter-key b h)) s i m (λ n. Item.bare n) is h {good = false} (sym (first-not isLetter isKeyStart letter-key (drop i s) k)) {t = Bare i e} (λ n k. rw k) refl)
 
   pub name-key : startsEq (drop e s) ≡ true → firstIs isKeyStart (drop i s) ≡ true → {r : Token} → r ≡ shown i (valueToken m (part i e s) (drop (e + 1) s)) → r ≡ shown i (nameToken m (drop i s))
   name-key h k q = rw (front, rest, after-equals m (part i e s) (drop e s) h, is-key, k, drop-drop 1 e s) q

@@ -3,8 +3,8 @@ ghost use mathlib.Core.Path.{_≡_};
 ghost use mathlib.Core.Bool.{false, cond, _&&_};
 ghost use Prim.Native.Nat.{_+_, _-_, _<_, _≤_};
 ghost use lib.ListN.{length, getD, drop};
-ghost use Rattle.base_lists.specs.Lists.{run, firstIs};
-ghost use Rattle.base_bytes.specs.Bytes.{isLetter, isNameStart, isNamePart, isKeyStart, isPlain, isBlank};
+ghost use Rattle.base_lists.specs.Lists.{run};
+ghost use Rattle.base_bytes.specs.Bytes.{isPlain, isBlank};
 ghost use Rattle.block_grammar.specs.Computed.{ends, shutOf, nameToken, valueToken, tokenOf, readPayload};
 ghost use Rattle.block_tokens.specs.Shown.{accepted, shown, tokenEnd, tokenPaper};
 ghost use Rattle.block_tokens.specs.Inner.{startsEq, tagToken, idToken, classToken, quotedFrom, part, shutAt};
@@ -36,16 +36,6 @@ pub fn blank_end(s: &[u8], i: usize, mode: Mode) -> usize
     a
 }
 
-// A later byte of a name; most are small letters, which are told first.
-fn is_part(b: u8) -> bool
-    ensures { λ r. ⌜ r ≡ isNamePart b ⌝ }
-{
-    match b {
-        b'a'..=b'z' => true,
-        _ => base_letters::is_attr_ident_part(b),
-    }
-}
-
 // A byte of an unquoted value; from `(` to `{` all but `\` are, which are told first.
 fn is_value_byte(b: u8) -> bool
     ensures { λ r. ⌜ r ≡ isPlain b ⌝ }
@@ -54,20 +44,6 @@ fn is_value_byte(b: u8) -> bool
         b'('..=b'[' | b']'..=b'{' => true,
         _ => base_bytes::is_plain(b),
     }
-}
-
-// Behind the name bytes from i on.
-fn part_end(s: &[u8], i: usize) -> usize
-    ensures { λ r. ⌜ r ≡ i + run isNamePart (drop i (now (s .entry))) ⌝ }
-{
-    let mut k = i;
-    while k < s.len() {
-        if !is_part(s[k]) {
-            return k;
-        }
-        k += 1;
-    }
-    k
 }
 
 // Behind the bytes of an unquoted value from i on.
@@ -82,36 +58,6 @@ fn plain_end(s: &[u8], i: usize) -> usize
         k += 1;
     }
     k
-}
-
-// Whether a byte that can begin a name stands at i.
-fn starts_name(s: &[u8], i: usize) -> bool
-    ensures { λ r. ⌜ r ≡ firstIs isNameStart (drop i (now (s .entry))) ⌝ }
-{
-    if s.len() <= i {
-        return false;
-    }
-    base_letters::is_css_ident_start(s[i])
-}
-
-// Whether a byte that can begin a key stands at i.
-fn starts_key(s: &[u8], i: usize) -> bool
-    ensures { λ r. ⌜ r ≡ firstIs isKeyStart (drop i (now (s .entry))) ⌝ }
-{
-    if s.len() <= i {
-        return false;
-    }
-    base_letters::is_attr_ident_start(s[i])
-}
-
-// Whether a byte that can begin a bare name stands at i.
-fn starts_bare(s: &[u8], i: usize) -> bool
-    ensures { λ r. ⌜ r ≡ firstIs isLetter (drop i (now (s .entry))) ⌝ }
-{
-    if s.len() <= i {
-        return false;
-    }
-    base_letters::is_letter(s[i])
 }
 
 // The token t, if it is good and a token may end before e.
@@ -136,7 +82,7 @@ fn tag_token(s: &[u8], i: usize, mode: Mode) -> Token
     ensures { λ r. ⌜ r ≡ shown i (tagToken mode (drop (i + 1) (now (s .entry)))) ⌝ }
 {
     let a = i + 1;
-    let e = part_end(s, a);
+    let e = base_letters::part_end(s, a);
     let good = text_names::is_language_tag(&s[a..e]);
     finish(s, e, mode, good, Token::Tag(a, e))
 }
@@ -147,9 +93,8 @@ fn id_token(s: &[u8], i: usize, mode: Mode) -> Token
     ensures { λ r. ⌜ r ≡ shown i (idToken mode (drop (i + 1) (now (s .entry)))) ⌝ }
 {
     let a = i + 1;
-    let e = part_end(s, a);
-    let good = starts_name(s, a);
-    finish(s, e, mode, good, Token::Id(a, e))
+    let e = base_letters::name_end(s, a);
+    finish(s, e, mode, a < e, Token::Id(a, e))
 }
 
 // What stands behind the `.` at i.
@@ -158,9 +103,8 @@ fn class_token(s: &[u8], i: usize, mode: Mode) -> Token
     ensures { λ r. ⌜ r ≡ shown i (classToken mode (drop (i + 1) (now (s .entry)))) ⌝ }
 {
     let a = i + 1;
-    let e = part_end(s, a);
-    let good = starts_name(s, a);
-    finish(s, e, mode, good, Token::Class(a, e))
+    let e = base_letters::name_end(s, a);
+    finish(s, e, mode, a < e, Token::Class(a, e))
 }
 
 // Where the quote q closes, from i on.
@@ -226,15 +170,15 @@ fn name_token(s: &[u8], i: usize, mode: Mode) -> Token
     requires { ⌜ i ≤ length (now s) ⌝ }
     ensures { λ r. ⌜ r ≡ shown i (nameToken mode (drop i (now (s .entry)))) ⌝ }
 {
-    let e = part_end(s, i);
-    if !has_equals(s, e) {
-        let good = starts_bare(s, i);
-        return finish(s, e, mode, good, Token::Bare(i, e));
-    }
-    if !starts_key(s, i) {
+    let e = base_letters::key_end(s, i);
+    if e == i {
         return Token::Bad;
     }
-    value_token(s, i, e, mode)
+    if has_equals(s, e) {
+        return value_token(s, i, e, mode);
+    }
+    let good = base_letters::is_letter(s[i]);
+    finish(s, e, mode, good, Token::Bare(i, e))
 }
 
 // The token at i.

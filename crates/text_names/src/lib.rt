@@ -1,23 +1,9 @@
 // The three kinds of name, and language tags.
 ghost use mathlib.Core.Path.{_≡_};
-ghost use Rattle.base_lists.specs.Lists.{all, run};
-ghost use Rattle.base_bytes.specs.Bytes.{isAlnum, isNamePart};
+ghost use Rattle.base_bytes.specs.Bytes.{isAlnum};
+ghost use Rattle.base_letters.specs.Classes.{isOf};
 ghost use Rattle.text_names.specs.Names.{isName, isKey, isBareName};
 ghost use Rattle.text_names.specs.Computed.{isSize, isTag, isLanguage};
-
-// Whether each byte is a later byte of a name.
-fn all_parts(s: &[u8]) -> bool
-    ensures { λ r. ⌜ r ≡ all isNamePart (now (s .entry)) ⌝ }
-{
-    let mut i = 0;
-    while i < s.len() {
-        if !base_letters::is_attr_ident_part(s[i]) {
-            return false;
-        }
-        i += 1;
-    }
-    true
-}
 
 // A name, as it stands behind `#` or `.`.
 pub fn is_css_identifier(s: &[u8]) -> bool
@@ -26,10 +12,7 @@ pub fn is_css_identifier(s: &[u8]) -> bool
     if s.len() == 0 {
         return false;
     }
-    if !base_letters::is_css_ident_start(s[0]) {
-        return false;
-    }
-    all_parts(&s[1..])
+    base_letters::name_end(s, 0) == s.len()
 }
 
 // A key, as it stands before `=`.
@@ -39,10 +22,7 @@ pub fn is_identifier(s: &[u8]) -> bool
     if s.len() == 0 {
         return false;
     }
-    if !base_letters::is_attr_ident_start(s[0]) {
-        return false;
-    }
-    all_parts(&s[1..])
+    base_letters::key_end(s, 0) == s.len()
 }
 
 // A bare name, with no value.
@@ -52,31 +32,15 @@ pub fn is_boolean_attr_name(s: &[u8]) -> bool
     if s.len() == 0 {
         return false;
     }
-    if !base_letters::is_letter(s[0]) {
-        return false;
-    }
-    all_parts(&s[1..])
+    base_letters::bare_end(s, 0) == s.len()
 }
 
-// How many letters and digits stand at the front.
-fn subtag_len(s: &[u8]) -> usize
-    ensures { λ r. ⌜ r ≡ run isAlnum (now (s .entry)) ⌝ }
-{
-    let mut i = 0;
-    while i < s.len() {
-        if !base_letters::is_alnum(s[i]) {
-            return i;
-        }
-        i += 1;
-    }
-    i
-}
-
-// A tag, by recursion on the rest of the slice behind a subtag and its hyphen.
-pub fn is_tag(s: &[u8]) -> bool
+// A tag, by recursion on the rest of the slice behind a subtag and its hyphen; the table is lent, so that no level holds one of its own.
+fn tag_by(table: &[u64; 16], s: &[u8]) -> bool
+    requires { ⌜ isOf (now table) 3 ≡ isAlnum ⌝ }
     ensures { λ r. ⌜ r ≡ isTag (now (s .entry)) ⌝ }
 {
-    let n = subtag_len(s);
+    let n = base_letters::run_end(table, base_letters::ALNUM, s, 0);
     if n < 1 {
         return false;
     }
@@ -89,7 +53,15 @@ pub fn is_tag(s: &[u8]) -> bool
     if s[n] != b'-' {
         return false;
     }
-    is_tag(&s[n + 1..])
+    tag_by(table, &s[n + 1..])
+}
+
+// A tag.
+pub fn is_tag(s: &[u8]) -> bool
+    ensures { λ r. ⌜ r ≡ isTag (now (s .entry)) ⌝ }
+{
+    let table = base_letters::CLASS;
+    tag_by(&table, s)
 }
 
 // Whether a subtag has 1 to 8 bytes.
@@ -106,10 +78,11 @@ fn is_size(k: usize) -> bool
 fn is_long_tag(s: &[u8]) -> bool
     ensures { λ r. ⌜ r ≡ isTag (now (s .entry)) ⌝ }
 {
+    let table = base_letters::CLASS;
     let mut k = 0;
     let mut i = 0;
     while i < s.len() {
-        if base_letters::is_alnum(s[i]) {
+        if base_letters::is_of(&table, base_letters::ALNUM, s[i]) {
             k += 1;
             i += 1;
             continue;

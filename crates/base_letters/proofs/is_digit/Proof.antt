@@ -1,22 +1,17 @@
-use mathlib.Core.Path.{refl}
-use mathlib.Core.Bool.{true, false}
-use native.Mathlib.Omega.{arith}
-use Rattle.base_lists.proofs.Steady.{steady}
-use Rattle.base_bytes.specs.Bytes.{isDigit, within}
+use mathlib.Core.Path.{_∙_}
+use Rattle.base_bytes.specs.Bytes.{isLetter, isDigit, within}
+use Rattle.base_letters.specs.Classes.{classOf}
+use Rattle.base_letters.proofs.Rule as rule
+use borrow.Author.Needs.{needs}
 use Rattle.base_letters.proofs.is_digit.Statement.{statement}
 use Rattle.base_letters.proofs.is_digit.Tie as tie
 
+is-of-requires : tie.Need-is-of-requires
+is-of-requires c κs = search needs
+
 returns : tie.Need-returns
-unfolding isDigit within
-returns c = steady isDigit true 48 10 (c .before .before .args .b) refl (omega arith) (omega arith)
-
-returns-2 : tie.Need-returns-2
-unfolding isDigit within
-returns-2 c = steady isDigit false 0 48 (c .before .args .b) refl (omega arith) (omega arith)
-
-returns-3 : tie.Need-returns-3
-unfolding isDigit within
-returns-3 c = steady isDigit false 58 198 (c .before .before .args .b) refl (omega arith) (omega arith)
+unfolding classOf isLetter isDigit within
+returns c = c .is-of .ensures ∙ (λ i. rule.digit i (c .before .before .args .b))
 
 pub is-digit-spec : {M : Type 1} → statement M
-is-digit-spec = tie.close (tie.spec returns returns-2 returns-3)
+is-digit-spec = tie.close (tie.spec is-of-requires returns)

@@ -5,6 +5,7 @@ use native.Mathlib.Omega.{arith}
 use borrow.Author.Tests.{le-leb}
 use Rattle.base_lists.specs.Lists.{isIn}
 use Rattle.base_lists.proofs.Steady.{met}
+use Rattle.base_letters.proofs.Fronts as fronts
 use Rattle.block_grammar.specs.Quick as quick
 use Rattle.block_grammar.specs.declared.Walk.{Walk}
 use Rattle.block_quick.proofs.Walks as walks
@@ -15,11 +16,11 @@ use Rattle.block_quick.proofs.edge_turn.Tie as tie
 returns : tie.Need-returns
 returns c = record { goes = λ rest. rw (le-leb 128 (c .before .args .c) (omega arith)) }
 
-is-attr-ident-start-requires : tie.Need-is-attr-ident-start-requires
-is-attr-ident-start-requires c κs = search needs
+is-of-requires : tie.Need-is-of-requires
+is-of-requires c κs = search needs
 
 returns-2 : tie.Need-returns-2
-returns-2 c = record { goes = λ rest. walks.other _ rest (omega arith) (c .before .before .match .rest .0 .0 .1) (c .before .before .match .rest .0 .1) (c .before .before .match .rest .1) (sym (c .if2 .taken) ∙ c .before .is-attr-ident-start .ensures) }
+returns-2 c = record { goes = λ rest. walks.other _ rest (omega arith) (c .before .before .match .rest .0 .0 .1) (c .before .before .match .rest .0 .1) (c .before .before .match .rest .1) (sym (fronts.asked (c .before .before .before .before .pre .key) _ (c .before .is-of .ensures) ∙ c .if2 .taken)) }
 
 returns-3 : tie.Need-returns-3
 unfolding isIn
@@ -34,14 +35,14 @@ unfolding isIn
 returns-5 c = record { goes = λ rest. met (λ x. quick.edge x rest) (rest Walk.Sigil) (35 ∷ 46 ∷ []) (c .before .before .args .c) (c .match .keys3) refl }
 
 returns-6 : tie.Need-returns-6
-returns-6 c = record { goes = λ rest. walks.other _ rest (omega arith) (c .before .before .match .rest .0 .0 .1) (c .before .before .match .rest .0 .1) (c .before .before .match .rest .1) (sym (c .if2 .left) ∙ c .before .is-attr-ident-start .ensures) }
+returns-6 c = record { goes = λ rest. walks.other _ rest (omega arith) (c .before .before .match .rest .0 .0 .1) (c .before .before .match .rest .0 .1) (c .before .before .match .rest .1) (sym (fronts.asked (c .before .before .before .before .pre .key) _ (c .before .is-of .ensures) ∙ c .if2 .left)) }
 
 pub edge-turn-spec : {M : Type 1} → statement M
 edge-turn-spec =
     tie.close
     (tie.spec
     returns
-    is-attr-ident-start-requires
+    is-of-requires
     returns-2
     returns-3
     returns-4

@@ -1,9 +1,12 @@
+use mathlib.Core.Path.{refl}
+use Prim.Native.Nat.{_+_}
 use native.Mathlib.Omega.{arith}
 use Rattle.base_bytes.specs.Bytes.{isNameStart, isNamePart}
 use Rattle.text_names.specs.Names.{isName}
 use Rattle.block_grammar.proofs.Bytes.{start-part}
 use Rattle.block_grammar.specs.Grammar.{Item}
 use Rattle.block_tokens.specs.Shown.{shownItem}
+use Rattle.block_tokens.specs.declared.Token.the-variants.{Id}
 use Rattle.block_tokens.proofs.Words as words
 use borrow.Author.Needs.{needs}
 use Rattle.block_tokens.proofs.id_token.Statement.{statement}
@@ -12,25 +15,15 @@ use Rattle.block_tokens.proofs.id_token.Tie as tie
 add-a : tie.Need-add-a
 add-a c = search needs
 
-part-end-requires : tie.Need-part-end-requires
-part-end-requires c κs = search needs
-
-starts-name-requires : tie.Need-starts-name-requires
-starts-name-requires c κs = search needs
+name-end-requires : tie.Need-name-end-requires
+name-end-requires c κs = search needs
 
 finish-requires : tie.Need-finish-requires
 finish-requires c κs = search needs
 
 returns : tie.Need-returns
 unfolding shownItem isName
-returns c = words.headed-word isNameStart isNamePart start-part _ _ _ (λ n. Item.id n) (c .before .before .part-end .ensures) (omega (arith, c .before .before .before .before .pre)) (c .before .starts-name .ensures) (λ n h. rw h) (c .finish .ensures)
+returns c = words.headed-front isNameStart isNamePart start-part _ (c .before .name-end .ensures) (omega (arith, c .before .before .before .pre)) _ _ (λ n. Item.id n) (λ e. Id (c .before .before .before .args .i + 1) e) (λ n. refl) (c .finish .ensures)
 
 pub id-token-spec : {M : Type 1} → statement M
-id-token-spec =
-    tie.close
-    (tie.spec
-    add-a
-    part-end-requires
-    starts-name-requires
-    finish-requires
-    returns)
+id-token-spec = tie.close (tie.spec add-a name-end-requires finish-requires returns)

@@ -1,0 +1,3 @@
+-- The rule of the table, what a mask says of a byte, and how far a name goes.
+pub mod Rule
+pub mod Fronts
