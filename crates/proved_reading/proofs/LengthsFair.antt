@@ -19,6 +19,7 @@ use Rattle.text_lines.specs.Lines.{lines, lineOf, lineAt}
 use Rattle.text_lines.specs.declared.Line as places
 use Rattle.text_lines.specs.declared.Line.the-variants as place
 use Rattle.block_chain.specs.Chain.{goodLine}
+use Rattle.run_joins.specs.Joins.{Lined, So}
 use Rattle.run_lines.specs.Runs as runs
 use Rattle.run_lines.proofs.Bounds.{run-by, text-short, never-full}
 use Rattle.block_trimmed_line.specs.Fronts.{frontOf, opensAt, beginsIndented}
@@ -29,7 +30,7 @@ use Rattle.read_lengths.specs.Lengths.{flushLeft, standaloneFound, indentedFoun
 use Rattle.proved_runs.proofs.Bounds.{lookahead-le}
 use Rattle.proved_reading.specs.Measuring.{measuredNumbers, Fair, FairFound, FairBlock, FairWraps, FairStandalone, FairIndented}
 
-stop-given : (cap : ℕ) (so : runs.So) (ls : List runs.Lined) → isIn measuredNumbers (outcomeNo (runs.runFrom cap so ls .stop)) ≡ true
+stop-given : (cap : ℕ) (so : So) (ls : List Lined) → isIn measuredNumbers (outcomeNo (runs.runFrom cap so ls .stop)) ≡ true
 unfolding isIn numberOf
 stop-given cap = run-by cap (λ so ls R. isIn measuredNumbers (outcomeNo (R .stop)) ≡ true) (λ so ls. refl) (λ so l ls h. refl) (λ so ls. refl) (λ so l ls R p h ih. ih)
 

@@ -5,7 +5,8 @@ use mathlib.Core.List.{List, map}
 use native.Mathlib.Omega.{arith}
 use lib.ListN.{length, drop, length-drop}
 use Rattle.text_lines.specs.Lines.{lines}
-use Rattle.run_lines.specs.Runs.{Lined, asIs, runOf, runAt, sizes}
+use Rattle.run_joins.specs.Joins.{Lined}
+use Rattle.run_lines.specs.Runs.{asIs, runOf, runAt, sizes}
 use Rattle.run_lines.proofs.Bounds as bounds
 use Rattle.run_lines.proofs.Bounds.{lookahead-sum, sizes-lines, sizes-take}
 use Rattle.proved_runs.specs.Lookaheads.{RunLookahead}

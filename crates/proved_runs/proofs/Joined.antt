@@ -22,9 +22,9 @@ use Rattle.text_lines.specs.declared.Line as places
 use Rattle.text_lines.specs.declared.Line.the-variants as place
 use Rattle.text_lines.proofs.Lines.{to-from, to-next, line-at, lines-end}
 use Rattle.text_tabs.specs.Columns.{indentColumns}
-use Rattle.run_lines.specs.Runs.{Lined, asIs, So, start, Run, ended, isFirst, after, runFrom, runOf, runAt, sizes, pastLines}
+use Rattle.run_lines.specs.Runs.{asIs, start, Run, ended, runFrom, runOf, runAt, sizes, pastLines}
 use Rattle.run_lines.proofs.Bounds.{run-by}
-use Rattle.run_joins.specs.Joins.{added}
+use Rattle.run_joins.specs.Joins.{Lined, So, isFirst, added, after}
 use Rattle.run_spots.specs.declared.Spot.{Spot}
 use Rattle.run_spots.specs.Spots.{isStray, spotAfter, opensComment}
 use Rattle.run_refused.specs.declared.RunReply.the-variants.{No}

@@ -17,8 +17,8 @@ use Rattle.run_scanners.specs.Scanners.{passed, seekStep, seekFrom, lastOpenBra
 use Rattle.block_grammar.specs.declared.Quote.the-variants.{Out}
 use Rattle.base_refusals.specs.declared.Outcome.the-variants.{Passed, Refused}
 use Rattle.base_refusals.specs.declared.Refusal.the-variants.{NoReading, JoinFull}
-use Rattle.run_lines.specs.Runs.{Lined, So, Run, ended, mayJoin, after, runFrom}
-use Rattle.run_joins.specs.Joins.{passes}
+use Rattle.run_lines.specs.Runs.{Run, ended, runFrom}
+use Rattle.run_joins.specs.Joins.{Lined, So, passes, mayJoin, after}
 use Rattle.proved_runs.specs.Padding.{spaces, copied, PadsAsNumbers}
 
 pad-trim : (n : ℕ) (l : List ℕ) → trim (spaces n l) ≡ trim l

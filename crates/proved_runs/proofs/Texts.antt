@@ -27,8 +27,8 @@ use Rattle.text_lines.specs.declared.Line.the-variants.{Missing, At}
 use Rattle.text_lines.proofs.Lines.{ranges-end, ranges-at, line-found, lines-end}
 use Rattle.text_lines.proofs.Trim.{trim-start, trim-end-take}
 use Rattle.text_lines.proofs.First.{rest-of, first-le, first-take, first-whole, first-cut}
-use Rattle.run_lines.specs.Runs.{Lined, asIs, So, start, Run, isFirst, runFrom, runAt, pastLines}
-use Rattle.run_joins.specs.Joins.{added}
+use Rattle.run_lines.specs.Runs.{asIs, start, Run, runFrom, runAt, pastLines}
+use Rattle.run_joins.specs.Joins.{Lined, So, isFirst, added}
 use Rattle.run_lines.proofs.Bounds.{run-by}
 use Rattle.block_payloads.specs.Payloads.{opens}
 use Rattle.proved_runs.specs.JoinedTexts.{JoinedUtf8, LineUtf8, OpenUtf8, JoinedNoLf}

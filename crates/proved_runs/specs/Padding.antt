@@ -5,7 +5,8 @@ use mathlib.Core.Bool.{Bool}
 use mathlib.Core.List.{List, _++_, map}
 use lib.ListN.{replicate}
 use Rattle.base_bytes.specs.Bytes.{space}
-use Rattle.run_lines.specs.Runs.{Lined, So, runFrom}
+use Rattle.run_joins.specs.Joins.{Lined, So}
+use Rattle.run_lines.specs.Runs.{runFrom}
 use Rattle.run_refused.specs.Refused.{Stretch, foundIn}
 
 -- n spaces before a line's bytes

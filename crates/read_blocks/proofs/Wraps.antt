@@ -23,6 +23,7 @@ use Rattle.block_chain.specs.Chain.{OneBlock, Blocks, goodLine}
 use Rattle.block_chain.specs.Computed.{readBlocks}
 use Rattle.block_chain.proofs.Blocks.{sound}
 use Rattle.run_scanners.specs.Scanners.{holdsOpen}
+use Rattle.run_joins.specs.Joins.{Lined, So, mayJoin, after}
 use Rattle.run_lines.specs.Runs as runs
 use Rattle.base_refusals.specs.declared.Outcome as outcomes
 use Rattle.base_refusals.specs.declared.Outcome.the-variants as outcome
@@ -68,33 +69,33 @@ open-run t at base cap {f} p o e = go (goodLine t (f .from) (f .to)) refl
 
 -- ---- the text of a run that closes at its first line
 
-abbrev Kept : runs.So → List runs.Lined → runs.Run → Type 0
+abbrev Kept : So → List Lined → runs.Run → Type 0
 Kept so ls R = (so .lines ≤ R .lines) × (R .lines ≤ so .lines → R .text ≡ so .text)
 
-kept : (cap : ℕ) (so : runs.So) (ls : List runs.Lined) → Kept so ls (runs.runFrom cap so ls)
+kept : (cap : ℕ) (so : So) (ls : List Lined) → Kept so ls (runs.runFrom cap so ls)
 kept cap =
     run-by cap Kept (λ so ls. (omega arith, λ h. refl)) (λ so l ls h. (omega arith, λ k. refl)) (λ so ls. (omega arith, λ h. refl))
     (λ so l ls R p h ih. (omega (arith, ih .0), λ k. absurd (omega (arith, k, ih .0))))
 
-abbrev First : List runs.Lined → runs.Run → Type 0
+abbrev First : List Lined → runs.Run → Type 0
 First [] R = ⊥
 First (l ∷ ls) R = (0 < R .lines) × (R .lines ≤ 1 → R .text ≡ trim (l .line))
 
-first-text : (cap base : ℕ) (ls : List runs.Lined) → runs.runOf cap base ls .stop ≡ outcome.Passed → First ls (runs.runOf cap base ls)
+first-text : (cap base : ℕ) (ls : List Lined) → runs.runOf cap base ls .stop ≡ outcome.Passed → First ls (runs.runOf cap base ls)
 unfolding runs.runFrom
 first-text cap base [] e = let z : _≡_ {A = ℕ} 0 1 = cc in absurd (omega arith)
 first-text cap base (l ∷ ls) e =
-    go (runs.mayJoin so l) (ltb cap (length (runs.after so l .text))) (isIn (l .line) 125 && not (holdsOpen (runs.after so l .text))) (kept cap (runs.after so l) ls) e
+    go (mayJoin so l) (ltb cap (length (after so l .text))) (isIn (l .line) 125 && not (holdsOpen (after so l .text))) (kept cap (after so l) ls) e
   where
-    so : runs.So
+    so : So
     so = runs.start base
 
     R : Bool → Bool → Bool → runs.Run
     R x y z =
-        cond x (cond y (runs.ended (outcome.Refused JoinFull) so) (cond z (runs.ended outcome.Passed (runs.after so l)) (runs.runFrom cap (runs.after so l) ls)))
+        cond x (cond y (runs.ended (outcome.Refused JoinFull) so) (cond z (runs.ended outcome.Passed (after so l)) (runs.runFrom cap (after so l) ls)))
         (runs.ended (outcome.Refused NoReading) so)
 
-    go : (x y z : Bool) → Kept (runs.after so l) ls (runs.runFrom cap (runs.after so l) ls) → R x y z .stop ≡ outcome.Passed → First (l ∷ ls) (R x y z)
+    go : (x y z : Bool) → Kept (after so l) ls (runs.runFrom cap (after so l) ls) → R x y z .stop ≡ outcome.Passed → First (l ∷ ls) (R x y z)
     go false y z k e = let z : _≡_ {A = ℕ} 0 1 = cc in absurd (omega arith)
     go true true z k e = let z : _≡_ {A = ℕ} 0 1 = cc in absurd (omega arith)
     go true false true k e = (omega arith, λ h. refl)

@@ -2,16 +2,17 @@
 -- Assumes nothing.
 use mathlib.Core.Path.{_≡_, refl, sym, _∙_, ap}
 use mathlib.Core.Bool.{Bool, true, false, cond, not}
-use mathlib.Core.List.{List, [], _∷_}
+use mathlib.Core.List.{List, [], _∷_, _++_}
 use Prim.Native.Nat.{ℕ, suc, _+_, _-_, _<_, _≤_}
 use native.Mathlib.Nat.{zero-add}
 use native.Mathlib.Numerals.{add-one}
 use native.Mathlib.Omega.{arith}
-use borrow.Author.Tests.{ne-eqb, lt-ltb, le-ltb, leb-true, leb-false, ltb-false}
+use borrow.Author.Tests.{eqb-false, ne-eqb, lt-ltb, le-ltb, leb-true, leb-false, ltb-false, not-true}
 use lib.Dec.{eqb, ltb, leb}
-use lib.ListN.{length, set, length-set}
-use lib.Seq.{sets, length-sets}
-use Rattle.base_lists.specs.Lists.{isIn}
+use lib.ListN.{length, take, set, length-set, length-append}
+use lib.Seq.{length-take-le, take-all, sets, sets-eq, length-sets}
+use Rattle.base_lists.specs.Lists.{isIn, over}
+use Rattle.base_lists.proofs.Scan.{both}
 use Rattle.base_refusals.specs.Orders.{Ground, onPaper}
 use Rattle.base_refusals.specs.declared.Refusal.the-variants.{NoReading, JoinFull}
 use Rattle.text_lines.specs.Trim.{trim, isBlankLine}
@@ -28,7 +29,8 @@ use Rattle.block_grammar.specs.declared.Place.the-variants.{Nothing, At}
 use Rattle.run_joins.specs.declared.State.{State}
 use Rattle.run_joins.specs.declared.Effect.{Effect}
 use Rattle.run_joins.specs.declared.Effect.the-variants.{Broken, Full, Go, Closes}
-use Rattle.run_joins.specs.Joins.{goesOn, passes, spaced, added, braceAfter, nextState, isLast, closesOr, lengthAfter, joinStep, joinAfter, effectPaper, joinOrder, joinValues}
+use Rattle.run_joins.specs.Joins.{atPad, So, isFirst, goesOn, passes, mayJoin, spaced, added, braceAfter, after, isFull, isClosing, runIn, stateOf, holdAfter, joinStep, joinAfter, effectPaper, joinOrder, joinValues}
+use Rattle.run_joins.specs.Inner.{nextState}
 
 -- ---- a line's own tests
 
@@ -107,10 +109,10 @@ module _ (buf : List ℕ) (len : ℕ) (core : List ℕ) where
 -- ---- the state behind a line
 
 module _ (l : List ℕ) (hold : Hold) where
-  pub no-close : isIn l 125 ≡ false → false ≡ isLast l hold
+  pub no-close : isIn l 125 ≡ false → false ≡ isClosing l (isHeld hold)
   no-close e = rw e
 
-  pub has-close : {h : Bool} → isIn l 125 ≡ true → h ≡ isHeld hold → not h ≡ isLast l hold
+  pub has-close : {h : Bool} → isIn l 125 ≡ true → h ≡ isHeld hold → not h ≡ isClosing l (isHeld hold)
   has-close e p = rw (e, p)
 
 module _ (hold : Hold) (core : List ℕ) where
@@ -156,17 +158,93 @@ module _ (len : ℕ) (st : State) (pad : ℕ) (l : List ℕ) {core : List ℕ} (
       → hold ≡ holdFrom (st .hold) (spaced (eqb (st .len) 0) core) → record { len = len; brace = b; base = 0; quote = q; hold = hold } ≡ nextState len st pad l
   state-is x y z = rw (x, y, z, c)
 
+-- ---- the run of a state
+
+-- a line that passes adds a byte at least
+some-spaced : (first : Bool) (s : List ℕ) → eqb (length s) 0 ≡ false → 0 < length (spaced first s)
+some-spaced true s e = omega (arith, eqb-false (length s) 0 e)
+some-spaced false s e = omega arith
+
+pub adds-some : (so : So) (pad : ℕ) (l : List ℕ) (first : Bool) → passes (isFirst so) (so .brace) (so .quote) pad l ≡ true → 0 < length (added first l)
+unfolding passes isBlankLine
+adds-some so pad l first p = some-spaced first (trim l) (not-true _ (both _ _ p .0))
+
+pub first-of : (x : Bool) → eqb (cond x 0 1) 0 ≡ x
+first-of true = refl
+first-of false = refl
+
+sets-over : (xs buf : List ℕ) (n : ℕ) → n + length xs ≤ length buf → sets buf n xs ≡ over (take n buf ++ xs) buf
+sets-over xs buf n h =
+    let e : length (take n buf ++ xs) ≡ n + length xs = omega (arith, length-append (take n buf) xs, length-take-le n buf (omega arith)) in
+    sets-eq xs buf n h ∙ rw e
+
+module _ (st : State) (pad : ℕ) (l buf : List ℕ) where
+  abbrev so : So
+  so = runIn buf st
+
+  abbrev behind-line : So
+  behind-line = after so (atPad pad l)
+
+  -- the bytes that the line adds, by the state's length
+  abbrev bytes : List ℕ
+  bytes = added (eqb (st .len) 0) l
+
+  first-is : isFirst so ≡ eqb (st .len) 0
+  first-is = first-of (eqb (st .len) 0)
+
+  text-is : behind-line .text ≡ (take (st .len) buf ++ bytes)
+  text-is = ap (λ x. take (st .len) buf ++ added x l) first-is
+
+  tests-are : {x : Bool} → Passes st pad l x → x ≡ mayJoin so (atPad pad l)
+  tests-are p = p ∙ ap (λ x. passes x (st .brace) (st .quote) pad l) (sym first-is)
+
+  text-long : st .len ≤ length buf → length (behind-line .text) ≡ st .len + length bytes
+  text-long h = rw text-is (omega (arith, length-append (take (st .len) buf) bytes, length-take-le (st .len) buf h))
+
+  room-is : Passes st pad l true → ltb (length buf) (st .len + length bytes) ≡ isFull (length buf) so (atPad pad l)
+  room-is p = go (leb (st .len) (length buf)) refl
+    where
+      go : (x : Bool) → leb (st .len) (length buf) ≡ x → ltb (length buf) (st .len + length bytes) ≡ isFull (length buf) so (atPad pad l)
+      go true e = ap (ltb (length buf)) (sym (text-long (leb-true (st .len) (length buf) e)))
+      go false e =
+          let h = leb-false (st .len) (length buf) e in
+          let k : length (behind-line .text) ≡ length buf + length bytes = rw text-is (rw (take-all (st .len) buf (omega arith)) (length-append buf bytes)) in
+          lt-ltb (length buf) _ (omega arith) ∙ sym (lt-ltb (length buf) _ (omega (arith, k, adds-some so pad l (eqb (st .len) 0) (sym (tests-are p)))))
+
 -- ---- the line itself
 
-pub step-paper : (cap : ℕ) (st : State) (pad : ℕ) (l : List ℕ) → effectPaper (joinStep cap st pad l) ≡ onPaper (joinOrder cap st pad l) (joinValues st l)
+pub step-paper : (buf : List ℕ) (st : State) (pad : ℕ) (l : List ℕ) → effectPaper (joinStep buf st pad l) ≡ onPaper (joinOrder buf st pad l) (joinValues buf st pad l)
 unfolding joinStep onPaper
-step-paper cap st pad l = go (passes (eqb (st .len) 0) (st .brace) (st .quote) pad l) (ltb cap (lengthAfter st l)) (isLast l (n .hold))
+step-paper buf st pad l = go (mayJoin (runIn buf st) (atPad pad l)) (isFull (length buf) (runIn buf st) (atPad pad l)) (isClosing l (isHeld (holdAfter buf st l)))
   where
     n : State
-    n = nextState (lengthAfter st l) st pad l
+    n = stateOf (after (runIn buf st) (atPad pad l)) (holdAfter buf st l)
 
     go : (x y z : Bool) → effectPaper (cond x (cond y Full (cond z (Closes n) (Go n))) Broken)
-        ≡ onPaper (Ground.lacking NoReading x ∷ Ground.given JoinFull y ∷ []) (cond z 1 0 ∷ lengthAfter st l ∷ [])
+        ≡ onPaper (Ground.lacking NoReading x ∷ Ground.given JoinFull y ∷ []) (cond z 1 0 ∷ n .len ∷ [])
+    go false y z = refl
+    go true true z = refl
+    go true false true = refl
+    go true false false = refl
+
+-- what stands in the buffer behind a step, where a line that is joined leaves `written`
+abbrev pub laid : Effect → List ℕ → List ℕ → List ℕ
+laid Broken buf written = buf
+laid Full buf written = buf
+laid (Go st) buf written = written
+laid (Closes st) buf written = written
+
+pub laid-is : (buf : List ℕ) (st : State) (pad : ℕ) (l : List ℕ) → joinAfter buf st pad l ≡ laid (joinStep buf st pad l) buf (over (after (runIn buf st) (atPad pad l) .text) buf)
+unfolding joinStep joinAfter
+laid-is buf st pad l = go (mayJoin (runIn buf st) (atPad pad l)) (isFull (length buf) (runIn buf st) (atPad pad l)) (isClosing l (isHeld (holdAfter buf st l)))
+  where
+    n : State
+    n = stateOf (after (runIn buf st) (atPad pad l)) (holdAfter buf st l)
+
+    w : List ℕ
+    w = over (after (runIn buf st) (atPad pad l) .text) buf
+
+    go : (x y z : Bool) → cond x (cond y buf (cond z w w)) buf ≡ laid (cond x (cond y Full (cond z (Closes n) (Go n))) Broken) buf w
     go false y z = refl
     go true true z = refl
     go true false true = refl
@@ -174,41 +252,53 @@ step-paper cap st pad l = go (passes (eqb (st .len) 0) (st .brace) (st .quote) p
 
 module _ (st : State) (pad : ℕ) (l buf : List ℕ) where
   abbrev Answers : Effect → List ℕ → Type 0
-  Answers r b = (r ≡ joinStep (length buf) st pad l) × ((b ≡ joinAfter st pad l buf) × (effectPaper r ≡ onPaper (joinOrder (length buf) st pad l) (joinValues st l)))
+  Answers r b = (r ≡ joinStep buf st pad l) × ((b ≡ joinAfter buf st pad l) × (effectPaper r ≡ onPaper (joinOrder buf st pad l) (joinValues buf st pad l)))
 
-  said : {r : Effect} {b : List ℕ} → r ≡ joinStep (length buf) st pad l → b ≡ joinAfter st pad l buf → Answers r b
-  said e q = (e, (q, ap effectPaper e ∙ step-paper (length buf) st pad l))
+  -- a step, and the buffer that it leaves
+  said : {r : Effect} {b : List ℕ} → r ≡ joinStep buf st pad l → b ≡ laid r buf (over (after (runIn buf st) (atPad pad l) .text) buf) → Answers r b
+  said e q = (e, (q ∙ ap (λ x. laid x buf (over (after (runIn buf st) (atPad pad l) .text) buf)) e ∙ sym (laid-is buf st pad l), ap effectPaper e ∙ step-paper buf st pad l))
 
   pub step-broken : Passes st pad l false → Answers Broken buf
-  unfolding joinStep joinAfter
-  step-broken p = said (rw (← p)) (rw (← p))
+  unfolding joinStep
+  step-broken p = said (rw (← tests-are st pad l buf p)) refl
 
   module _ (p : Passes st pad l true) {core : List ℕ} (c : core ≡ trim l) where
+    room-by : {x : Bool} → Lacks (length buf) (st .len) core x → x ≡ isFull (length buf) (runIn buf st) (atPad pad l)
+    room-by q = q ∙ ap (λ s. ltb (length buf) (st .len + length (spaced (eqb (st .len) 0) s))) c ∙ room-is st pad l buf p
+
     pub step-full : Lacks (length buf) (st .len) core true → Answers Full buf
-    unfolding joinStep joinAfter
-    step-full q = said (rw (← p, ← c, ← q)) (rw (← p, ← c, ← q))
+    unfolding joinStep
+    step-full q = said (rw (← tests-are st pad l buf p, ← room-by q)) refl
 
     pub step-room : Lacks (length buf) (st .len) core false → st .len + length (spaced (eqb (st .len) 0) core) ≤ length buf
     step-room q = ltb-false (length buf) _ (sym q)
 
     module _ (q : Lacks (length buf) (st .len) core false) {len : ℕ} {b : List ℕ} (w : Put buf (st .len) core len b) {next : State} (n : next ≡ nextState len st pad l) where
-      long : len ≡ lengthAfter st l
-      long = w .0 ∙ ap (λ s. st .len + length (spaced (eqb (st .len) 0) s)) c
+      abbrev kept : State
+      kept = stateOf (after (runIn buf st) (atPad pad l)) (holdAfter buf st l)
 
-      room : ltb (length buf) (lengthAfter st l) ≡ false
-      room = ap (λ s. ltb (length buf) (st .len + length (spaced (eqb (st .len) 0) s))) (sym c) ∙ sym q
+      fits : st .len + length (added (eqb (st .len) 0) l) ≤ length buf
+      fits = rw c at (step-room q)
 
-      joined : closesOr l next ≡ joinStep (length buf) st pad l
+      long : len ≡ length (after (runIn buf st) (atPad pad l) .text)
+      long = w .0 ∙ ap (λ s. st .len + length (spaced (eqb (st .len) 0) s)) c ∙ sym (text-long st pad l buf (omega (arith, fits)))
+
+      next-is : next ≡ kept
+      next-is =
+          n ∙ ap (λ k. nextState k st pad l) long
+          ∙ ap (λ x. stateOf (after (runIn buf st) (atPad pad l)) (holdFrom (st .hold) (added x l))) (sym (first-is st pad l buf))
+
+      joined : cond (isClosing l (isHeld (next .hold))) (Closes next) (Go next) ≡ joinStep buf st pad l
       unfolding joinStep
-      joined = rw (← p, room) (ap (closesOr l) (n ∙ ap (λ k. nextState k st pad l) long))
+      joined = rw (← tests-are st pad l buf p, ← room-by q) (ap (λ v. cond (isClosing l (isHeld (v .hold))) (Closes v) (Go v)) next-is)
 
-      written : b ≡ sets buf (st .len) (added (eqb (st .len) 0) l)
-      written = w .1 ∙ ap (λ s. sets buf (st .len) (spaced (eqb (st .len) 0) s)) c
+      written : b ≡ over (after (runIn buf st) (atPad pad l) .text) buf
+      written =
+          w .1 ∙ ap (λ s. sets buf (st .len) (spaced (eqb (st .len) 0) s)) c ∙ sets-over (added (eqb (st .len) 0) l) buf (st .len) fits
+          ∙ ap (λ s. over s buf) (sym (text-is st pad l buf))
 
-      pub step-closes : true ≡ isLast l (next .hold) → Answers (Closes next) b
-      unfolding joinAfter
-      step-closes x = said (rw (← joined, ← x)) (rw (← joined, ← x) written)
+      pub step-closes : true ≡ isClosing l (isHeld (next .hold)) → Answers (Closes next) b
+      step-closes x = said (ap (λ y. cond y (Closes next) (Go next)) x ∙ joined) written
 
-      pub step-go : false ≡ isLast l (next .hold) → Answers (Go next) b
-      unfolding joinAfter
-      step-go x = said (rw (← joined, ← x)) (rw (← joined, ← x) written)
+      pub step-go : false ≡ isClosing l (isHeld (next .hold)) → Answers (Go next) b
+      step-go x = said (ap (λ y. cond y (Closes next) (Go next)) x ∙ joined) written

@@ -10,9 +10,10 @@ ghost use lib.Seq.{sets};
 ghost use Rattle.base_refusals.specs.Orders.{onPaper};
 ghost use Rattle.text_lines.specs.Trim.{trim};
 ghost use Rattle.text_tabs.specs.Columns.{indentFrom, capped};
-ghost use Rattle.run_scanners.specs.Scanners.{holdFrom, lastOpenBrace};
+ghost use Rattle.run_scanners.specs.Scanners.{holdFrom, isHeld, lastOpenBrace};
 ghost use Rattle.block_grammar.specs.declared.Quote.the-variants.{Out};
-ghost use Rattle.run_joins.specs.Joins.{goesOn, passes, spaced, braceAfter, isLast, nextState, joinStep, joinAfter, effectPaper, joinOrder, joinValues};
+ghost use Rattle.run_joins.specs.Joins.{goesOn, passes, spaced, braceAfter, isClosing, joinStep, joinAfter, effectPaper, joinOrder, joinValues};
+ghost use Rattle.run_joins.specs.Inner.{nextState};
 
 // What a run has when the next line comes: the length of the joined text, the column of the last open brace, what is added to the
 // first line's brace column, the quote that is left open, and the scan of the joined text for an open block.
@@ -134,7 +135,7 @@ fn brace_after(brace: usize, base: usize, pad: usize, line: &[u8]) -> usize
 
 // Whether a line ends the run, where its scan stands at `hold`.
 fn is_last(line: &[u8], hold: Hold) -> bool
-    ensures { λ r. ⌜ r ≡ isLast (now (line .entry)) hold ⌝ }
+    ensures { λ r. ⌜ r ≡ isClosing (now (line .entry)) (isHeld hold) ⌝ }
 {
     if !run_scanners::contains_close(line) {
         return false;
@@ -159,9 +160,9 @@ fn state_after(len: usize, st: State, pad: usize, line: &[u8], core: &[u8]) -> S
 
 // Joins one line, before whose bytes `pad` columns stand, behind what is joined already.
 pub fn join_line(line: &[u8], pad: usize, st: State, join: &mut [u8]) -> Effect
-    ensures { λ r. ⌜ r ≡ joinStep (length (now (join .entry))) st pad (now (line .entry)) ⌝ }
-    ensures { λ r. ⌜ now (join .exit) ≡ joinAfter st pad (now (line .entry)) (now (join .entry)) ⌝ }
-    ensures { λ r. ⌜ effectPaper r ≡ onPaper (joinOrder (length (now (join .entry))) st pad (now (line .entry))) (joinValues st (now (line .entry))) ⌝ }
+    ensures { λ r. ⌜ r ≡ joinStep (now (join .entry)) st pad (now (line .entry)) ⌝ }
+    ensures { λ r. ⌜ now (join .exit) ≡ joinAfter (now (join .entry)) st pad (now (line .entry)) ⌝ }
+    ensures { λ r. ⌜ effectPaper r ≡ onPaper (joinOrder (now (join .entry)) st pad (now (line .entry))) (joinValues (now (join .entry)) st pad (now (line .entry))) ⌝ }
 {
     let r = text_lines::trim_ascii(line);
     let from = r.from;

@@ -26,8 +26,8 @@ use Rattle.base_refusals.specs.Numbers.{numberOf, outcomeNo}
 use Rattle.base_refusals.specs.declared.Refusal.the-variants.{NoReading, JoinFull}
 use Rattle.base_refusals.specs.declared.Outcome.{Outcome}
 use Rattle.base_refusals.specs.declared.Outcome.the-variants.{Passed, Refused}
-use Rattle.run_lines.specs.Runs.{Lined, asIs, So, start, Run, ended, isFirst, mayJoin, after, runFrom, runOf, runAt, sizes}
-use Rattle.run_joins.specs.Joins.{goesOn, spaced}
+use Rattle.run_lines.specs.Runs.{asIs, start, Run, ended, runFrom, runOf, runAt, sizes}
+use Rattle.run_joins.specs.Joins.{Lined, So, isFirst, goesOn, mayJoin, spaced, after}
 
 -- ---- induction along a run: it ends, or a line doesn't fit, or a line is joined and it goes on or ends behind that one
 

@@ -1,26 +1,24 @@
 -- The loop of `join_run`: the state that code keeps shows the definition's, and the lent memory holds the joined text.
 -- Assumes nothing.
 use mathlib.Core.Path.{_≡_, refl, sym, _∙_, ap}
-use mathlib.Core.Bool.{Bool, true, false, cond, not, _&&_}
+use mathlib.Core.Bool.{Bool, true, false, cond}
 use mathlib.Core.List.{List, [], _∷_, _++_, map}
 use Prim.Native.Nat.{ℕ, zero, suc, _+_, _-_, _<_, _≤_}
 use native.Mathlib.Numerals.{add-one}
 use native.Mathlib.Omega.{arith}
-use borrow.Author.Tests.{eqb-false, ne-eqb, ltb-false, not-true}
+use borrow.Author.Tests.{ne-eqb, ltb-false}
 use lib.Dec.{eqb, ltb}
 use lib.ListN.{length, take, drop, length-append}
-use lib.Seq.{length-slice, take-at, drop-at, drop-drop, sets, sets-eq, length-sets}
-use Rattle.base_lists.specs.Lists.{isIn, over}
-use Rattle.base_lists.proofs.Scan.{both}
+use lib.Seq.{length-slice, take-at, drop-at, drop-drop}
+use Rattle.base_lists.specs.Lists.{over}
 use Rattle.base_lists.proofs.Parts.{slice-part}
 use Rattle.base_lists.proofs.Sets.{over-long}
 use Rattle.text_lines.specs.declared.LineEnd.{LineEnd}
-use Rattle.text_lines.specs.Trim.{trim, isBlankLine}
 use Rattle.text_lines.specs.Lines.{lines, lineFrom}
 use Rattle.text_lines.proofs.Lines.{lines-end, line-at, to-from, to-next, next-beyond, next-le}
 use Rattle.text_tabs.specs.Columns.{capped}
 use Rattle.text_tabs.proofs.Laws.{capped-id}
-use Rattle.run_scanners.specs.Scanners.{lastOpenBrace, holdFrom, holdStart, holdsOpen}
+use Rattle.run_scanners.specs.Scanners.{lastOpenBrace, holdFrom, holdStart, isHeld, holdsOpen}
 use Rattle.run_scanners.specs.declared.Hold.{Hold}
 use Rattle.run_scanners.proofs.Laws.{hold-append, capped-twice}
 use Rattle.block_grammar.specs.declared.Quote.the-variants.{Out}
@@ -35,8 +33,9 @@ use Rattle.run_joins.specs.declared.State.{State}
 use Rattle.run_joins.specs.declared.Effect.{Effect}
 use Rattle.run_joins.specs.declared.Effect.the-variants.{Broken, Full, Go, Closes}
 use Rattle.run_lines.specs.declared.Joined.{Joined}
-use Rattle.run_lines.specs.Runs.{Lined, asIs, So, start, Run, ended, isFirst, mayJoin, after, isClosing, runFrom, runAt, orderFrom, runOrder, pastLines, joinedOf}
-use Rattle.run_joins.specs.Joins.{passes, spaced, added, braceAfter, nextState, isLast, lengthAfter, joinStep, laid, joinAfter}
+use Rattle.run_lines.specs.Runs.{asIs, start, Run, ended, runFrom, runAt, orderFrom, runOrder, pastLines, joinedOf}
+use Rattle.run_joins.specs.Joins.{Lined, atPad, So, isFirst, passes, mayJoin, added, braceAfter, after, isClosing, runIn, stateOf, holdAfter, joinStep, joinAfter}
+use Rattle.run_joins.proofs.Steps.{adds-some, first-of, laid, laid-is}
 
 -- ---- one line, by code and by definition
 
@@ -53,48 +52,59 @@ pub shows-start : (base : ℕ) {h : Hold} → h ≡ holdStart → Shows (start b
 unfolding holdFrom
 shows-start base e = record { len = refl; first = refl; brace = sym (capped-id 0 (omega arith)); base = refl; quote = refl; hold = e }
 
--- a line that may be joined adds a byte at least
-added-some : (first : Bool) (s : List ℕ) → eqb (length s) 0 ≡ false → 0 < length (spaced first s)
-added-some true s e = omega (arith, eqb-false (length s) 0 e)
-added-some false s e = omega arith
-
-pub adds-some : (so : So) (l : Lined) → mayJoin so l ≡ true → 0 < length (added (isFirst so) (l .line))
-unfolding passes isBlankLine
-adds-some so l p = added-some (isFirst so) (trim (l .line)) (not-true _ (both _ _ p .0))
-
 capped-brace : (b base : ℕ) (p : Place) → capped (braceAfter (capped b) base p) ≡ capped (braceAfter b base p)
 capped-brace b base Nothing = capped-twice b
 capped-brace b base (At c) = refl
 
-module _ {so : So} {st : State} (s : Shows so st) (l : Lined) where
-  pub shows-tests : passes (eqb (st .len) 0) (st .brace) (st .quote) (l .pad) (l .line) ≡ mayJoin so l
+-- what a step does to a state that shows the run `so`, whose text stands at the front of `buf`
+module _ {so : So} {st : State} (buf : List ℕ) (s : Shows so st) (t : take (st .len) buf ≡ so .text) (l : Lined) where
+  abbrev behind : So
+  behind = after (runIn buf st) (atPad (l .pad) (l .line))
+
+  abbrev pub kept : State
+  kept = stateOf behind (holdAfter buf st (l .line))
+
+  shows-first : isFirst (runIn buf st) ≡ isFirst so
+  shows-first = first-of (eqb (st .len) 0) ∙ s .first
+
+  shows-tests : mayJoin (runIn buf st) (atPad (l .pad) (l .line)) ≡ mayJoin so l
   unfolding passes
-  shows-tests = rw (s .first, s .brace, s .quote, capped-twice (so .brace))
+  shows-tests = ap (λ x. passes x (st .brace) (st .quote) (l .pad) (l .line)) shows-first ∙ rw (s .brace, s .quote, capped-twice (so .brace))
 
-  pub shows-added : added (eqb (st .len) 0) (l .line) ≡ added (isFirst so) (l .line)
-  shows-added = ap (λ x. spaced x (trim (l .line))) (s .first)
+  pub shows-text : behind .text ≡ after so l .text
+  shows-text = ap (λ x. take (st .len) buf ++ added x (l .line)) shows-first ∙ ap (λ x. x ++ added (isFirst so) (l .line)) t
 
-  pub shows-length : lengthAfter st (l .line) ≡ length (after so l .text)
-  shows-length = rw (length-append (so .text), shows-added, s .len)
+  shows-hold : holdAfter buf st (l .line) ≡ holdFrom holdStart (after so l .text)
+  shows-hold =
+      ap (λ x. holdFrom (st .hold) (added x (l .line))) shows-first ∙ ap (λ h. holdFrom h (added (isFirst so) (l .line))) (s .hold)
+      ∙ sym (hold-append holdStart (so .text) (added (isFirst so) (l .line)))
 
-  pub shows-hold : holdFrom (st .hold) (added (eqb (st .len) 0) (l .line)) ≡ holdFrom holdStart (after so l .text)
-  shows-hold = rw (hold-append holdStart (so .text), shows-added, s .hold)
-
-  pub shows-last : isLast (l .line) (holdFrom (st .hold) (added (eqb (st .len) 0) (l .line))) ≡ (isIn (l .line) 125 && not (holdsOpen (after so l .text)))
+  shows-held : isHeld (holdAfter buf st (l .line)) ≡ holdsOpen (after so l .text)
   unfolding holdsOpen
-  shows-last = ap (isLast (l .line)) shows-hold
+  shows-held = ap isHeld shows-hold
 
-  pub shows-after : mayJoin so l ≡ true → Shows (after so l) (nextState (lengthAfter st (l .line)) st (l .pad) (l .line))
+  shows-after : mayJoin so l ≡ true → Shows (after so l) kept
   shows-after p =
       record {
-        len = shows-length;
-        first = ne-eqb (lengthAfter st (l .line)) 0 (λ z. absurd (omega (arith, adds-some so l p, shows-length, length-append (so .text) (added (isFirst so) (l .line)))))
+        len = ap length shows-text;
+        first = ne-eqb (length (behind .text)) 0 (λ z. absurd (omega (arith, z, ap length shows-text, adds-some so (l .pad) (l .line) (isFirst so) p, length-append (so .text) (added (isFirst so) (l .line)))))
             ∙ sym (ne-eqb (suc (so .lines)) 0 (λ z. absurd (omega arith)));
         brace = rw (s .brace, s .base) (capped-brace (so .brace) (so .base) (lastOpenBrace Out (l .pad) (l .line)));
         base = refl;
         quote = refl;
         hold = shows-hold;
       }
+
+  -- by the line's tests, whether it doesn't fit, and whether an open block is held
+  abbrev chosen : Bool → Bool → Bool → Effect
+  chosen x y h = cond x (cond y Full (cond (isClosing (l .line) h) (Closes kept) (Go kept))) Broken
+
+  shows-step : joinStep buf st (l .pad) (l .line) ≡ chosen (mayJoin so l) (ltb (length buf) (length (after so l .text))) (holdsOpen (after so l .text))
+  unfolding joinStep
+  shows-step =
+      ap (λ x. chosen x (ltb (length buf) (length (behind .text))) (isHeld (holdAfter buf st (l .line)))) shows-tests
+      ∙ ap (λ z. chosen (mayJoin so l) (ltb (length buf) (length z)) (isHeld (holdAfter buf st (l .line)))) shows-text
+      ∙ ap (chosen (mayJoin so l) (ltb (length buf) (length (after so l .text)))) shows-held
 
 module _ (cap : ℕ) (so : So) (l : Lined) (ls : List Lined) where
   abbrev Joined-by : State → Type 0
@@ -107,25 +117,24 @@ module _ (cap : ℕ) (so : So) (l : Lined) (ls : List Lined) where
   Meets (Closes v) = (runFrom cap so (l ∷ ls) ≡ ended Passed (after so l)) × Joined-by v
   Meets (Go v) = (runFrom cap so (l ∷ ls) ≡ runFrom cap (after so l) ls) × Joined-by v
 
-  pub meets : {st : State} → Shows so st → Meets (joinStep cap st (l .pad) (l .line))
-  unfolding joinStep runFrom
-  meets {st} s =
-      rw (shows-tests s l, shows-last s l)
-      (go (mayJoin so l) (ltb cap (lengthAfter st (l .line))) (isIn (l .line) 125 && not (holdsOpen (after so l .text))) refl (ap (ltb cap) (sym (shows-length s l))) refl)
-    where
-      go : (x y z : Bool) → mayJoin so l ≡ x → ltb cap (length (after so l .text)) ≡ y → (isIn (l .line) 125 && not (holdsOpen (after so l .text))) ≡ z
-          → Meets (cond x (cond y Full (cond z (Closes (nextState (lengthAfter st (l .line)) st (l .pad) (l .line))) (Go (nextState (lengthAfter st (l .line)) st (l .pad) (l .line))))) Broken)
-      go false y z p q r = rw p
-      go true true z p q r = rw (p, q)
-      go true false true p q r = (rw (p, q, r), (shows-after s l p, ltb-false cap _ q))
-      go true false false p q r = (rw (p, q, r), (shows-after s l p, ltb-false cap _ q))
+pub meets : {so : So} {st : State} (buf : List ℕ) → Shows so st → take (st .len) buf ≡ so .text → (l : Lined) (ls : List Lined)
+    → Meets (length buf) so l ls (joinStep buf st (l .pad) (l .line))
+unfolding runFrom
+meets {so} {st} buf s t l ls = rw (shows-step buf s t l) (go (mayJoin so l) (ltb (length buf) (length (after so l .text))) (isClosing (l .line) (holdsOpen (after so l .text))) refl refl refl)
+  where
+    go : (x y z : Bool) → mayJoin so l ≡ x → ltb (length buf) (length (after so l .text)) ≡ y → isClosing (l .line) (holdsOpen (after so l .text)) ≡ z
+        → Meets (length buf) so l ls (cond x (cond y Full (cond z (Closes (kept buf s t l)) (Go (kept buf s t l)))) Broken)
+    go false y z p q r = rw p
+    go true true z p q r = rw (p, q)
+    go true false true p q r = (rw (p, q, r), (shows-after buf s t l p, ltb-false (length buf) _ q))
+    go true false false p q r = (rw (p, q, r), (shows-after buf s t l p, ltb-false (length buf) _ q))
 
 -- ---- the number
 
 stop-no : (cap : ℕ) (so : So) (ls : List Lined) → outcomeNo (runFrom cap so ls .stop) ≡ orderNo (orderFrom cap so ls)
 unfolding runFrom orderFrom orderNo
 stop-no cap so [] = refl
-stop-no cap so (l ∷ ls) = go (mayJoin so l) (ltb cap (length (after so l .text))) (isClosing l (after so l)) (stop-no cap (after so l) ls)
+stop-no cap so (l ∷ ls) = go (mayJoin so l) (ltb cap (length (after so l .text))) (isClosing (l .line) (holdsOpen (after so l .text))) (stop-no cap (after so l) ls)
   where
     go : (x y z : Bool) → outcomeNo (runFrom cap (after so l) ls .stop) ≡ orderNo (orderFrom cap (after so l) ls)
         → outcomeNo (cond x (cond y (ended (Refused JoinFull) so) (cond z (ended Passed (after so l)) (runFrom cap (after so l) ls))) (ended (Refused NoReading) so) .stop)
@@ -142,10 +151,21 @@ joins-no cap base t at w = (w .0, (w .1, ap (λ j. outcomeNo (j .stop)) (w .0) �
 
 -- ---- the lent memory
 
-pub over-sets : (xs ys buf : List ℕ) → length xs + length ys ≤ length buf → sets (over xs buf) (length xs) ys ≡ over (xs ++ ys) buf
-over-sets xs ys buf h =
-    sets-eq ys (over xs buf) (length xs) (omega (arith, over-long xs buf (omega arith)))
-    ∙ rw (take-at xs (drop (length xs) buf) (length xs) refl, ← drop-drop (length ys) (length xs) (over xs buf), drop-at xs (drop (length xs) buf) (length xs) refl, drop-drop (length ys) (length xs) buf, length-append xs ys)
+over-more : (xs ys buf : List ℕ) → over (xs ++ ys) (over xs buf) ≡ over (xs ++ ys) buf
+over-more xs ys buf =
+    rw (length-append xs ys, ← drop-drop (length ys) (length xs) (over xs buf), drop-at xs (drop (length xs) buf) (length xs) refl, drop-drop (length ys) (length xs) buf)
+
+-- the memory holds a run's text, which its state shows
+module _ {so : So} {st : State} (buf₀ buf : List ℕ) (s : Shows so st) (e : buf ≡ over (so .text) buf₀) where
+  pub text-front : take (st .len) buf ≡ so .text
+  text-front = rw (e, s .len) (take-at (so .text) (drop (length (so .text)) buf₀) (length (so .text)) refl)
+
+  -- behind a step it is as before, or holds the text behind the line
+  pub laid-by : (l : Lined) {step : Effect} {b : List ℕ} → step ≡ joinStep buf st (l .pad) (l .line) → b ≡ joinAfter buf st (l .pad) (l .line)
+      → b ≡ laid step buf (over (after so l .text) buf₀)
+  laid-by l {step} p q =
+      q ∙ laid-is buf st (l .pad) (l .line) ∙ ap (λ x. laid x buf (over (after (runIn buf st) (atPad (l .pad) (l .line)) .text) buf)) (sym p)
+      ∙ ap (laid step buf) (ap (λ x. over x buf) (shows-text buf s text-front l) ∙ ap (over (after so l .text)) e ∙ over-more (so .text) (added (isFirst so) (l .line)) buf₀)
 
 -- ---- the loop
 
@@ -191,13 +211,13 @@ module _ {t : List ℕ} {at : ℕ} {buf₀ buf : List ℕ} {st : State} {count l
     pub line-first : map asIs (lines (drop from t)) ≡ asIs line ∷ map asIs (lines (drop (r .next) t))
     line-first = rw (e, ← slice-part from (lineFrom t from .to) t, line-at t from h)
 
-    pub has-next : {v : State} {buf′ : List ℕ} → Joined-by (length buf₀) so (asIs line) [] v → buf′ ≡ sets buf (st .len) (added (eqb (st .len) 0) line)
+    pub has-next : {v : State} {buf′ : List ℕ} → Joined-by (length buf₀) so (asIs line) [] v → buf′ ≡ over (after so (asIs line) .text) buf₀
         → Has t at buf₀ buf′ v (count + 1) (lookahead + (r .to - from)) (r .next) (after so (asIs line))
     has-next j w =
         record {
           shows = j .0;
           room = j .1;
-          content = w ∙ rw (has .content, has .shows .first, has .shows .len) (over-sets (so .text) (added (isFirst so) line) buf₀ (omega (arith, j .1, length-append (so .text) (added (isFirst so) line))));
+          content = w;
           counted = rw (add-one count) (ap suc (has .counted));
           ahead = rw line-long (ap (λ n. n + (r .to - from)) (has .ahead));
           past = rw (add-one count, past-on count t at, ← has .past, e);
@@ -236,38 +256,40 @@ module _ {t : List ℕ} {at : ℕ} {buf₀ : List ℕ} {R : Run} {buf : List ℕ
     abbrev here : List ℕ
     here = line (inv .has) h e
 
-    module _ {step : Effect} {buf′ : List ℕ} {P : Type 0} (w : (step ≡ joinStep (length buf) st 0 here) × ((buf′ ≡ joinAfter st 0 here buf) × P)) where
+    module _ {step : Effect} {buf′ : List ℕ} {P : Type 0} (w : (step ≡ joinStep buf st 0 here) × ((buf′ ≡ joinAfter buf st 0 here) × P)) where
       met : Meets (length buf₀) (inv .so) (asIs here) (map asIs (lines (drop (r .next) t))) step
-      met = rw (w .0, has-long (inv .has)) (meets (length buf₀) (inv .so) (asIs here) (map asIs (lines (drop (r .next) t))) (inv .has .shows))
+      met =
+          rw (w .0, ← has-long (inv .has))
+          (meets buf (inv .has .shows) (text-front buf₀ buf (inv .has .shows) (inv .has .content)) (asIs here) (map asIs (lines (drop (r .next) t))))
 
-      laid-by : buf′ ≡ laid step buf (sets buf (st .len) (added (eqb (st .len) 0) here))
-      unfolding joinAfter
-      laid-by = rw (w .0) (w .1 .0)
+      left : buf′ ≡ laid step buf (over (after (inv .so) (asIs here) .text) buf₀)
+      left = laid-by buf₀ buf (inv .has .shows) (inv .has .content) (asIs here) (w .0) (w .1 .0)
 
       pub joins-long : length buf′ ≡ length buf₀
-      joins-long = rw laid-by (go step)
+      joins-long = rw left (go step met)
         where
-          go : (x : Effect) → length (laid x buf (sets buf (st .len) (added (eqb (st .len) 0) here))) ≡ length buf₀
-          go Broken = has-long (inv .has)
-          go Full = has-long (inv .has)
-          go (Go v) = length-sets buf (st .len) (added (eqb (st .len) 0) here) ∙ has-long (inv .has)
-          go (Closes v) = length-sets buf (st .len) (added (eqb (st .len) 0) here) ∙ has-long (inv .has)
+          go : (x : Effect) → Meets (length buf₀) (inv .so) (asIs here) (map asIs (lines (drop (r .next) t))) x
+              → length (laid x buf (over (after (inv .so) (asIs here) .text) buf₀)) ≡ length buf₀
+          go Broken m = has-long (inv .has)
+          go Full m = has-long (inv .has)
+          go (Go v) m = over-long (after (inv .so) (asIs here) .text) buf₀ (m .1 .1)
+          go (Closes v) m = over-long (after (inv .so) (asIs here) .text) buf₀ (m .1 .1)
 
       whole : runFrom (length buf₀) (inv .so) (asIs here ∷ map asIs (lines (drop (r .next) t))) ≡ R
       whole = rw (line-first (inv .has) h e) at (inv .rest)
 
       pub joins-broken : step ≡ Broken → {g : Joined} → Gives (Refused NoReading) st count lookahead from g → Answers g buf′
-      joins-broken q g = rw (rw q at laid-by) (has-ended (inv .has) R _ (sym (rw q at met) ∙ whole) g)
+      joins-broken q g = rw (rw q at left) (has-ended (inv .has) R _ (sym (rw q at met) ∙ whole) g)
 
       pub joins-full : step ≡ Full → {g : Joined} → Gives (Refused JoinFull) st count lookahead from g → Answers g buf′
-      joins-full q g = rw (rw q at laid-by) (has-ended (inv .has) R _ (sym (rw q at met) ∙ whole) g)
+      joins-full q g = rw (rw q at left) (has-ended (inv .has) R _ (sym (rw q at met) ∙ whole) g)
 
-      next : {v : State} → Joined-by (length buf₀) (inv .so) (asIs here) [] v → buf′ ≡ sets buf (st .len) (added (eqb (st .len) 0) here)
+      next : {v : State} → Joined-by (length buf₀) (inv .so) (asIs here) [] v → buf′ ≡ over (after (inv .so) (asIs here) .text) buf₀
           → Has t at buf₀ buf′ v (count + 1) (lookahead + (r .to - from)) (r .next) (after (inv .so) (asIs here))
       next = has-next (inv .has) h e
 
       pub joins-closed : {v : State} → step ≡ Closes v → {g : Joined} → Gives Passed v (count + 1) (lookahead + (r .to - from)) (r .next) g → Answers g buf′
-      joins-closed q g = has-ended (next ((rw q at met) .1) (rw q at laid-by)) R _ (sym ((rw q at met) .0) ∙ whole) g
+      joins-closed q g = has-ended (next ((rw q at met) .1) (rw q at left)) R _ (sym ((rw q at met) .0) ∙ whole) g
 
       pub joins-go : {v : State} → step ≡ Go v → Joins t at buf₀ R buf′ v (count + 1) (lookahead + (r .to - from)) (r .next)
-      joins-go q = record { so = after (inv .so) (asIs here); has = next ((rw q at met) .1) (rw q at laid-by); rest = sym ((rw q at met) .0) ∙ whole }
+      joins-go q = record { so = after (inv .so) (asIs here); has = next ((rw q at met) .1) (rw q at left); rest = sym ((rw q at met) .0) ∙ whole }

@@ -13,7 +13,8 @@ use Rattle.text_lines.proofs.Trim.{trim-start}
 use Rattle.base_lists.specs.Lists.{run, beginsPair}
 use Rattle.base_bytes.specs.Bytes.{isSpace}
 use Rattle.text_tabs.specs.Columns.{indentColumns}
-use Rattle.run_lines.specs.Runs.{Lined, asIs, runOf, sizes, start}
+use Rattle.run_joins.specs.Joins.{Lined}
+use Rattle.run_lines.specs.Runs.{asIs, runOf, sizes, start}
 use Rattle.run_lines.proofs.Bounds.{lookahead-sum, sizes-take, text-le, costs, grows}
 use Rattle.run_spots.specs.declared.Spot.{Spot}
 use Rattle.run_refused.specs.declared.RunReply.the-variants.{No}

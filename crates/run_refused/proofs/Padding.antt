@@ -8,8 +8,8 @@ use native.Mathlib.Numerals.{add-one}
 use native.Mathlib.Omega.{arith}
 use borrow.Author.Tests.{leb-true, leb-false}
 use lib.Dec.{eqb, leb}
-use lib.ListN.{length, take, drop, length-append}
-use lib.Seq.{sets, length-sets, length-slice}
+use lib.ListN.{length, take, drop}
+use lib.Seq.{length-slice}
 use Rattle.base_lists.specs.Lists.{run, over}
 use Rattle.base_lists.proofs.More.{contra}
 use Rattle.base_lists.proofs.Parts.{slice-part}
@@ -29,9 +29,10 @@ use Rattle.base_refusals.specs.declared.Outcome.the-variants.{Passed, Refused}
 use Rattle.run_joins.specs.declared.State.{State}
 use Rattle.run_joins.specs.declared.Effect.{Effect}
 use Rattle.run_joins.specs.declared.Effect.the-variants.{Broken, Full, Go, Closes}
-use Rattle.run_lines.specs.Runs.{Lined, So, start, Run, ended, isFirst, after, runFrom}
-use Rattle.run_joins.specs.Joins.{added, joinStep, laid, joinAfter}
-use Rattle.run_lines.proofs.Joining.{Shows, Meets, meets, over-sets}
+use Rattle.run_lines.specs.Runs.{start, Run, ended, runFrom}
+use Rattle.run_joins.specs.Joins.{Lined, So, after, joinStep, joinAfter}
+use Rattle.run_joins.proofs.Steps.{laid}
+use Rattle.run_lines.proofs.Joining.{Shows, Meets, meets, text-front, laid-by}
 use Rattle.run_spots.specs.declared.Spot.{Spot}
 use Rattle.run_refused.specs.declared.Ran.{Ran}
 use Rattle.run_spots.specs.Spots.{isStray, opensBy, spotAfter}
@@ -177,25 +178,27 @@ module _ {t : List ℕ} {opener : ℕ} {buf₀ : List ℕ} {R : Run} {buf : List
         whole = rw (next-block .1) at (inv .rest)
 
         module _ {pad : ℕ} (d : pad ≡ padOf (eqb n 0) (p .column) br opener) {step : Effect} {buf′ : List ℕ} {P : Type 0}
-            (w : (step ≡ joinStep (length buf) st pad (take (l .to - i) (drop i t))) × ((buf′ ≡ joinAfter st pad (take (l .to - i) (drop i t)) buf) × P)) where
+            (w : (step ≡ joinStep buf st pad (take (l .to - i) (drop i t))) × ((buf′ ≡ joinAfter buf st pad (take (l .to - i) (drop i t))) × P)) where
           pad-is : pad ≡ lined .pad
           pad-is = d ∙ rw s
 
-          met : Meets (length buf₀) (inv .so) lined (linesTaken next-found) step
-          met = rw (w .0, pads-long, pad-is, rest-is) (meets (length buf₀) (inv .so) lined (linesTaken next-found) (inv .shows))
+          step-is : step ≡ joinStep buf st (lined .pad) (lined .line)
+          step-is = w .0 ∙ rw (pad-is, rest-is)
 
-          laid-by : buf′ ≡ laid step buf (sets buf (st .len) (added (eqb (st .len) 0) (trimStart here)))
-          unfolding joinAfter
-          laid-by = rw (w .0, ← rest-is) (w .1 .0)
+          met : Meets (length buf₀) (inv .so) lined (linesTaken next-found) step
+          met = rw (step-is, ← pads-long) (meets buf (inv .shows) (text-front buf₀ buf (inv .shows) (inv .content)) lined (linesTaken next-found))
+
+          left : buf′ ≡ laid step buf (over (after (inv .so) lined .text) buf₀)
+          left = laid-by buf₀ buf (inv .shows) (inv .content) lined step-is (w .1 .0 ∙ rw (pad-is, rest-is))
 
           pub pads-same : length buf′ ≡ length buf₀
-          pads-same = rw laid-by (go step)
+          pads-same = rw left (go step met)
             where
-              go : (x : Effect) → length (laid x buf (sets buf (st .len) (added (eqb (st .len) 0) (trimStart here)))) ≡ length buf₀
-              go Broken = pads-long
-              go Full = pads-long
-              go (Go v) = length-sets buf (st .len) (added (eqb (st .len) 0) (trimStart here)) ∙ pads-long
-              go (Closes v) = length-sets buf (st .len) (added (eqb (st .len) 0) (trimStart here)) ∙ pads-long
+              go : (x : Effect) → Meets (length buf₀) (inv .so) lined (linesTaken next-found) x → length (laid x buf (over (after (inv .so) lined .text) buf₀)) ≡ length buf₀
+              go Broken m = pads-long
+              go Full m = pads-long
+              go (Go v) m = over-long (after (inv .so) lined .text) buf₀ (m .1 .1)
+              go (Closes v) m = over-long (after (inv .so) lined .text) buf₀ (m .1 .1)
 
           abbrev Gives : Outcome → State → ℕ → ℕ → Ran → Type 0
           Gives x v k a r = r ≡ record { stop = x; len = v .len; lines = k; lookahead = a }
@@ -207,16 +210,13 @@ module _ {t : List ℕ} {opener : ℕ} {buf₀ : List ℕ} {R : Run} {buf : List
           stopped x m q g = rw (sym whole ∙ m) (g ∙ rw (inv .shows .len, inv .counted, inv .ahead), q ∙ inv .content)
 
           pub pads-broken : step ≡ Broken → {g : Ran} → Gives (Refused NoReading) st n lookahead g → Answers g
-          pads-broken q = stopped _ (rw q at met) (rw q at laid-by)
+          pads-broken q = stopped _ (rw q at met) (rw q at left)
 
           pub pads-full : step ≡ Full → {g : Ran} → Gives (Refused JoinFull) st n lookahead g → Answers g
-          pads-full q = stopped _ (rw q at met) (rw q at laid-by)
+          pads-full q = stopped _ (rw q at met) (rw q at left)
 
           module _ {v : State} (j : Shows (after (inv .so) lined) v × (length (after (inv .so) lined .text) ≤ length buf₀))
-              (k : buf′ ≡ sets buf (st .len) (added (eqb (st .len) 0) (trimStart here))) where
-            holds : buf′ ≡ over (after (inv .so) lined .text) buf₀
-            holds = k ∙ rw (inv .content, inv .shows .first, inv .shows .len) (over-sets (inv .so .text) (added (isFirst (inv .so)) (trimStart here)) buf₀ (omega (arith, j .1, length-append (inv .so .text) (added (isFirst (inv .so)) (trimStart here)))))
-
+              (holds : buf′ ≡ over (after (inv .so) lined .text) buf₀) where
             ahead-next : lookahead + (l .to - at) ≡ after (inv .so) lined .lookahead
             ahead-next = rw (here-in .1 .1 .1 .1) (ap (λ z. z + (l .to - at)) (inv .ahead))
 
@@ -227,7 +227,7 @@ module _ {t : List ℕ} {opener : ℕ} {buf₀ : List ℕ} {R : Run} {buf : List
             joined x m g = rw (sym whole ∙ m) (g ∙ rw (j .0 .len, count-next, ahead-next), holds)
 
           pub pads-closed : {v : State} → step ≡ Closes v → {g : Ran} → Gives Passed v (n + 1) (lookahead + (l .to - at)) g → Answers g
-          pads-closed q = joined ((rw q at met) .1) (rw q at laid-by) _ ((rw q at met) .0)
+          pads-closed q = joined ((rw q at met) .1) (rw q at left) _ ((rw q at met) .0)
 
           module _ {v : State} (q : step ≡ Go v) {z : Spot} (o : z ≡ spotsFrom p (take (l .to - i) (drop i t))) where
             spot-is : z ≡ spotsFrom (enteredAt (eqb n 0) br here) (trimStart here)
@@ -239,7 +239,7 @@ module _ {t : List ℕ} {opener : ℕ} {buf₀ : List ℕ} {R : Run} {buf : List
             -- no line is left
             pub pads-last : z .inside ≡ false → {g : Ran} → Gives (Refused NoReading) v (n + 1) (lookahead + (l .to - at)) g → Answers g
             unfolding runFrom
-            pads-last u = joined ((rw q at met) .1) (rw q at laid-by) _ ((rw q at met) .0 ∙ rw (sym (ap (λ y. y .inside) spot-is) ∙ u))
+            pads-last u = joined ((rw q at met) .1) (rw q at left) _ ((rw q at met) .0 ∙ rw (sym (ap (λ y. y .inside) spot-is) ∙ u))
 
             pub pads-go : z .inside ≡ true → Pads t opener buf₀ R buf′ v (n + 1) (lookahead + (l .to - at)) (l .next) (z .brace)
             pads-go u =
@@ -248,9 +248,9 @@ module _ {t : List ℕ} {opener : ℕ} {buf₀ : List ℕ} {R : Run} {buf : List
                   sh = onAfter (on n (inv .sh) br) here (z .brace) .shallow;
                   shows = (rw q at met) .1 .0;
                   room = (rw q at met) .1 .1;
-                  content = holds ((rw q at met) .1) (rw q at laid-by);
-                  counted = count-next ((rw q at met) .1) (rw q at laid-by);
-                  ahead = ahead-next ((rw q at met) .1) (rw q at laid-by);
+                  content = rw q at left;
+                  counted = count-next ((rw q at met) .1) (rw q at left);
+                  ahead = ahead-next ((rw q at met) .1) (rw q at left);
                   few = omega (arith, inv .few, here-in);
                   short = omega (arith, inv .short, here-in);
                   low = rw o (spots-low p (take (l .to - i) (drop i t)) 524280 (omega (arith, spot-small, rest-long, here-in)) (omega (arith, ap (λ y. y .brace) s, inv .low)));

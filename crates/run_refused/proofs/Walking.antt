@@ -20,7 +20,7 @@ use Rattle.text_lines.specs.Lines.{lines, lineFrom}
 use Rattle.text_lines.specs.declared.LineEnd.{LineEnd}
 use Rattle.text_lines.proofs.Lines.{lines-end, line-at, to-from, to-next, next-beyond, next-le}
 use Rattle.text_tabs.proofs.Laws.{indent-le}
-use Rattle.run_lines.specs.Runs.{Lined}
+use Rattle.run_joins.specs.Joins.{Lined}
 use Rattle.run_spots.specs.declared.Spot.{Spot}
 use Rattle.run_refused.specs.declared.RefusedWalk.{RefusedWalk}
 use Rattle.run_refused.specs.declared.RefusedWalk.the-variants.{No, Block}

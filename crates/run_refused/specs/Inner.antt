@@ -4,7 +4,8 @@ use mathlib.Core.Bool.{Bool, true, false}
 use mathlib.Core.List.{List, [], foldl}
 use lib.ListN.{length, drop}
 use Rattle.text_lines.specs.Lines.{lines}
-use Rattle.run_lines.specs.Runs.{Lined, Run, runOf}
+use Rattle.run_joins.specs.Joins.{Lined}
+use Rattle.run_lines.specs.Runs.{Run, runOf}
 use Rattle.run_spots.specs.declared.Spot.{Spot}
 use Rattle.run_refused.specs.declared.RefusedWalk.{RefusedWalk}
 use Rattle.run_refused.specs.declared.RefusedWalk.the-variants as walks

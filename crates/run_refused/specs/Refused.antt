@@ -18,7 +18,8 @@ use Rattle.text_lines.specs.declared.Line.the-variants as place
 use Rattle.text_tabs.specs.Columns.{indentColumns, most}
 use Rattle.block_grammar.specs.Close.{fresh}
 use Rattle.block_chain.specs.Chain.{goodLine}
-use Rattle.run_lines.specs.Runs.{Lined, Run, runOf}
+use Rattle.run_joins.specs.Joins.{Lined}
+use Rattle.run_lines.specs.Runs.{Run, runOf}
 use Rattle.run_spots.specs.declared.Spot.{Spot}
 use Rattle.run_spots.specs.Spots.{isStray, spotAfter, shallowOr, closesComment, opensComment}
 use Rattle.run_refused.specs.declared.RunReply.{RunReply}

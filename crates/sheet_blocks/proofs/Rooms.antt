@@ -15,7 +15,8 @@ use Rattle.base_refusals.specs.declared.Refusal.the-variants.{NoReading, JoinFu
 use Rattle.text_lines.specs.Lines.{lines}
 use Rattle.text_lines.specs.declared.Range.{Range}
 use Rattle.run_scanners.specs.Scanners.{holdsOpen}
-use Rattle.run_lines.specs.Runs.{Lined, asIs, So, start, Run, ended, mayJoin, after, runFrom, runAt}
+use Rattle.run_joins.specs.Joins.{Lined, So, mayJoin, after}
+use Rattle.run_lines.specs.Runs.{asIs, start, Run, ended, runFrom, runAt}
 use Rattle.base_refusals.specs.declared.Outcome.the-variants.{Passed, Refused}
 use Rattle.run_lines.proofs.Bounds.{never-full}
 use Rattle.read_blocks.specs.Blocks.{linesOf, runFound, found}

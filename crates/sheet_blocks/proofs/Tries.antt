@@ -28,6 +28,7 @@ use Rattle.text_lines.proofs.Lines.{to-from, to-next, ranges-end, ranges-at}
 use Rattle.block_payloads.specs.Payloads.{opens}
 use Rattle.block_chain.specs.Chain.{goodLine}
 use Rattle.block_chain.specs.Computed.{readBlocks, blocksFrom}
+use Rattle.run_joins.specs.Joins.{Lined, So}
 use Rattle.run_lines.specs.Runs as runs
 use Rattle.base_refusals.specs.declared.Outcome as outcomes
 use Rattle.base_refusals.specs.declared.Outcome.the-variants as outcome
@@ -81,7 +82,7 @@ module _ (P : Found → Type 0) (t : List ℕ) (at cap : ℕ) where
 -- ---- a block has a line
 
 -- nothing joined is no good line
-abbrev Some : runs.So → List runs.Lined → runs.Run → Type 0
+abbrev Some : So → List Lined → runs.Run → Type 0
 Some so ls R = (so .lines ≡ 0 → so .text ≡ []) → R .lines ≡ 0 → R .text ≡ []
 
 some-text : (cap base : ℕ) (t : List ℕ) (at : ℕ) → runs.runAt cap base t at .lines ≡ 0 → runs.runAt cap base t at .text ≡ []

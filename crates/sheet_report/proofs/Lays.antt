@@ -9,7 +9,7 @@ use native.Mathlib.Omega.{arith}
 use borrow.Author.Tests.{le-ltb, lt-ltb}
 use lib.Dec.{eqb, eqb·suc-zero}
 use lib.ListN.{length, take, drop, length-append}
-use lib.Seq.{take-append-seam}
+use lib.Seq.{take-append-seam, take-at, drop-at, drop-drop, sets, sets-eq}
 use Rattle.base_lists.specs.Lists.{over}
 use Rattle.base_lists.proofs.More.{contra}
 use Rattle.base_lists.proofs.Sets.{over-long}
@@ -23,7 +23,6 @@ use Rattle.set_table.specs.Rows.{meaningOf}
 use Rattle.set_table.specs.declared.Attrs.{Attrs}
 use Rattle.base_refusals.specs.declared.Outcome as outcomes
 use Rattle.base_refusals.specs.declared.Outcome.the-variants as outcome
-use Rattle.run_lines.proofs.Joining.{over-sets}
 use Rattle.read_blocks.specs.Blocks.{Found, joinedIn, textIn, joinHolds, blockOf}
 use Rattle.read_lengths.specs.Lengths.{flushLeft}
 use Rattle.sheet_blocks.specs.declared.Next.{Next}
@@ -38,6 +37,13 @@ use Rattle.sheet_report.specs.Report.{refusedLine, canonLine, lineBy, bl
 use Rattle.sheet_report.specs.Parts.{maxLine, Laid, laidNone, stopped, laidBehind, tryLine, layFrom, shownPart}
 use Rattle.sheet_report.specs.Inner.{PutAt}
 use Rattle.sheet_report.proofs.Laying.{line-le}
+
+-- ---- bytes laid behind those that stand at the front
+
+over-sets : (xs ys buf : List ℕ) → length xs + length ys ≤ length buf → sets (over xs buf) (length xs) ys ≡ over (xs ++ ys) buf
+over-sets xs ys buf h =
+    sets-eq ys (over xs buf) (length xs) (omega (arith, over-long xs buf (omega arith)))
+    ∙ rw (take-at xs (drop (length xs) buf) (length xs) refl, ← drop-drop (length ys) (length xs) (over xs buf), drop-at xs (drop (length xs) buf) (length xs) refl, drop-drop (length ys) (length xs) buf, length-append xs ys)
 
 -- ---- tries gone past, where the longest line has room
 
