@@ -8,10 +8,10 @@ use native.Mathlib.Nat.{add-zero, zero-add}
 use native.Mathlib.Omega.{arith}
 use native.Mathlib.Numerals.{add-one}
 use lib.Dec.{eqb, eqb·zero-suc, eqb·suc-suc}
-use lib.ListN.{length, getD, drop, drop-of-length-le}
+use lib.ListN.{length, getD, drop, drop-of-length-le, length-drop}
 use lib.Seq.{drop-cons}
 use Rattle.base_lists.specs.Lists.{headed, run, firstIs}
-use Rattle.base_lists.proofs.Scan.{all-run}
+use Rattle.base_lists.proofs.Scan.{all-run, run-le}
 use Rattle.base_lists.proofs.More.{contra}
 use Rattle.base_letters.specs.Classes.{frontRun}
 
@@ -27,6 +27,18 @@ counted e s q = q ∙ (same-run e 0 s ∙ zero-add _)
 
 pub same-front : {f f′ g g′ : ℕ → Bool} → f ≡ f′ → g ≡ g′ → (i : ℕ) (s : List ℕ) → i + frontRun f g s ≡ i + frontRun f′ g′ s
 same-front p q i s = λ k. i + frontRun (p k) (q k) s
+
+-- what is found stands in the list, whatever the tests are
+front-le : (f g : ℕ → Bool) (s : List ℕ) → frontRun f g s ≤ length s
+front-le f g [] = omega arith
+front-le f g (a ∷ s) = go (f a)
+  where
+    go : (x : Bool) → cond x (suc (run g s)) 0 ≤ length (a ∷ s)
+    go true = omega (arith, run-le g s)
+    go false = omega arith
+
+pub inside : (f g : ℕ → Bool) (s : List ℕ) {a e : ℕ} → e ≡ a + frontRun f g (drop a s) → a ≤ length s → (a ≤ e) × (e ≤ length s)
+inside f g s {a} is h = omega (arith, front-le f g (drop a s), length-drop a s)
 
 -- ---- how the code finds it
 module _ (f g : ℕ → Bool) (s : List ℕ) (i : ℕ) where

@@ -14,7 +14,7 @@ use mathlib.Core.Logic.{inl, inr}
 use types.Run.{OneOf}
 use Rattle.base_lists.proofs.Steady.{values, length-values, agree}
 use Rattle.base_bytes.specs.Bytes.{within, isLetter, isDigit, isAlnum, isNameStart, isNamePart, isKeyStart, underscore, hyphen}
-use Rattle.base_letters.specs.Classes.{classOf, classIn, TableRule, isOf}
+use Rattle.base_letters.specs.Classes.{classOf, classIn, TableRule, isOf, TellsBytes}
 
 -- n classes from the byte b on, four bits each
 abbrev pub packed : ℕ → ℕ → ℕ
@@ -101,6 +101,10 @@ name-start = told isNameStart 7 refl no-start
 pub name-part : isOf classes 15 ≡ isNamePart
 unfolding classOf isNamePart isAlnum isLetter isDigit within
 name-part = told isNamePart 15 refl no-part
+
+-- so whoever is lent the table may rely on it
+pub tells : TellsBytes classes
+tells = record { letter = letter; alnum = alnum; key = key-start; name = name-start; part = name-part }
 
 -- a byte has one class or none
 pub one-class : (b : ℕ) → OneOf (0 ∷ 1 ∷ 2 ∷ 4 ∷ 8 ∷ []) (classOf b)

@@ -7,7 +7,7 @@ use lib.Bits.{bitAnd}
 use lib.Dec.{eqb}
 use lib.ListN.{getD}
 use Rattle.base_lists.specs.Lists.{run}
-use Rattle.base_bytes.specs.Bytes.{isLetter, isDigit, underscore, hyphen}
+use Rattle.base_bytes.specs.Bytes.{isLetter, isDigit, isAlnum, isNameStart, isNamePart, isKeyStart, underscore, hyphen}
 
 -- Document 02: "letter, digit and name classes [..]. Hold them in a table of 256 entries, one per byte value":
 -- a letter 1, a digit 2, `_` 4, `-` 8, any other byte 0
@@ -25,6 +25,15 @@ TableRule table = (b : ℕ) → b < 256 → classIn table b % 16 ≡ classOf b
 -- the table gives the byte b a class of the mask, which has four bits
 abbrev pub isOf : List ℕ → ℕ → ℕ → Bool
 isOf table mask b = not (eqb (bitAnd (classIn table b) mask) 0)
+
+-- "let the base's name and tag tests read it instead of their chains of comparisons": what a test may rely on where a table is lent to it,
+-- that under each mask it passes the bytes that document 01 names, as the table of classes does
+pub record TellsBytes (table : List ℕ) : Type 0 where
+  pub letter : isOf table 1 ≡ isLetter
+  pub alnum : isOf table 3 ≡ isAlnum
+  pub key : isOf table 5 ≡ isKeyStart
+  pub name : isOf table 7 ≡ isNameStart
+  pub part : isOf table 15 ≡ isNamePart
 
 -- how many bytes at the front are a first byte that passes the first test and later ones that pass the second; none without the first
 abbrev pub frontRun : (ℕ → Bool) → (ℕ → Bool) → List ℕ → ℕ

@@ -7,7 +7,7 @@ ghost use Rattle.base_bytes.specs.Bytes.{isLetter, isDigit, isAlnum, isNameStar
 ghost use Rattle.base_letters.specs.Classes.{isOf, frontRun};
 
 // The class of each byte, four bits each, sixteen to a word from its lowest bits up: a letter 1, a digit 2, `_` 4, `-` 8, any other 0.
-// It is built anew on the stack wherever it is named, so it is short, and is taken once for a name or a tag, and lent.
+// It is built anew on the stack wherever it is named, so it is short, and is taken once for a payload, a name or a tag, and lent.
 pub const CLASS: [u64; 16] = [
     0,
     0,
@@ -123,7 +123,7 @@ pub fn part_end(s: &[u8], i: usize) -> usize
 }
 
 // Behind a name from i on whose first byte has a class of the mask; i where none begins there.
-fn front_end(table: &[u64; 16], first: u64, s: &[u8], i: usize) -> usize
+pub fn front_end(table: &[u64; 16], first: u64, s: &[u8], i: usize) -> usize
     ensures { λ r. ⌜ r ≡ i + frontRun (isOf (now (table .entry)) first) (isOf (now (table .entry)) 15) (drop i (now (s .entry))) ⌝ }
 {
     if s.len() <= i {

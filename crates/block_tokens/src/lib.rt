@@ -5,6 +5,7 @@ ghost use Prim.Native.Nat.{_+_, _-_, _<_, _≤_};
 ghost use lib.ListN.{length, getD, drop};
 ghost use Rattle.base_lists.specs.Lists.{run};
 ghost use Rattle.base_bytes.specs.Bytes.{isPlain, isBlank};
+ghost use Rattle.base_letters.specs.Classes.{TellsBytes};
 ghost use Rattle.block_grammar.specs.Computed.{ends, shutOf, nameToken, valueToken, tokenOf, readPayload};
 ghost use Rattle.block_tokens.specs.Shown.{accepted, shown, tokenEnd, tokenPaper};
 ghost use Rattle.block_tokens.specs.Inner.{startsEq, tagToken, idToken, classToken, quotedFrom, part, shutAt};
@@ -76,34 +77,34 @@ fn finish(s: &[u8], e: usize, mode: Mode, good: bool, t: Token) -> Token
     t
 }
 
-// What stands behind the `:` at i.
-fn tag_token(s: &[u8], i: usize, mode: Mode) -> Token
+// What stands behind the `:` at i. This and the next three are lent the table of classes.
+fn tag_token(table: &[u64; 16], s: &[u8], i: usize, mode: Mode) -> Token
     requires { ⌜ i < length (now s) ⌝ }
-    ensures { λ r. ⌜ r ≡ shown i (tagToken mode (drop (i + 1) (now (s .entry)))) ⌝ }
+    ensures { λ r. ⌜ (TellsBytes (now (table .entry)) → r ≡ shown i (tagToken mode (drop (i + 1) (now (s .entry))))) ⌝ }
 {
     let a = i + 1;
-    let e = base_letters::part_end(s, a);
-    let good = text_names::is_language_tag(&s[a..e]);
+    let e = base_letters::run_end(table, base_letters::NAME_PART, s, a);
+    let good = text_names::language_by(table, &s[a..e]);
     finish(s, e, mode, good, Token::Tag(a, e))
 }
 
 // What stands behind the `#` at i.
-fn id_token(s: &[u8], i: usize, mode: Mode) -> Token
+fn id_token(table: &[u64; 16], s: &[u8], i: usize, mode: Mode) -> Token
     requires { ⌜ i < length (now s) ⌝ }
-    ensures { λ r. ⌜ r ≡ shown i (idToken mode (drop (i + 1) (now (s .entry)))) ⌝ }
+    ensures { λ r. ⌜ (TellsBytes (now (table .entry)) → r ≡ shown i (idToken mode (drop (i + 1) (now (s .entry))))) ⌝ }
 {
     let a = i + 1;
-    let e = base_letters::name_end(s, a);
+    let e = base_letters::front_end(table, base_letters::NAME_START, s, a);
     finish(s, e, mode, a < e, Token::Id(a, e))
 }
 
 // What stands behind the `.` at i.
-fn class_token(s: &[u8], i: usize, mode: Mode) -> Token
+fn class_token(table: &[u64; 16], s: &[u8], i: usize, mode: Mode) -> Token
     requires { ⌜ i < length (now s) ⌝ }
-    ensures { λ r. ⌜ r ≡ shown i (classToken mode (drop (i + 1) (now (s .entry)))) ⌝ }
+    ensures { λ r. ⌜ (TellsBytes (now (table .entry)) → r ≡ shown i (classToken mode (drop (i + 1) (now (s .entry))))) ⌝ }
 {
     let a = i + 1;
-    let e = base_letters::name_end(s, a);
+    let e = base_letters::front_end(table, base_letters::NAME_START, s, a);
     finish(s, e, mode, a < e, Token::Class(a, e))
 }
 
@@ -166,19 +167,34 @@ fn has_equals(s: &[u8], i: usize) -> bool
 }
 
 // A key with its value, or a bare name, from i on.
-fn name_token(s: &[u8], i: usize, mode: Mode) -> Token
+fn name_token(table: &[u64; 16], s: &[u8], i: usize, mode: Mode) -> Token
     requires { ⌜ i ≤ length (now s) ⌝ }
-    ensures { λ r. ⌜ r ≡ shown i (nameToken mode (drop i (now (s .entry)))) ⌝ }
+    ensures { λ r. ⌜ (TellsBytes (now (table .entry)) → r ≡ shown i (nameToken mode (drop i (now (s .entry))))) ⌝ }
 {
-    let e = base_letters::key_end(s, i);
+    let e = base_letters::front_end(table, base_letters::KEY_START, s, i);
     if e == i {
         return Token::Bad;
     }
     if has_equals(s, e) {
         return value_token(s, i, e, mode);
     }
-    let good = base_letters::is_letter(s[i]);
+    let good = base_letters::is_of(table, base_letters::LETTER, s[i]);
     finish(s, e, mode, good, Token::Bare(i, e))
+}
+
+// The token at i, for a caller that reads many and lends the table of classes.
+pub fn token_by(table: &[u64; 16], s: &[u8], i: usize, mode: Mode) -> Token
+    ensures { λ r. ⌜ (TellsBytes (now (table .entry)) → (r ≡ shown i (tokenOf mode (drop i (now (s .entry))))) × (tokenPaper r ≡ tokenPaper (shown i (tokenOf mode (drop i (now (s .entry))))))) ⌝ }
+{
+    if s.len() <= i {
+        return Token::Bad;
+    }
+    match s[i] {
+        b':' => tag_token(table, s, i, mode),
+        b'#' => id_token(table, s, i, mode),
+        b'.' => class_token(table, s, i, mode),
+        _ => name_token(table, s, i, mode),
+    }
 }
 
 // The token at i.
@@ -186,15 +202,8 @@ pub fn token_at(s: &[u8], i: usize, mode: Mode) -> Token
     ensures { λ r. ⌜ r ≡ shown i (tokenOf mode (drop i (now (s .entry)))) ⌝ }
     ensures { λ r. ⌜ tokenPaper r ≡ tokenPaper (shown i (tokenOf mode (drop i (now (s .entry))))) ⌝ }
 {
-    if s.len() <= i {
-        return Token::Bad;
-    }
-    match s[i] {
-        b':' => tag_token(s, i, mode),
-        b'#' => id_token(s, i, mode),
-        b'.' => class_token(s, i, mode),
-        _ => name_token(s, i, mode),
-    }
+    let table = base_letters::CLASS;
+    token_by(&table, s, i, mode)
 }
 
 // The place behind a token.
@@ -216,6 +225,7 @@ fn behind_token(t: Token) -> Place
 pub fn payload_ok(s: &[u8], mode: Mode) -> bool
     ensures { λ r. ⌜ r ≡ accepted (readPayload mode 0 (now (s .entry))) ⌝ }
 {
+    let table = base_letters::CLASS;
     let mut some = false;
     let mut i = 0;
     'tokens: loop {
@@ -223,7 +233,7 @@ pub fn payload_ok(s: &[u8], mode: Mode) -> bool
         if a == s.len() {
             break 'tokens some;
         }
-        match behind_token(token_at(s, a, mode)) {
+        match behind_token(token_by(&table, s, a, mode)) {
             Place::Nothing => break 'tokens false,
             Place::At(e) => {
                 some = true;

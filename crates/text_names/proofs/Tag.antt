@@ -13,7 +13,7 @@ use lib.Seq.{drop-cons, take-all}
 use borrow.Author.Tests.{lt-leb, le-leb, ne-eqb, eq-eqb}
 use Rattle.base_lists.specs.Lists.{run}
 use Rattle.base_lists.proofs.Scan.{run-le}
-use Rattle.base_bytes.specs.Bytes.{isAlnum, within}
+use Rattle.base_bytes.specs.Bytes.{isLetter, isDigit, isAlnum, within}
 use Rattle.text_names.specs.Computed.{isSize, tagFrom, isTag, isLanguage}
 
 -- what follows the run, where the subtag has k bytes
@@ -73,47 +73,51 @@ module _ {n : ℕ} (s : List ℕ) (is : n ≡ run isAlnum s) where
   pub next : 1 ≤ n → n ≤ 8 → n < length s → getD s n 0 ≡ 45 → isTag (take (length s - (n + 1)) (drop (n + 1) s)) ≡ isTag s
   next l m e q = rw (more l m e, eq-eqb (getD s n 0) 45 q, take-all (length s - (n + 1)) (drop (n + 1) s) (simp length-drop (omega arith)))
 
-  pub fits : n ≤ length s
-  fits = omega (arith, run-le isAlnum s)
+-- the run lies in the list, whatever the test, and the rest behind it is shorter
+pub fits : (f : ℕ → Bool) (s : List ℕ) {n : ℕ} → n ≡ 0 + run f s → n ≤ length s
+fits f s is = omega (arith, run-le f s)
 
-  -- the rest is shorter
-  pub less : {t : ℕ} → length s ≡ t → n < length s → length (take (length s - (n + 1)) (drop (n + 1) s)) < t
-  less e h = simp (length-take, length-drop) (omega arith)
+pub less : (s : List ℕ) {n t : ℕ} → length s ≡ t → n < length s → length (take (length s - (n + 1)) (drop (n + 1) s)) < t
+less s e h = simp (length-take, length-drop) (omega arith)
 
--- ---- a byte at a time: where k bytes of the present subtag are read before i
-pub record Reads (s : List ℕ) (i k : ℕ) : Type 0 where
-  pub rest : tagFrom (drop i s) k ≡ isTag s
+-- ---- a byte at a time: where k bytes of the present subtag are read before i, by a table that tells them if P holds
+pub record Reads (P : Type 0) (s : List ℕ) (i k : ℕ) : Type 0 where
+  pub rest : P → tagFrom (drop i s) k ≡ isTag s
   pub few : k ≤ i
   pub within : i ≤ length s
 
-pub reads-start : (s : List ℕ) → Reads s 0 0
+pub reads-start : (P : Type 0) (s : List ℕ) → Reads P s 0 0
 unfolding isTag
-reads-start s = record { rest = refl; few = omega arith; within = omega arith }
+reads-start P s = record { rest = λ p. refl; few = omega arith; within = omega arith }
 
-module _ {s : List ℕ} {i k : ℕ} (inv : Reads s i k) where
-  pub reads-end : length s ≤ i → isSize k ≡ isTag s
+module _ {P : Type 0} {s : List ℕ} {i k : ℕ} (inv : Reads P s i k) where
+  pub reads-end : length s ≤ i → P → isSize k ≡ isTag s
   unfolding tagFrom
-  reads-end h = rw (drop-of-length-le s {i = i} h) at (inv .rest)
+  reads-end h p = rw (drop-of-length-le s {i = i} h) at (inv .rest p)
 
   module _ (h : i < length s) where
-    ahead : tagFrom (getD s i 0 ∷ drop (suc i) s) k ≡ isTag s
-    ahead = rw (drop-cons s i 0 h) at (inv .rest)
+    ahead : P → tagFrom (getD s i 0 ∷ drop (suc i) s) k ≡ isTag s
+    ahead p = rw (drop-cons s i 0 h) at (inv .rest p)
 
-    pub reads-more : isAlnum (getD s i 0) ≡ true → Reads s (i + 1) (k + 1)
+    pub reads-more : (P → isAlnum (getD s i 0) ≡ true) → Reads P s (i + 1) (k + 1)
     unfolding tagFrom
-    reads-more e = record { rest = rw (add-one i, add-one k) (rw e at ahead); few = omega (arith, inv .few); within = omega arith }
+    reads-more e = record { rest = λ p. rw (add-one i, add-one k) (rw (e p) at (ahead p)); few = omega (arith, inv .few); within = omega arith }
 
-    pub reads-hyphen : isAlnum (getD s i 0) ≡ false → isSize k ≡ true → getD s i 0 ≡ 45 → Reads s (i + 1) 0
-    unfolding tagFrom
-    reads-hyphen e z q = record { rest = rw (add-one i) (rw (e, z, eq-eqb (getD s i 0) 45 q) at ahead); few = omega arith; within = omega arith }
+    pub reads-hyphen : getD s i 0 ≡ 45 → isSize k ≡ true → Reads P s (i + 1) 0
+    unfolding tagFrom isAlnum isLetter isDigit within
+    reads-hyphen q z = record { rest = λ p. rw (add-one i) (rw (q, z) at (ahead p)); few = omega arith; within = omega arith }
 
-    pub reads-size : isAlnum (getD s i 0) ≡ false → isSize k ≡ false → false ≡ isTag s
-    unfolding tagFrom
-    reads-size e z = rw (e, z) at ahead
+    pub reads-size : getD s i 0 ≡ 45 → isSize k ≡ false → P → false ≡ isTag s
+    unfolding tagFrom isAlnum isLetter isDigit within
+    reads-size q z p = rw (q, z) at (ahead p)
 
-    pub reads-other : isAlnum (getD s i 0) ≡ false → isSize k ≡ true → (getD s i 0 ≡ 45 → ⊥) → false ≡ isTag s
+    pub reads-other : (getD s i 0 ≡ 45 → ⊥) → (P → isAlnum (getD s i 0) ≡ false) → P → false ≡ isTag s
     unfolding tagFrom
-    reads-other e z q = rw (e, z, ne-eqb (getD s i 0) 45 q) at ahead
+    reads-other q e p = sym (neither (isSize k)) ∙ (rw (e p, ne-eqb (getD s i 0) 45 q) at (ahead p))
+      where
+        neither : (x : Bool) → (x && false) ≡ false
+        neither true = refl
+        neither false = refl
 
 pub size-none : (k : ℕ) → k < 1 → false ≡ isSize k
 size-none k h = sym (size-false k h)

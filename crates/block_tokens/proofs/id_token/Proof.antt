@@ -1,7 +1,9 @@
-use mathlib.Core.Path.{refl}
+use mathlib.Core.Path.{refl, _∙_}
 use Prim.Native.Nat.{_+_}
 use native.Mathlib.Omega.{arith}
+use lib.ListN.{drop}
 use Rattle.base_bytes.specs.Bytes.{isNameStart, isNamePart}
+use Rattle.base_letters.proofs.Fronts as fronts
 use Rattle.text_names.specs.Names.{isName}
 use Rattle.block_grammar.proofs.Bytes.{start-part}
 use Rattle.block_grammar.specs.Grammar.{Item}
@@ -15,15 +17,18 @@ use Rattle.block_tokens.proofs.id_token.Tie as tie
 add-a : tie.Need-add-a
 add-a c = search needs
 
-name-end-requires : tie.Need-name-end-requires
-name-end-requires c κs = search needs
+front-end-requires : tie.Need-front-end-requires
+front-end-requires c κs = search needs
 
 finish-requires : tie.Need-finish-requires
 finish-requires c κs = search needs
 
 returns : tie.Need-returns
 unfolding shownItem isName
-returns c = words.headed-front isNameStart isNamePart start-part _ (c .before .name-end .ensures) (omega (arith, c .before .before .before .pre)) _ _ (λ n. Item.id n) (λ e. Id (c .before .before .before .args .i + 1) e) (λ n. refl) (c .finish .ensures)
+returns c = λ tells.
+    let start = c .before .before .before in
+    let a = start .args in let is = c .before .front-end .ensures ∙ fronts.same-front (tells .name) (tells .part) (a .i + 1) (drop (a .i + 1) (a .s .now)) in
+    words.headed-front isNameStart isNamePart start-part _ is (omega (arith, start .pre)) _ _ (λ n. Item.id n) (λ e. Id (a .i + 1) e) (λ n. refl) (c .finish .ensures)
 
 pub id-token-spec : {M : Type 1} → statement M
-id-token-spec = tie.close (tie.spec add-a name-end-requires finish-requires returns)
+id-token-spec = tie.close (tie.spec add-a front-end-requires finish-requires returns)

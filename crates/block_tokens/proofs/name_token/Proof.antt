@@ -1,10 +1,14 @@
-use mathlib.Core.Path.{refl, sym, _∙_}
-use Prim.Native.Nat.{_<_}
+use mathlib.Core.Path.{_≡_, refl, sym, _∙_}
+use mathlib.Core.Bool.{true}
+use mathlib.Core.List.{List}
+use Prim.Native.Nat.{ℕ, _+_, _<_}
 use native.Mathlib.Omega.{arith}
-use lib.ListN.{length}
+use lib.ListN.{length, drop}
+use Rattle.base_lists.specs.Lists.{run, firstIs}
 use Rattle.base_bytes.specs.Bytes.{isLetter, isKeyStart, isNamePart}
 use Rattle.base_lists.proofs.Runs as runs
 use Rattle.base_lists.proofs.Scan as scan
+use Rattle.base_letters.specs.Classes.{isOf, frontRun, TellsBytes}
 use Rattle.base_letters.proofs.Fronts as fronts
 use Rattle.text_names.specs.Names.{isBareName}
 use Rattle.block_grammar.proofs.Bytes.{letter-key, key-part}
@@ -15,56 +19,70 @@ use borrow.Author.Needs.{needs}
 use Rattle.block_tokens.proofs.name_token.Statement.{statement}
 use Rattle.block_tokens.proofs.name_token.Tie as tie
 
-key-end-requires : tie.Need-key-end-requires
-key-end-requires c κs = search needs
+-- what the table finds is a key, and where one begins it goes as far as a name
+key : {t : List ℕ} → TellsBytes t → (i : ℕ) (s : List ℕ) {e : ℕ} → e ≡ i + frontRun (isOf t 5) (isOf t 15) (drop i s) → e ≡ i + frontRun isKeyStart isNamePart (drop i s)
+key tells i s is = is ∙ fronts.same-front (tells .key) (tells .part) i (drop i s)
+
+begun : {t : List ℕ} → TellsBytes t → (i : ℕ) (s : List ℕ) {e : ℕ} → e ≡ i + frontRun (isOf t 5) (isOf t 15) (drop i s) → (e ≡ i → ⊥) → (firstIs isKeyStart (drop i s) ≡ true) × (e ≡ i + run isNamePart (drop i s))
+begun tells i s is n = fronts.begun isKeyStart isNamePart key-part s (key tells i s is) n
+
+front-end-requires : tie.Need-front-end-requires
+front-end-requires c κs = search needs
 
 returns : tie.Need-returns
-returns c =
-    let a = c .before .before .before .args in
-    words.name-none (a .mode) (a .i) (a .s .now) refl (fronts.nothing isKeyStart isNamePart key-part (a .s .now) (c .before .key-end .ensures) (c .if1 .taken)) (c .before .before .before .pre)
+returns c = λ tells.
+    let start = c .before .before .before in
+    let a = start .args in
+    words.name-none (a .mode) (a .i) (a .s .now) refl (fronts.nothing isKeyStart isNamePart key-part (a .s .now) (key tells (a .i) (a .s .now) (c .before .front-end .ensures)) (c .if1 .taken)) (start .pre)
 
 has-equals-requires : tie.Need-has-equals-requires
 has-equals-requires c κs = search needs
 
 value-token-requires : tie.Need-value-token-requires
 value-token-requires c κs =
-    let a = c .before .before .before .before .before .args in let b = fronts.begun isKeyStart isNamePart key-part (a .s .now) (c .before .before .before .key-end .ensures) (c .before .before .if1 .left) in
-    omega (arith, runs.inside isNamePart (a .s .now) (b .1) (c .before .before .before .before .before .pre), words.starts-within (a .s .now) (c .before .before .before .key-end .result) (sym (c .before .has-equals .ensures) ∙ c .if2 .taken))
+    let start = c .before .before .before .before .before in
+    let a = start .args in let e = c .before .before .before .front-end in
+    omega (arith, fronts.inside _ _ (a .s .now) (e .ensures) (start .pre), words.starts-within (a .s .now) (e .result) (sym (c .before .has-equals .ensures) ∙ c .if2 .taken))
 
 returns-2 : tie.Need-returns-2
-returns-2 c =
-    let a = c .before .before .before .before .before .before .args in let b = fronts.begun isKeyStart isNamePart key-part (a .s .now) (c .before .before .before .before .key-end .ensures) (c .before .before .before .if1 .left) in
+returns-2 c = λ tells.
+    let start = c .before .before .before .before .before .before in
+    let a = start .args in
+    let b = begun tells (a .i) (a .s .now) (c .before .before .before .before .front-end .ensures) (c .before .before .before .if1 .left) in
     words.name-key (a .mode) (a .i) (a .s .now) (b .1) (sym (c .before .before .has-equals .ensures) ∙ c .before .if2 .taken) (b .0) (c .value-token .ensures)
 
-shared-slice-read-is-letter : tie.Need-shared-slice-read-is-letter
-shared-slice-read-is-letter c =
-    let a = c .before .before .before .before .before .before .args in let b = fronts.begun isKeyStart isNamePart key-part (a .s .now) (c .before .before .before .before .key-end .ensures) (c .before .before .before .if1 .left) in
-    omega (arith, runs.inside isNamePart (a .s .now) (b .1) (c .before .before .before .before .before .before .pre), c .before .before .before .if1 .left)
+shared-slice-read-is-of : tie.Need-shared-slice-read-is-of
+shared-slice-read-is-of c =
+    let start = c .before .before .before .before .before .before in
+    omega (arith, fronts.inside _ _ (start .args .s .now) (c .before .before .before .before .front-end .ensures) (start .pre), c .before .before .before .if1 .left)
 
-is-letter-requires : tie.Need-is-letter-requires
-is-letter-requires c κs = search needs
+is-of-requires : tie.Need-is-of-requires
+is-of-requires c κs = search needs
 
 finish-requires : tie.Need-finish-requires
 finish-requires c κs = search needs
 
 returns-3 : tie.Need-returns-3
 unfolding shownItem isBareName
-returns-3 c =
-    let a = c .before .before .before .before .before .before .before .before .args in let b = fronts.begun isKeyStart isNamePart key-part (a .s .now) (c .before .before .before .before .before .before .key-end .ensures) (c .before .before .before .before .before .if1 .left) in
-    let l : a .i < length (a .s .now) = omega (arith, runs.inside isNamePart (a .s .now) (b .1) (c .before .before .before .before .before .before .before .before .pre), c .before .before .before .before .before .if1 .left) in
+returns-3 c = λ tells.
+    let at5 = c .before .before .before .before .before in let at6 = at5 .before in let start = at6 .before .before in
+    let a = start .args in
+    let b = begun tells (a .i) (a .s .now) (at6 .front-end .ensures) (at5 .if1 .left) in
+    let l : a .i < length (a .s .now) = omega (arith, runs.inside isNamePart (a .s .now) (b .1) (start .pre), at5 .if1 .left) in
+    let first = sym (fronts.asked (tells .letter) _ (c .before .is-of .ensures)) ∙ scan.first-some isLetter (a .s .now) (a .i) l in
     words.name-bare (a .mode) (a .i) (a .s .now) (b .1) (sym (c .before .before .before .before .has-equals .ensures) ∙ c .before .before .before .if2 .left)
-    (words.headed-word isLetter isNamePart (λ b h. key-part b (letter-key b h)) _ _ _ (λ n. Item.bare n) (b .1) (c .before .before .before .before .before .before .before .before .pre) (c .before .is-letter .ensures ∙ scan.first-some isLetter (a .s .now) (a .i) l) (λ n h. rw h) (c .finish .ensures))
+    (words.headed-word isLetter isNamePart (λ b h. key-part b (letter-key b h)) _ _ _ (λ n. Item.bare n) (b .1) (start .pre) first (λ n h. rw h) (c .finish .ensures))
 
 pub name-token-spec : {M : Type 1} → statement M
 name-token-spec =
     tie.close
     (tie.spec
-    key-end-requires
+    front-end-requires
     returns
     has-equals-requires
     value-token-requires
     returns-2
-    shared-slice-read-is-letter
-    is-letter-requires
+    shared-slice-read-is-of
+    is-of-requires
     finish-requires
     returns-3)

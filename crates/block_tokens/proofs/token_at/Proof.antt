@@ -1,63 +1,16 @@
-use mathlib.Core.Path.{refl, _∙_}
-use native.Mathlib.Omega.{arith}
-use Rattle.base_refusals.proofs.Said.{said}
-use Rattle.block_tokens.specs.Shown.{tokenPaper}
-use Rattle.block_tokens.proofs.Words as words
+use Rattle.base_bytes.specs.Bytes.{isLetter, isDigit, within}
+use Rattle.base_letters.specs.Classes.{classOf}
+use Rattle.base_letters.proofs.Rule as rule
 use borrow.Author.Needs.{needs}
 use Rattle.block_tokens.proofs.token_at.Statement.{statement}
 use Rattle.block_tokens.proofs.token_at.Tie as tie
 
+token-by-requires : tie.Need-token-by-requires
+token-by-requires c κs = search needs
+
 returns : tie.Need-returns
-returns c =
-    let a = c .before .before .args in
-    said tokenPaper refl (words.past-end (a .mode) (a .s .now) (a .i) (c .if1 .taken))
-
-shared-slice-read-match : tie.Need-shared-slice-read-match
-shared-slice-read-match c = search needs
-
-tag-token-requires : tie.Need-tag-token-requires
-tag-token-requires c κs = search needs
-
-id-token-requires : tie.Need-id-token-requires
-id-token-requires c κs = search needs
-
-class-token-requires : tie.Need-class-token-requires
-class-token-requires c κs = search needs
-
-name-token-requires : tie.Need-name-token-requires
-name-token-requires c κs = search needs
-
-returns-2 : tie.Need-returns-2
-returns-2 c =
-    let a = c .before .before .before .before .before .args in
-    said tokenPaper refl ((c .tag-token .ensures) ∙ words.at-colon (a .mode) (a .s .now) (a .i) (omega arith) (c .before .match .keys1))
-
-returns-3 : tie.Need-returns-3
-returns-3 c =
-    let a = c .before .before .before .before .before .args in
-    said tokenPaper refl ((c .id-token .ensures) ∙ words.at-hash (a .mode) (a .s .now) (a .i) (omega arith) (c .before .match .keys2))
-
-returns-4 : tie.Need-returns-4
-returns-4 c =
-    let a = c .before .before .before .before .before .args in
-    said tokenPaper refl ((c .class-token .ensures) ∙ words.at-dot (a .mode) (a .s .now) (a .i) (omega arith) (c .before .match .keys3))
-
-returns-5 : tie.Need-returns-5
-returns-5 c =
-    let a = c .before .before .before .before .before .args in
-    said tokenPaper refl ((c .name-token .ensures) ∙ words.at-other (a .mode) (a .s .now) (a .i) (omega arith) (c .before .match .rest .0 .0 .1) (c .before .match .rest .0 .1) (c .before .match .rest .1))
+unfolding classOf isLetter isDigit within
+returns c = c .token-by .ensures rule.tells
 
 pub token-at-spec : {M : Type 1} → statement M
-token-at-spec =
-    tie.close
-    (tie.spec
-    returns
-    shared-slice-read-match
-    tag-token-requires
-    id-token-requires
-    class-token-requires
-    name-token-requires
-    returns-2
-    returns-3
-    returns-4
-    returns-5)
+token-at-spec = tie.close (tie.spec token-by-requires returns)

@@ -32,58 +32,58 @@ module _ (t : ℕ) where
 
   returns : tag-by-lts.Need-returns (known t) (tag-by-at t) tag-by.Post
   returns c =
-      let start = c .before .before .before in let is = fronts.counted (start .pre .1) (start .args .s .now) (c .before .run-end .ensures) in
-      tag.short _ is (c .if1 .taken)
+      let start = c .before .before .before in let is = c .before .run-end .ensures in
+      λ tells. tag.short _ (fronts.counted (tells .alnum) (start .args .s .now) is) (c .if1 .taken)
 
   returns-2 : tag-by-lts.Need-returns-2 (known t) (tag-by-at t) tag-by.Post
   returns-2 c =
-      let start = c .before .before .before .before in let is = fronts.counted (start .pre .1) (start .args .s .now) (c .before .before .run-end .ensures) in
-      tag.long _ is (c .if2 .taken)
+      let start = c .before .before .before .before in let is = c .before .before .run-end .ensures in
+      λ tells. tag.long _ (fronts.counted (tells .alnum) (start .args .s .now) is) (c .if2 .taken)
 
   returns-3 : tag-by-lts.Need-returns-3 (known t) (tag-by-at t) tag-by.Post
   returns-3 c =
-      let start = c .before .before .before .before .before in let is = fronts.counted (start .pre .1) (start .args .s .now) (c .before .before .before .run-end .ensures) in
-      tag.one _ is (omega arith) (omega arith) (c .if3 .taken)
+      let start = c .before .before .before .before .before in let is = c .before .before .before .run-end .ensures in
+      λ tells. tag.one _ (fronts.counted (tells .alnum) (start .args .s .now) is) (omega arith) (omega arith) (c .if3 .taken)
 
   shared-slice-read-if4 : tag-by-lts.Need-shared-slice-read-if4 (known t) (tag-by-at t) tag-by.Post
   shared-slice-read-if4 c =
-      let start = c .before .before .before .before .before .before in let is = fronts.counted (start .pre .1) (start .args .s .now) (c .before .before .before .before .run-end .ensures) in
-      omega (arith, tag.fits _ is)
+      let start = c .before .before .before .before .before .before in let is = c .before .before .before .before .run-end .ensures in
+      omega (arith, tag.fits _ _ is)
 
   returns-4 : tag-by-lts.Need-returns-4 (known t) (tag-by-at t) tag-by.Post
   returns-4 c =
-      let start = c .before .before .before .before .before .before .before in let is = fronts.counted (start .pre .1) (start .args .s .now) (c .before .before .before .before .before .run-end .ensures) in
-      tag.no-hyphen _ is (omega arith) (omega arith) (omega (arith, tag.fits _ is)) (c .if4 .taken)
+      let start = c .before .before .before .before .before .before .before in let is = c .before .before .before .before .before .run-end .ensures in
+      λ tells. tag.no-hyphen _ (fronts.counted (tells .alnum) (start .args .s .now) is) (omega arith) (omega arith) (omega (arith, tag.fits _ _ is)) (c .if4 .taken)
 
   add-tag-by : tag-by-lts.Need-add-tag-by (known t) (tag-by-at t) tag-by.Post
   add-tag-by c =
-      let start = c .before .before .before .before .before .before .before in let is = fronts.counted (start .pre .1) (start .args .s .now) (c .before .before .before .before .before .run-end .ensures) in
-      omega (arith, tag.fits _ is)
+      let start = c .before .before .before .before .before .before .before in let is = c .before .before .before .before .before .run-end .ensures in
+      omega (arith, tag.fits _ _ is)
 
   sub-tag-by : tag-by-lts.Need-sub-tag-by (known t) (tag-by-at t) tag-by.Post
   sub-tag-by c =
-      let start = c .before .before .before .before .before .before .before in let is = fronts.counted (start .pre .1) (start .args .s .now) (c .before .before .before .before .before .run-end .ensures) in
-      omega (arith, tag.fits _ is)
+      let start = c .before .before .before .before .before .before .before in let is = c .before .before .before .before .before .run-end .ensures in
+      omega (arith, tag.fits _ _ is)
 
   part-tag-by-start : tag-by-lts.Need-part-tag-by-start (known t) (tag-by-at t) tag-by.Post
   part-tag-by-start c =
-      let start = c .before .before .before .before .before .before .before in let is = fronts.counted (start .pre .1) (start .args .s .now) (c .before .before .before .before .before .run-end .ensures) in
-      omega (arith, tag.fits _ is)
+      let start = c .before .before .before .before .before .before .before in let is = c .before .before .before .before .before .run-end .ensures in
+      omega (arith, tag.fits _ _ is)
 
   part-tag-by-end : tag-by-lts.Need-part-tag-by-end (known t) (tag-by-at t) tag-by.Post
   part-tag-by-end c =
-      let start = c .before .before .before .before .before .before .before in let is = fronts.counted (start .pre .1) (start .args .s .now) (c .before .before .before .before .before .run-end .ensures) in
-      omega (arith, tag.fits _ is)
+      let start = c .before .before .before .before .before .before .before in let is = c .before .before .before .before .before .run-end .ensures in
+      omega (arith, tag.fits _ _ is)
 
   tag-by-requires : tag-by-lts.Need-tag-by-requires (known t) (tag-by-at t) tag-by.Post
   tag-by-requires c κs =
-      let start = c .before .before .before .before .before .before .before .before in let is = fronts.counted (start .pre .1) (start .args .s .now) (c .before .before .before .before .before .before .run-end .ensures) in
-      (tag.less _ is (start .pre .0) (omega (arith, tag.fits _ is)), start .pre .1)
+      let start = c .before .before .before .before .before .before .before .before in let is = c .before .before .before .before .before .before .run-end .ensures in
+      (tag.less (start .args .s .now) (start .pre .0) (omega (arith, tag.fits _ _ is)), start .pre .1)
 
   returns-5 : tag-by-lts.Need-returns-5 (known t) (tag-by-at t) tag-by.Post
   returns-5 c =
-      let start = c .before .before .before .before .before .before .before .before .before in let is = fronts.counted (start .pre .1) (start .args .s .now) (c .before .before .before .before .before .before .before .run-end .ensures) in
-      c .tag-by .ensures ∙ tag.next _ is (omega arith) (omega arith) (omega (arith, tag.fits _ is)) (c .before .before .if4 .left)
+      let start = c .before .before .before .before .before .before .before .before .before in let is = c .before .before .before .before .before .before .before .run-end .ensures in
+      λ tells. c .tag-by .ensures tells ∙ tag.next _ (fronts.counted (tells .alnum) (start .args .s .now) is) (omega arith) (omega arith) (omega (arith, tag.fits _ _ is)) (c .before .before .if4 .left)
 
 pub +tag-by-spec : {M : Type 1} → statement M
 +tag-by-spec = close μ-tag-by λ t. tag-by-lts.spec (known t)
