@@ -22,6 +22,7 @@ ghost use Rattle.base_lists.specs.Lists.{run};
 ghost use Rattle.base_bytes.specs.Bytes.{isSpace};
 ghost use Rattle.base_bytes.specs.declared.Mode.{Mode};
 ghost use Rattle.base_bytes.specs.declared.Mode.the-variants.{Loose};
+ghost use Rattle.base_letters.specs.Classes.{TellsBytes};
 ghost use Rattle.base_refusals.specs.Numbers.{maxText, tooLong, numberOf, outcomeNo};
 ghost use Rattle.base_refusals.specs.Orders.{orderNo};
 ghost use Rattle.set_table.specs.Types.{one, emptySet};
@@ -166,16 +167,16 @@ fn named_push(s: &[u8], f: usize, k: usize, c: Cursor) -> Push
     )
 }
 
-// What the token from i on puts, blanks passed.
-fn token_push(s: &[u8], i: usize, mode: Mode) -> Push
-    requires { ⌜ (i ≤ length (now s)) × (length (now s) ≤ maxText) ⌝ }
+// What the token from i on puts, blanks passed; the table of classes is lent.
+fn token_push(table: &[u64; 16], s: &[u8], i: usize, mode: Mode) -> Push
+    requires { ⌜ (i ≤ length (now s)) × (length (now s) ≤ maxText) × TellsBytes (now table) ⌝ }
     ensures { λ r. ⌜ Yields mode (now (s .entry)) i (tokensFrom mode (now (s .entry)) i) r ⌝ }
 {
     let a = block_tokens::blank_end(s, i, mode);
     if s.len() <= a {
         return Push::End;
     }
-    match block_tokens::token_at(s, a, mode) {
+    match block_tokens::token_by(table, s, a, mode) {
         Token::Bad => Push::Bad,
         Token::Tag(f, e) => Push::Key(Name::Lang, value_of(Kind::Plain, f, e), before_tokens(e)),
         Token::Id(f, e) => Push::Id(value_of(Kind::Plain, f, e), before_tokens(e)),
@@ -187,14 +188,14 @@ fn token_push(s: &[u8], i: usize, mode: Mode) -> Push
 }
 
 // What is put next from where the walk stands: the next piece, or what the next token puts.
-fn next_push(s: &[u8], c: Cursor, mode: Mode) -> Push
-    requires { ⌜ (InText (now s) c) × (length (now s) ≤ maxText) ⌝ }
+fn next_push(table: &[u64; 16], s: &[u8], c: Cursor, mode: Mode) -> Push
+    requires { ⌜ (InText (now s) c) × (length (now s) ≤ maxText) × TellsBytes (now table) ⌝ }
     ensures { λ r. ⌜ Yields mode (now (s .entry)) (c .at) (restOf mode (now (s .entry)) c) r ⌝ }
 {
     let to = c.to;
     let from = space_end(&s[..to], c.at);
     if from == to {
-        return token_push(s, c.next, mode);
+        return token_push(table, s, c.next, mode);
     }
     piece(s, from, c)
 }
@@ -239,15 +240,22 @@ fn over(count: usize) -> Refusal
 }
 
 // A limit is passed, with n classes so far, in the block of w that closes at `close`: the walk goes on to the end of w only for the refusal's number.
-fn passed_limit(w: &[u8], close: usize, c: Cursor, mode: Mode, n: usize) -> Refusal
-    requires { ⌜ (InText (take close (now w)) c) × (close ≤ length (now w)) × (length (now w) ≤ maxText) × (n ≤ maxText) ⌝ }
+fn passed_limit(
+    table: &[u64; 16],
+    w: &[u8],
+    close: usize,
+    c: Cursor,
+    mode: Mode,
+    n: usize,
+) -> Refusal
+    requires { ⌜ (InText (take close (now w)) c) × (close ≤ length (now w)) × (length (now w) ≤ maxText) × (n ≤ maxText) × TellsBytes (now table) ⌝ }
     ensures { λ r. ⌜ r ≡ overOf n (chainRest mode (now (w .entry)) close c) ⌝ }
 {
     let mut count = n;
     let mut end = close;
     let mut cur = c;
     'walk: loop {
-        match next_push(&w[..end], cur, mode) {
+        match next_push(table, &w[..end], cur, mode) {
             Push::End => match block_behind(w, end, mode) {
                 Following::Last => break 'walk over(count),
                 Following::Unread => break 'walk Refusal::NoReading,
@@ -298,15 +306,23 @@ fn is_given(i: Ident) -> bool
 
 // The tokens from `at` on of the block of w that closes at `close`, and then the blocks behind it; w is the text's front.
 // The set is changed where it stands, and a refusal hands out the empty one that it began with; there is a slot for each key, the id and the classes.
-fn fill_part(text: &[u8], w: &[u8], at: usize, close: usize, mode: Mode, start: Attrs) -> Filled
-    requires { ⌜ (at ≤ close) × (close ≤ length (now w)) × (length (now w) ≤ maxText) × (start ≡ emptySet) ⌝ }
+fn fill_part(
+    table: &[u64; 16],
+    text: &[u8],
+    w: &[u8],
+    at: usize,
+    close: usize,
+    mode: Mode,
+    start: Attrs,
+) -> Filled
+    requires { ⌜ (at ≤ close) × (close ≤ length (now w)) × (length (now w) ≤ maxText) × (start ≡ emptySet) × TellsBytes (now table) ⌝ }
     ensures { λ r. ⌜ r ≡ filledFrom (one (now (text .entry))) noRows (chainRest mode (now (w .entry)) close (tokensAt at)) ⌝ }
 {
     let mut set = start;
     let mut end = close;
     let mut cur = before_tokens(at);
     'pushes: loop {
-        match next_push(&w[..end], cur, mode) {
+        match next_push(table, &w[..end], cur, mode) {
             Push::End => match block_behind(w, end, mode) {
                 Following::Last => return Filled {
                     outcome: Outcome::Passed,
@@ -337,7 +353,7 @@ fn fill_part(text: &[u8], w: &[u8], at: usize, close: usize, mode: Mode, start: 
                 cur = next;
                 let n = set.nclass as usize;
                 if Attrs::CLASSES <= n {
-                    return refused_by(passed_limit(w, end, next, mode, n + 1), start);
+                    return refused_by(passed_limit(table, w, end, next, mode, n + 1), start);
                 }
                 set.classes[n] = v;
                 set.nclass = set.nclass + 1;
@@ -361,7 +377,10 @@ fn fill_part(text: &[u8], w: &[u8], at: usize, close: usize, mode: Mode, start: 
                     continue 'pushes;
                 }
                 if Attrs::KEYS <= n {
-                    return refused_by(passed_limit(w, end, next, mode, set.nclass as usize), start);
+                    return refused_by(
+                        passed_limit(table, w, end, next, mode, set.nclass as usize),
+                        start,
+                    );
                 }
                 let p = set.norder as usize;
                 set.keys[n] = Row { name, value: v };
@@ -386,7 +405,8 @@ fn is_refused(outcome: Outcome) -> bool
     }
 }
 
-// What `fill_part` gives, unless it is refused already. Every set begins here, so that the compiler moves sets as a whole.
+// What `fill_part` gives, unless it is refused already. Every set begins here, so that the compiler moves sets as a whole;
+// and here the table of classes is taken, once for all tokens.
 fn fill_unless(
     no: Outcome,
     text: &[u8],
@@ -405,7 +425,8 @@ fn fill_unless(
             set: start,
         };
     }
-    fill_part(text, w, at, close, mode, start)
+    let table = base_letters::CLASS;
+    fill_part(&table, text, w, at, close, mode, start)
 }
 
 // A refusal hands out no set.

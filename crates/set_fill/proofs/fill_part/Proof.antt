@@ -14,10 +14,10 @@ use Rattle.set_fill.proofs.fill_part.Statement.{statement}
 use Rattle.set_fill.proofs.fill_part.Tie as tie
 
 abbrev Inv-pushes : tie.InvT-pushes
-Inv-pushes text w at close mode start set₀ end₀ cur₀ set end cur = fills.Fills (one text) mode w (filledFrom (one text) noRows (chainRest mode w close (tokensAt at))) set end cur
+Inv-pushes table text w at close mode start set₀ end₀ cur₀ set end cur = fills.Fills (one text) mode w (filledFrom (one text) noRows (chainRest mode w close (tokensAt at))) set end cur
 
 abbrev μ-pushes : tie.MeasureT-pushes
-μ-pushes text w at close mode start set₀ end₀ cur₀ set end cur = length w - cur .at
+μ-pushes table text w at close mode start set₀ end₀ cur₀ set end cur = length w - cur .at
 
 before-tokens-requires : tie.Need-before-tokens-requires Inv-pushes μ-pushes
 before-tokens-requires c κs = search needs
@@ -31,7 +31,7 @@ slice-aggregate-next-push : tie.Need-slice-aggregate-next-push Inv-pushes μ-pus
 slice-aggregate-next-push c = sym (chains.front ((c .before .pushes .inv) .stands))
 
 next-push-requires : tie.Need-next-push-requires Inv-pushes μ-pushes
-next-push-requires c κs = let i = (c .before .pushes .inv) in (i .stands .inside, omega (arith, chains.front (i .stands), i .stands .fits, (c .before .before .before .before .before .pre .2)))
+next-push-requires c κs = let i = (c .before .pushes .inv) in (i .stands .inside, omega (arith, chains.front (i .stands), i .stands .fits, (c .before .before .before .before .before .pre .2)), c .before .before .before .before .before .pre .4)
 
 enum-told : tie.Need-enum-told Inv-pushes μ-pushes
 enum-told c = search needs
@@ -105,8 +105,8 @@ pushes-again-2 c =
 cast-p : tie.Need-cast-p Inv-pushes μ-pushes
 cast-p c = let i = (c .before .before .before .before .before .before .before .before .pushes .inv) in omega (arith, holding.few (i .holds))
 
-mul-t43 : tie.Need-mul-t43 Inv-pushes μ-pushes
-mul-t43 c = let i = (c .before .before .before .before .before .before .before .before .pushes .inv) in omega (arith, holding.few (i .holds))
+mul-t44 : tie.Need-mul-t44 Inv-pushes μ-pushes
+mul-t44 c = let i = (c .before .before .before .before .before .before .before .before .pushes .inv) in omega (arith, holding.few (i .holds))
 
 element-set-from-set : tie.Need-element-set-from-set Inv-pushes μ-pushes
 element-set-from-set c = let i = (c .before .before .before .before .before .before .before .before .pushes .inv) in omega (arith, holding.room-id (i .holds) (sym (c .before .is-given .ensures) ∙ (c .if1 .left)))
@@ -134,7 +134,7 @@ add-passed-limit c = let i = (c .before .before .before .before .before .before 
 passed-limit-requires : tie.Need-passed-limit-requires Inv-pushes μ-pushes
 passed-limit-requires c κs =
     let at4 = c .before .before .before .before in let at6 = at4 .before .before in let at10 = at6 .before .before .before .before in
-    let i = (at6 .pushes .inv) in (walk.class-gives (at4 .next-push .ensures) (c .before .before .v2 .given .1) .inside, i .stands .fits, (at10 .pre .2), omega (arith, holding.few (i .holds)))
+    let i = (at6 .pushes .inv) in (walk.class-gives (at4 .next-push .ensures) (c .before .before .v2 .given .1) .inside, i .stands .fits, (at10 .pre .2), omega (arith, holding.few (i .holds)), (at10 .pre .4))
 
 refused-by-requires-3 : tie.Need-refused-by-requires-3 Inv-pushes μ-pushes
 refused-by-requires-3 c κs = search needs
@@ -164,8 +164,8 @@ pushes-again-4 c =
 cast-p-2 : tie.Need-cast-p-2 Inv-pushes μ-pushes
 cast-p-2 c = let i = (c .before .before .before .before .before .before .before .pushes .inv) in omega (arith, holding.few (i .holds))
 
-mul-t51 : tie.Need-mul-t51 Inv-pushes μ-pushes
-mul-t51 c = let i = (c .before .before .before .before .before .before .before .pushes .inv) in omega (arith, holding.few (i .holds))
+mul-t52 : tie.Need-mul-t52 Inv-pushes μ-pushes
+mul-t52 c = let i = (c .before .before .before .before .before .before .before .pushes .inv) in omega (arith, holding.few (i .holds))
 
 element-set-from-set-2 : tie.Need-element-set-from-set-2 Inv-pushes μ-pushes
 element-set-from-set-2 c = let i = (c .before .before .before .before .before .before .before .pushes .inv) in omega (arith, holding.room-class (i .holds) (omega (arith, (c .if3 .left))))
@@ -216,7 +216,7 @@ cast-passed-limit c = let i = (c .before .before .before .before .before .before
 passed-limit-requires-2 : tie.Need-passed-limit-requires-2 Inv-pushes μ-pushes
 passed-limit-requires-2 c κs =
     let at5 = c .before .before .before .before .before in let at7 = at5 .before .before in let at9 = at7 .before .before in let at13 = at9 .before .before .before .before in
-    let i = (at9 .pushes .inv) in (walk.key-gives (at7 .next-push .ensures) (at5 .name .given .1) .inside, i .stands .fits, (at13 .pre .2), omega (arith, holding.few (i .holds)))
+    let i = (at9 .pushes .inv) in (walk.key-gives (at7 .next-push .ensures) (at5 .name .given .1) .inside, i .stands .fits, (at13 .pre .2), omega (arith, holding.few (i .holds)), (at13 .pre .4))
 
 refused-by-requires-4 : tie.Need-refused-by-requires-4 Inv-pushes μ-pushes
 refused-by-requires-4 c κs = search needs
@@ -230,14 +230,14 @@ returns-5 c =
 cast-p-3 : tie.Need-cast-p-3 Inv-pushes μ-pushes
 cast-p-3 c = let i = (c .before .before .before .before .before .before .before .before .before .pushes .inv) in omega (arith, holding.few (i .holds))
 
-mul-t71 : tie.Need-mul-t71 Inv-pushes μ-pushes
-mul-t71 c = let i = (c .before .before .before .before .before .before .before .before .before .pushes .inv) in omega (arith, holding.few (i .holds))
+mul-t72 : tie.Need-mul-t72 Inv-pushes μ-pushes
+mul-t72 c = let i = (c .before .before .before .before .before .before .before .before .before .pushes .inv) in omega (arith, holding.few (i .holds))
 
 element-set-from-set-3 : tie.Need-element-set-from-set-3 Inv-pushes μ-pushes
 element-set-from-set-3 c = let i = (c .before .before .before .before .before .before .before .before .before .pushes .inv) in omega (arith, holding.room-key (i .holds) (omega (arith, (c .if5 .left))))
 
-mul-t71-2 : tie.Need-mul-t71-2 Inv-pushes μ-pushes
-mul-t71-2 c = let i = (c .before .before .before .before .before .before .before .before .before .pushes .inv) in omega (arith, holding.few (i .holds))
+mul-t72-2 : tie.Need-mul-t72-2 Inv-pushes μ-pushes
+mul-t72-2 c = let i = (c .before .before .before .before .before .before .before .before .before .pushes .inv) in omega (arith, holding.few (i .holds))
 
 element-set-from-set-4 : tie.Need-element-set-from-set-4 Inv-pushes μ-pushes
 element-set-from-set-4 c = let i = (c .before .before .before .before .before .before .before .before .before .pushes .inv) in omega (arith, holding.room-key (i .holds) (omega (arith, (c .if5 .left))))
@@ -286,7 +286,7 @@ fill-part-spec =
     pushes-less-2
     pushes-again-2
     cast-p
-    mul-t43
+    mul-t44
     element-set-from-set
     add-set
     pushes-less-3
@@ -303,7 +303,7 @@ fill-part-spec =
     pushes-less-4
     pushes-again-4
     cast-p-2
-    mul-t51
+    mul-t52
     element-set-from-set-2
     add-set-3
     pushes-less-5
@@ -322,9 +322,9 @@ fill-part-spec =
     refused-by-requires-4
     returns-5
     cast-p-3
-    mul-t71
+    mul-t72
     element-set-from-set-3
-    mul-t71-2
+    mul-t72-2
     element-set-from-set-4
     add-set-4
     add-set-5

@@ -11,10 +11,10 @@ use Rattle.set_fill.proofs.passed_limit.Statement.{statement}
 use Rattle.set_fill.proofs.passed_limit.Tie as tie
 
 abbrev Inv-walk : tie.InvT-walk
-Inv-walk w close mode n count₀ end₀ cur₀ count end cur = limits.Counts mode w n (overOf n (chainRest mode w close cur₀)) count end cur
+Inv-walk table w close mode n count₀ end₀ cur₀ count end cur = limits.Counts mode w n (overOf n (chainRest mode w close cur₀)) count end cur
 
 abbrev μ-walk : tie.MeasureT-walk
-μ-walk w close mode n count₀ end₀ cur₀ count end cur = length w - cur .at
+μ-walk table w close mode n count₀ end₀ cur₀ count end cur = length w - cur .at
 
 walk-holds : tie.Need-walk-holds Inv-walk μ-walk
 walk-holds c = limits.start _ _ _ (c .before .pre .0) (c .before .pre .1)
@@ -23,7 +23,7 @@ slice-aggregate-next-push : tie.Need-slice-aggregate-next-push Inv-walk μ-walk
 slice-aggregate-next-push c = sym (chains.front ((c .before .walk .inv) .stands))
 
 next-push-requires : tie.Need-next-push-requires Inv-walk μ-walk
-next-push-requires c κs = let i = (c .before .walk .inv) in (i .stands .inside, omega (arith, chains.front (i .stands), i .stands .fits, (c .before .before .before .pre .2)))
+next-push-requires c κs = let i = (c .before .walk .inv) in (i .stands .inside, omega (arith, chains.front (i .stands), i .stands .fits, (c .before .before .before .pre .2)), c .before .before .before .pre .4)
 
 enum-told : tie.Need-enum-told Inv-walk μ-walk
 enum-told c = search needs
