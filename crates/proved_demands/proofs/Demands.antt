@@ -64,12 +64,13 @@ use Rattle.proved_reading.proofs.LengthsFair.{fair-block, fair-wraps}
 use Rattle.proved_sheets.proofs.Answers.{next-zeroed}
 use Rattle.proved_sheets.proofs.BlockSets.{next-set-ok}
 use Rattle.proved_sheets.proofs.Calls.{refused-laid}
+use Rattle.proved_demands.proofs.Eight.{reading-never-eight, merge-never-eight}
 use Rattle.proved_demands.specs.Demands.{Numbered, NoneIfRefused, NoSet, LeftAsStated, ByStandards, ByGrammar, LastCloseDropped, QuickTest, Lookahead, RowsZero, SetsWellFormed}
 
 -- ======== a refusal's number
 
 pub numbered : Numbered
-numbered = record { among = number-among; own = number-own; unused = eight-unused }
+numbered = record { among = number-among; own = number-own; unused = eight-unused; reading = reading-never-eight; merging = merge-never-eight }
 
 -- ======== "hands out no set"
 

@@ -62,6 +62,7 @@ use Rattle.proved_reading.specs.HandedSets.{FillFormed}
 use Rattle.proved_reading.specs.ByLines.{BlocksByRules, LineByRules, BlockByRules, RunByRules}
 use Rattle.proved_sheets.specs.Blocks.{NextSetOk}
 use Rattle.proved_sheets.specs.Calls.{refusedLays}
+use Rattle.proved_demands.specs.Eight.{ReadingNeverEight, MergeNeverEight}
 
 -- "exactly when"
 abbrev pub Iff : Type 0 → Type 0 → Type 0
@@ -85,8 +86,11 @@ SingleBoth v w r r′ m m′ = (r ≡ v) × (m ≡ w) → (r′ ≡ v) × (m′ 
 pub record Numbered : Type 0 where
   pub among : (r : Refusal) → (1 ≤ numberOf r) × (numberOf r ≤ lastNumber)
   pub own : (q r : Refusal) → numberOf q ≡ numberOf r → q ≡ r
-  -- "8 stays unused.": it was given by nothing (proved_sets/specs/Eight)
+  -- "8 stays unused."
   pub unused : (r : Refusal) → numberOf r ≡ 8 → ⊥
+  -- "Show over every reading and merge that 8 is never given" (document 02): of each public function by itself, in `Eight` beside this page
+  pub reading : ReadingNeverEight
+  pub merging : MergeNeverEight
 
 -- "hands out no set": where the outcome is a refusal, the set beside it is the empty one
 abbrev pub NoneIfRefused : Outcome → Attrs → Type 0
