@@ -50,15 +50,26 @@ told-5 buf a b c d e p q r s z = behind buf (a ∷ b ∷ c ∷ d ∷ []) e (told
 
 -- ---- a set written and told
 
+-- What writing and telling came to, with the number r, `o` in the memory lent for canonical text and `v` in that for numbers: the set a over the text t was written
+-- unless c refused it, and its length is the last of the numbers told.
+pub record Came (buf told : List ℕ) (c : Outcome) (t : List ℕ) (a : Attrs) (tell : ℕ → List ℕ) (r : ℕ) (o v : List ℕ) : Type 0 where
+  pub wrote : Wrote
+  pub len : ℕ
+  pub writes : wrote ≡ orRefused c (wroteOf (canon (meaningOf (one t) a)) (length buf))
+  pub out : o ≡ orLeft c buf (contentAfter buf (canon (meaningOf (one t) a)))
+  pub counts : len ≡ lenOf wrote
+  pub tells : v ≡ toldIn told (tell len)
+  pub number : r ≡ wrotePaper wrote .number
+
 module _ (buf told : List ℕ) where
   -- an answer as it is promised
   abbrev pub Says : Said → ℕ → List ℕ → List ℕ → Type 0
   Says s r o v = (r ≡ s .number) × ((o ≡ s .out) × (v ≡ toldIn told (s .told)))
 
-  -- what is written unless c refuses it, where c and the text t are the definition's d and u
-  pub set-said : (a : Attrs) (tell : ℕ → List ℕ) {c d : Outcome} {t u : List ℕ} {w : Wrote} {o v : List ℕ} {k r : ℕ} → c ≡ d → t ≡ u → w ≡ orRefused c (wroteOf (canon (meaningOf (one t) a)) (length buf)) → o ≡ orLeft c buf (contentAfter buf (canon (meaningOf (one t) a))) → k ≡ lenOf w → v ≡ toldIn told (tell k) → r ≡ wrotePaper w .number → Says (setSaid d u a buf tell) r o v
-  set-said a tell {c} {d} {t} {u} {w} {o} {v} {k} {r} e f p q l s n =
-      rw (← e, ← f) (n ∙ ap (λ x. wrotePaper x .number) p, (q, s ∙ ap (λ i. toldIn told (tell i)) (l ∙ ap lenOf p)))
+  -- it is that of the definition, whose outcome and text are d and u
+  pub set-said : {a : Attrs} {tell : ℕ → List ℕ} {c d : Outcome} {t u : List ℕ} {r : ℕ} {o v : List ℕ} → c ≡ d → t ≡ u → Came buf told c t a tell r o v → Says (setSaid d u a buf tell) r o v
+  set-said {tell = tell} e f k =
+      rw (← e, ← f) (k .number ∙ ap (λ x. wrotePaper x .number) (k .writes), (k .out, k .tells ∙ ap (λ i. toldIn told (tell i)) (k .counts ∙ ap lenOf (k .writes))))
 
 -- the number of what is written out: what is refused already, then 10
 pub out-no : (c : Outcome) (xs : List ℕ) (size : ℕ) → wrotePaper (orRefused c (wroteOf xs size)) ≡ onPaper (met c ++ roomOrder xs size) (length xs ∷ [])

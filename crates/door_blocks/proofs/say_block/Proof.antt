@@ -43,10 +43,18 @@ returns c =
     let at4 = c .before .before .before .before in let at8 = at4 .before .before .before .before in let at12 = at8 .before .before .before .before in
     let at16 = at12 .before .before .before .before in let at20 = at16 .before .before .before .before in let at24 = at20 .before .before .before .before in
     let at26 = at24 .before .before in let at31 = at26 .before .before .before .before .before in
-    set-said (at31 .args .out .now) (at31 .args .told .now) (at31 .args .block .set)
-    (λ n. (at31 .args .block .lines) ∷ (at31 .args .block .next) ∷ (at31 .args .block .lookahead) ∷ (at31 .args .block .joined) ∷ n ∷ []) {c = at31 .args .block .outcome} refl
-    (at26 .text-over .ensures) (at24 .write-out .ensures .0) (at24 .write-out .ensures .1 .0) (at4 .wrote-len .ensures)
-    (told-5 _ _ _ _ _ _ (at20 .tell .ensures) (at16 .tell2 .ensures) (at12 .tell3 .ensures) (at8 .tell4 .ensures) (c .before .before .before .tell5 .ensures)) (c .wrote-number .ensures)
+    set-said (at31 .args .out .now) (at31 .args .told .now) {a = at31 .args .block .set}
+    {tell = λ n. (at31 .args .block .lines) ∷ (at31 .args .block .next) ∷ (at31 .args .block .lookahead) ∷ (at31 .args .block .joined) ∷ n ∷ []}
+    {c = at31 .args .block .outcome} refl (at26 .text-over .ensures)
+    (record {
+      wrote = _;
+      len = _;
+      writes = at24 .write-out .ensures .0;
+      out = at24 .write-out .ensures .1 .0;
+      counts = at4 .wrote-len .ensures;
+      tells = told-5 _ _ _ _ _ _ (at20 .tell .ensures) (at16 .tell2 .ensures) (at12 .tell3 .ensures) (at8 .tell4 .ensures) (c .before .before .before .tell5 .ensures);
+      number = c .wrote-number .ensures;
+    })
 
 pub say-block-spec : {M : Type 1} → statement M
 say-block-spec =

@@ -1,4 +1,3 @@
-use mathlib.Core.Path.{refl}
 use Rattle.door_shared.proofs.Laws.{told-2}
 use Rattle.door_sets.proofs.Said as laws
 use borrow.Author.Needs.{needs}
@@ -48,9 +47,17 @@ returns : tie.Need-returns
 returns c =
     let at4 = c .before .before .before .before in let at8 = at4 .before .before .before .before in let at9 = at8 .before in let at13 = at9 .before .before .before .before in
     let at15 = at13 .before .before in let at16 = at15 .before in let at17 = at16 .before in let at18 = at17 .before in let at19 = at18 .before in
-    laws.merge-said _ _ _ _ _ (at19 .parse-standalone-attrs .ensures .0) (at18 .parse-standalone-attrs2 .ensures .0) (at17 .merge-attrs .ensures .0) refl refl refl (at16 .first-of .ensures)
-    (at15 .first-of2 .ensures) (at13 .write-out .ensures .0) (at13 .write-out .ensures .1 .0) (at9 .step-of .ensures) (at4 .wrote-len .ensures)
-    (told-2 _ _ _ (at8 .tell .ensures) (c .before .before .before .tell2 .ensures)) (c .wrote-number .ensures)
+    laws.merge-said _ _ _ _ _ (at19 .parse-standalone-attrs .ensures .0) (at18 .parse-standalone-attrs2 .ensures .0) (at17 .merge-attrs .ensures .0) (at16 .first-of .ensures)
+    (at15 .first-of2 .ensures) (at9 .step-of .ensures)
+    (record {
+      wrote = _;
+      len = _;
+      writes = at13 .write-out .ensures .0;
+      out = at13 .write-out .ensures .1 .0;
+      counts = at4 .wrote-len .ensures;
+      tells = told-2 _ _ _ (at8 .tell .ensures) (c .before .before .before .tell2 .ensures);
+      number = c .wrote-number .ensures;
+    })
 
 pub bridlesnow-merge-lines-spec : {M : Type 1} → statement M
 bridlesnow-merge-lines-spec =

@@ -1,4 +1,3 @@
-use mathlib.Core.Path.{refl}
 use Rattle.door_shared.proofs.Laws.{told-1}
 use Rattle.door_sets.proofs.Said as laws
 use borrow.Author.Needs.{needs}
@@ -29,7 +28,16 @@ same-length-2 c = search needs
 returns : tie.Need-returns
 returns c =
     let at4 = c .before .before .before .before in let at8 = at4 .before .before .before .before in let at10 = at8 .before .before in
-    laws.line-said _ _ _ _ (at10 .parse-standalone-attrs .ensures .0) refl (at8 .write-out .ensures .0) (at8 .write-out .ensures .1 .0) (at4 .wrote-len .ensures) (told-1 _ _ (c .before .before .before .tell .ensures)) (c .wrote-number .ensures)
+    laws.line-said _ _ _ _ (at10 .parse-standalone-attrs .ensures .0)
+    (record {
+      wrote = _;
+      len = _;
+      writes = at8 .write-out .ensures .0;
+      out = at8 .write-out .ensures .1 .0;
+      counts = at4 .wrote-len .ensures;
+      tells = told-1 _ _ (c .before .before .before .tell .ensures);
+      number = c .wrote-number .ensures;
+    })
 
 pub bridlesnow-parse-standalone-attrs-spec : {M : Type 1} → statement M
 bridlesnow-parse-standalone-attrs-spec =

@@ -44,7 +44,16 @@ returns : tie.Need-returns
 returns c =
     let at4 = c .before .before .before .before in let at8 = at4 .before .before .before .before in let at9 = at8 .before in let at13 = at9 .before .before .before .before in
     let at15 = at13 .before .before in let at16 = at15 .before in let at17 = at16 .before in let at18 = at17 .before in
-    laws.brace-said _ _ _ _ (at18 .mode-of .ensures) (at17 .read-attrs-at-with .ensures .0) (at16 .check-by .ensures) (at15 .or-text .ensures) (at13 .write-out .ensures .0) (at13 .write-out .ensures .1 .0) (at9 .next-of .ensures) (at4 .wrote-len .ensures) (told-2 _ _ _ (at8 .tell .ensures) (c .before .before .before .tell2 .ensures)) (c .wrote-number .ensures)
+    laws.brace-said _ _ _ _ (at18 .mode-of .ensures) (at17 .read-attrs-at-with .ensures .0) (at16 .check-by .ensures) (at15 .or-text .ensures) (at9 .next-of .ensures)
+    (record {
+      wrote = _;
+      len = _;
+      writes = at13 .write-out .ensures .0;
+      out = at13 .write-out .ensures .1 .0;
+      counts = at4 .wrote-len .ensures;
+      tells = told-2 _ _ _ (at8 .tell .ensures) (c .before .before .before .tell2 .ensures);
+      number = c .wrote-number .ensures;
+    })
 
 pub bridlesnow-read-attrs-at-spec : {M : Type 1} → statement M
 bridlesnow-read-attrs-at-spec =
