@@ -4,7 +4,7 @@ use mathlib.Core.Bool.{Bool, true, cond, _&&_}
 use mathlib.Core.List.{List, [], _∷_, _++_}
 use lib.Dec.{eqb, leb, ltb}
 use lib.ListN.{length, getD}
-use Rattle.base_refusals.specs.Numbers.{maxText, tooLong, numberOf}
+use Rattle.base_refusals.specs.Numbers.{maxText, tooLong, Paper, refusedPaper, passedPaper}
 use Rattle.base_refusals.specs.Orders.{Ground, inOrder}
 use Rattle.base_refusals.specs.declared.Refusal.{Refusal}
 use Rattle.base_refusals.specs.declared.Refusal.the-variants.{TextTooLong, NothingThere, JoinFull, CanonTooLong}
@@ -18,11 +18,14 @@ use Rattle.sheet_report.specs.declared.Part.{Part}
 use Rattle.sheet_report.specs.Report.{blockLine, refusedLine}
 use Rattle.base_bytes.specs.Bytes.{lf}
 
--- the number of an answer: 0 unless it is a refusal
+-- on paper: the number of a refusal; else whether the report goes on, yes and no as 1 and 0
+abbrev pub toldPaper : Told → Paper
+toldPaper (Refused r) = refusedPaper r
+toldPaper More = passedPaper (1 ∷ [])
+toldPaper Done = passedPaper (0 ∷ [])
+
 abbrev pub toldNo : Told → ℕ
-toldNo (Refused r) = numberOf r
-toldNo More = 0
-toldNo Done = 0
+toldNo a = toldPaper a .number
 
 -- No line of a report is longer (`line-le` of proofs/Laying.antt): where so many bytes are free, the next line has room, whatever it says. It is `maxText` for the canonical text and
 -- 65 for the rest: the word (5 bytes), two numbers of at most 20 digits, three tabs and the LF take 49 of them. The line of a refusal is far shorter.
@@ -58,6 +61,10 @@ tryLine t x = cond (isBlock (x .found)) (blockLine t x) []
 unfoldable pub layFrom : List ℕ → ℕ → List Try → Laid
 layFrom t room [] = laidNone Done
 layFrom t room (x ∷ xs) = cond (ltb room maxLine) (stopped x) (laidBehind (x ∷ []) (tryLine t x) (layFrom t (room - length (tryLine t x)) xs))
+
+-- it goes on where it went past fewer tries than there are
+abbrev pub goesOn : List ℕ → ℕ → List Try → List ℕ
+goesOn t room xs = cond (ltb (length (layFrom t room xs .past)) (length xs)) 1 0 ∷ []
 
 -- ---- the two entries
 
