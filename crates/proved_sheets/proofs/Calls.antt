@@ -9,10 +9,11 @@ use borrow.Author.Tests.{ltb-true, ltb-false, le-ltb}
 use lib.Dec.{ltb}
 use lib.ListN.{length, drop, length-append}
 use lib.Seq.{take-append-seam}
+use Rattle.base_lists.proofs.More.{contra}
 use Rattle.text_utf8.specs.Computed.{isUtf8}
 use Rattle.base_refusals.specs.Numbers.{maxText}
 use Rattle.base_refusals.specs.declared.Refusal.the-variants.{TextTooLong, NotUtf8, JoinFull, NothingThere, CanonTooLong}
-use Rattle.text_checks.specs.Check.{checkOf}
+use Rattle.text_checks.specs.Check.{checkOf, isText}
 use Rattle.text_checks.proofs.Texts.{passed, refused}
 use Rattle.base_refusals.specs.declared.Outcome as outcomes
 use Rattle.base_refusals.specs.declared.Outcome.the-variants as outcome
@@ -256,16 +257,20 @@ all-end t lend = let g = first-goes t lend in (g .rest, calls-end t lend (length
 
 pub at-once : AtOnce
 unfolding startOf report
-at-once t lent h = go (checkOf t) refl h
+at-once t lent h = let w = go (checkOf t) refl h in record { last = w .0; text = w .1 .0; done = w .1 .1 }
   where
     size : ℕ
     size = length (lent .out)
 
-    go : (c : outcomes.Outcome) → checkOf t ≡ c → length (reportBy t c) + maxLine ≤ size → NoMore (startBy t (length (lent .join)) size c .told) × (startBy t (length (lent .join)) size c .text ≡ reportBy t c)
-    go (outcome.Refused r) e h = rw (le-ltb size maxLine (lent .lines)) (λ m. let z : _≡_ {A = ℕ} 0 1 = cc in absurd (omega arith), refl)
+    R : outcomes.Outcome → Laid
+    R c = startBy t (length (lent .join)) size c
+
+    go : (c : outcomes.Outcome) → checkOf t ≡ c → length (reportBy t c) + maxLine ≤ size → NoMore (R c .told) × ((R c .text ≡ reportBy t c) × (isText t ≡ true → R c .told ≡ Done))
+    go (outcome.Refused r) e h =
+        rw (le-ltb size maxLine (lent .lines)) (λ m. let z : _≡_ {A = ℕ} 0 1 = cc in absurd (omega arith), (refl, λ g. contra (isText t) g (sym (refused t (sym e) refl))))
     go outcome.Passed e h =
         let k = check-fits t e in
         let b = blocks-are t maxText k k in
         let w = one-call t size (triesAt t maxText 1 0) (rw b at h) in
         rw (part-lays t 0 1 (length (lent .join)) size k (lent .joins) (begins-at t 0 1 (omega arith) (omega arith) (omega arith) refl) (lent .lines))
-        (λ m. let d = w .0 in let z : _≡_ {A = ℕ} 0 1 = cc in absurd (omega arith), lay-text t size (triesAt t maxText 1 0) ∙ rw (w .1, b))
+        (λ m. let d = w .0 in let z : _≡_ {A = ℕ} 0 1 = cc in absurd (omega arith), (lay-text t size (triesAt t maxText 1 0) ∙ rw (w .1, b), λ g. w .0))

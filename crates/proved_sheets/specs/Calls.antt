@@ -11,7 +11,7 @@ use Rattle.base_refusals.specs.declared.Refusal.{Refusal}
 use Rattle.text_checks.specs.Check.{isText}
 use Rattle.sheet_blocks.specs.Sheets.{triesAt, onlyBlocks}
 use Rattle.sheet_report.specs.declared.Told.{Told}
-use Rattle.sheet_report.specs.declared.Told.the-variants.{Refused, More}
+use Rattle.sheet_report.specs.declared.Told.the-variants.{Refused, More, Done}
 use Rattle.sheet_report.specs.declared.Part.{Part}
 use Rattle.sheet_report.specs.Report.{refusedLine, reportOf, report}
 use Rattle.sheet_report.specs.Parts.{maxLine, Laid, beginsLine, partOf, startOf, shownPart}
@@ -85,7 +85,11 @@ AllLaid = (t : List ℕ) (lend : ℕ → Lent) (xs : List ℕ) → Calls t lend 
 abbrev pub AllEnd : Type 0
 AllEnd = (t : List ℕ) (lend : ℕ → Lent) → (xs : List ℕ) × Calls t lend 1 (shownPart (firstCall t lend)) xs
 
--- one call lays all of it, where there is room for the report and one line more
+-- one call lays all of it, where there is room for the report and one line more; of a text that gives neither 1 nor 2 it says that this is all
+pub record Whole (t : List ℕ) (R : Laid) : Type 0 where
+  pub last : NoMore (R .told)
+  pub text : R .text ≡ report t
+  pub done : isText t ≡ true → R .told ≡ Done
+
 abbrev pub AtOnce : Type 0
-AtOnce = (t : List ℕ) (lent : Lent) → length (report t) + maxLine ≤ length (lent .out)
-    → NoMore (startOf t (length (lent .join)) (length (lent .out)) .told) × (startOf t (length (lent .join)) (length (lent .out)) .text ≡ report t)
+AtOnce = (t : List ℕ) (lent : Lent) → length (report t) + maxLine ≤ length (lent .out) → Whole t (startOf t (length (lent .join)) (length (lent .out)))
