@@ -106,8 +106,8 @@ byLine cap so l held broken full ends goes =
     cond (mayJoin so l) (cond (isFull cap so l) full (cond (isClosing (l .line) held) (ends (after so l)) (goes (after so l)))) broken
 
 -- "9 or 5 as the run meets them": 5 where the line may not be joined, 9 where it doesn't fit
-abbrev pub lineOrder : ℕ → So → Lined → List Ground
-lineOrder cap so l = Ground.lacking NoReading (mayJoin so l) ∷ Ground.given JoinFull (isFull cap so l) ∷ []
+abbrev pub byLineOrder : ℕ → So → Lined → List Ground
+byLineOrder cap so l = Ground.lacking NoReading (mayJoin so l) ∷ Ground.given JoinFull (isFull cap so l) ∷ []
 
 -- ---- the state that is kept of a run
 
@@ -152,7 +152,7 @@ effectPaper (Go st) = passedPaper (0 ∷ st .len ∷ [])
 effectPaper (Closes st) = passedPaper (1 ∷ st .len ∷ [])
 
 abbrev pub joinOrder : List ℕ → State → ℕ → List ℕ → List Ground
-joinOrder buf st pad l = lineOrder (length buf) (runIn buf st) (atPad pad l)
+joinOrder buf st pad l = byLineOrder (length buf) (runIn buf st) (atPad pad l)
 
 abbrev pub joinValues : List ℕ → State → ℕ → List ℕ → List ℕ
 joinValues buf st pad l = cond (isClosing l (isHeld (holdAfter buf st l))) 1 0 ∷ length (after (runIn buf st) (atPad pad l) .text) ∷ []

@@ -10,7 +10,7 @@ use Rattle.base_refusals.specs.Orders.{Ground}
 use Rattle.base_refusals.specs.declared.Refusal.the-variants.{NoReading, JoinFull}
 use Rattle.base_refusals.specs.declared.Outcome.{Outcome}
 use Rattle.base_refusals.specs.declared.Outcome.the-variants.{Passed, Refused}
-use Rattle.run_joins.specs.Joins.{Lined, atPad, So, after, isClosing, byLine, lineOrder}
+use Rattle.run_joins.specs.Joins.{Lined, atPad, So, after, isClosing, byLine, byLineOrder}
 use Rattle.run_lines.specs.declared.Joined.{Joined}
 
 -- ---- a run
@@ -50,7 +50,7 @@ runAt cap base t at = runOf cap base (map asIs (lines (drop at t)))
 -- line by line, and 5 where none is left
 unfoldable pub orderFrom : ℕ → So → List Lined → List Ground
 orderFrom cap so [] = Ground.given NoReading true ∷ []
-orderFrom cap so (l ∷ ls) = lineOrder cap so l ++ cond (isClosing (l .line) (holdsOpen (after so l .text))) [] (orderFrom cap (after so l) ls)
+orderFrom cap so (l ∷ ls) = byLineOrder cap so l ++ cond (isClosing (l .line) (holdsOpen (after so l .text))) [] (orderFrom cap (after so l) ls)
 
 abbrev pub runOrder : ℕ → ℕ → List ℕ → ℕ → List Ground
 runOrder cap base t at = orderFrom cap (start base) (map asIs (lines (drop at t)))

@@ -19,7 +19,7 @@ use Rattle.base_refusals.proofs.Orders.{paper-by, paper-where, order-short}
 use Rattle.sheet_blocks.specs.Sheets.{Try, triesAt, joinBehind}
 use Rattle.sheet_report.specs.declared.Told.the-variants.{Refused}
 use Rattle.sheet_report.specs.declared.Part.{Part}
-use Rattle.sheet_report.specs.Parts.{toldPaper, maxLine, Laid, laidNone, shownPart, stopped, laidBehind, tryLine, layFrom, goesOn, partOf, startBy, startOf, partOrder, startOrder}
+use Rattle.sheet_report.specs.Parts.{toldPaper, maxLine, Laid, laidNone, shownPart, stopped, laidBehind, tryLine, layFrom, moreToTell, partOf, startBy, startOf, partOrder, startOrder}
 use Rattle.sheet_report.proofs.Lays.{Tells}
 use Rattle.sheet_report.proofs.Entries.{begins-is}
 
@@ -31,7 +31,7 @@ one-more a b = go (ltb a b) refl
     go false e = le-ltb (suc a) (suc b) (omega (arith, ltb-false a b e))
 
 -- what is laid is no refusal, and it goes on where it stopped before a try
-lay-paper : (t : List ℕ) (room : ℕ) (xs : List Try) → toldPaper (layFrom t room xs .told) ≡ passedPaper (goesOn t room xs)
+lay-paper : (t : List ℕ) (room : ℕ) (xs : List Try) → toldPaper (layFrom t room xs .told) ≡ passedPaper (moreToTell t room xs)
 unfolding layFrom
 lay-paper t room [] = refl
 lay-paper t room (x ∷ xs) = go (ltb room maxLine) (lay-paper t (room - length (tryLine t x)) xs)
@@ -42,19 +42,19 @@ lay-paper t room (x ∷ xs) = go (ltb room maxLine) (lay-paper t (room - length 
     S : Bool → Laid
     S b = cond b (stopped x) (laidBehind (x ∷ []) (tryLine t x) R)
 
-    go : (b : Bool) → toldPaper (R .told) ≡ passedPaper (goesOn t (room - length (tryLine t x)) xs) → toldPaper (S b .told) ≡ passedPaper (cond (ltb (length (S b .past)) (suc (length xs))) 1 0 ∷ [])
+    go : (b : Bool) → toldPaper (R .told) ≡ passedPaper (moreToTell t (room - length (tryLine t x)) xs) → toldPaper (S b .told) ≡ passedPaper (cond (ltb (length (S b .past)) (suc (length xs))) 1 0 ∷ [])
     go true ih = ap (λ l. passedPaper (cond l 1 0 ∷ [])) (sym (lt-ltb 0 (suc (length xs)) (omega arith)))
     go false ih = ih ∙ ap (λ l. passedPaper (cond l 1 0 ∷ [])) (sym (one-more (length (R .past)) (length xs)))
 
-pub part-paper : (t : List ℕ) (at n cap size : ℕ) → toldPaper (partOf t at n cap size .told) ≡ onPaper (partOrder t at n cap size) (goesOn t size (triesAt t maxText n at))
+pub part-paper : (t : List ℕ) (at n cap size : ℕ) → toldPaper (partOf t at n cap size .told) ≡ onPaper (partOrder t at n cap size) (moreToTell t size (triesAt t maxText n at))
 unfolding partOf onPaper
 part-paper t at n cap size =
-    paper-by (λ x. toldPaper (x .told)) (λ r. laidNone (Refused r)) (goesOn t size (triesAt t maxText n at)) (λ r. refl) (partOrder t at n cap size) [] (lay-paper t size (triesAt t maxText n at))
+    paper-by (λ x. toldPaper (x .told)) (λ r. laidNone (Refused r)) (moreToTell t size (triesAt t maxText n at)) (λ r. refl) (partOrder t at n cap size) [] (lay-paper t size (triesAt t maxText n at))
 
-pub start-paper : (t : List ℕ) (cap size : ℕ) → toldPaper (startOf t cap size .told) ≡ onPaper (startOrder t cap size) (goesOn t size (triesAt t maxText 1 0))
+pub start-paper : (t : List ℕ) (cap size : ℕ) → toldPaper (startOf t cap size .told) ≡ onPaper (startOrder t cap size) (moreToTell t size (triesAt t maxText 1 0))
 unfolding startOf checkOf onPaper
 start-paper t cap size =
-    paper-where (λ o. toldPaper (startBy t cap size o .told)) outcome.Refused (goesOn t size (triesAt t maxText 1 0)) (λ r. refl) (textOrder t)
+    paper-where (λ o. toldPaper (startBy t cap size o .told)) outcome.Refused (moreToTell t size (triesAt t maxText 1 0)) (λ r. refl) (textOrder t)
     (Ground.given JoinFull (ltb cap maxText) ∷ Ground.given CanonTooLong (ltb size maxLine) ∷ [])
     (λ e. rw (le-ltb maxText (length t) (order-short t (Ground.lacking NotUtf8 (isUtf8 t) ∷ []) e), sym (begins-is t 0 1 {r = true} (omega arith) (λ z. omega arith) (omega arith) refl)) at (part-paper t 0 1 cap size))
 
@@ -67,11 +67,11 @@ module _ (join₀ out₀ : List ℕ) {p : Part} {join out : List ℕ} where
     pub part-said : (at n : ℕ) → Tells join₀ out₀ (partOf t at n (length join₀) (length out₀)) p join out
         → (p ≡ shownPart (partOf t at n (length join₀) (length out₀))) × ((join ≡ joinBehind join₀ (partOf t at n (length join₀) (length out₀) .past))
         × ((out ≡ over (partOf t at n (length join₀) (length out₀) .text) out₀)
-        × (toldPaper (p .told) ≡ onPaper (partOrder t at n (length join₀) (length out₀)) (goesOn t (length out₀) (triesAt t maxText n at)))))
+        × (toldPaper (p .told) ≡ onPaper (partOrder t at n (length join₀) (length out₀)) (moreToTell t (length out₀) (triesAt t maxText n at)))))
     part-said at n = said (partOf t at n (length join₀) (length out₀)) (part-paper t at n (length join₀) (length out₀))
 
     pub start-said : Tells join₀ out₀ (startOf t (length join₀) (length out₀)) p join out
         → (p ≡ shownPart (startOf t (length join₀) (length out₀))) × ((join ≡ joinBehind join₀ (startOf t (length join₀) (length out₀) .past))
         × ((out ≡ over (startOf t (length join₀) (length out₀) .text) out₀)
-        × (toldPaper (p .told) ≡ onPaper (startOrder t (length join₀) (length out₀)) (goesOn t (length out₀) (triesAt t maxText 1 0)))))
+        × (toldPaper (p .told) ≡ onPaper (startOrder t (length join₀) (length out₀)) (moreToTell t (length out₀) (triesAt t maxText 1 0)))))
     start-said = said (startOf t (length join₀) (length out₀)) (start-paper t (length join₀) (length out₀))

@@ -63,8 +63,8 @@ layFrom t room [] = laidNone Done
 layFrom t room (x ∷ xs) = cond (ltb room maxLine) (stopped x) (laidBehind (x ∷ []) (tryLine t x) (layFrom t (room - length (tryLine t x)) xs))
 
 -- it goes on where it went past fewer tries than there are
-abbrev pub goesOn : List ℕ → ℕ → List Try → List ℕ
-goesOn t room xs = cond (ltb (length (layFrom t room xs .past)) (length xs)) 1 0 ∷ []
+abbrev pub moreToTell : List ℕ → ℕ → List Try → List ℕ
+moreToTell t room xs = cond (ltb (length (layFrom t room xs .past)) (length xs)) 1 0 ∷ []
 
 -- ---- the two entries
 

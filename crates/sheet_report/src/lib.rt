@@ -19,7 +19,7 @@ ghost use Rattle.sheet_blocks.specs.Sheets.{triesAt, joinBehind};
 ghost use Rattle.sheet_report.specs.declared.Told.the-variants.{Refused, More, Done};
 ghost use Rattle.sheet_report.specs.Decimal.{decimal};
 ghost use Rattle.sheet_report.specs.Report.{refusedLine, canonLine, lineBy};
-ghost use Rattle.sheet_report.specs.Parts.{toldPaper, maxLine, layFrom, goesOn, beginsLine, mayBegin, partOrder, partOf, refusal, startOf, startOrder, shownPart};
+ghost use Rattle.sheet_report.specs.Parts.{toldPaper, maxLine, layFrom, moreToTell, beginsLine, mayBegin, partOrder, partOf, refusal, startOf, startOrder, shownPart};
 ghost use Rattle.sheet_report.specs.Inner.{PutAt, lineFront, putShort};
 ghost use Rattle.base_bytes.specs.Bytes.{tab};
 
@@ -221,7 +221,7 @@ pub fn report_part(text: &[u8], at: usize, line: usize, join: &mut [u8], out: &m
     ensures { λ r. ⌜ r ≡ shownPart (partOf (now (text .entry)) at line (length (now (join .entry))) (length (now (out .entry)))) ⌝ }
     ensures { λ r. ⌜ now (join .exit) ≡ joinBehind (now (join .entry)) (partOf (now (text .entry)) at line (length (now (join .entry))) (length (now (out .entry))) .past) ⌝ }
     ensures { λ r. ⌜ now (out .exit) ≡ over (partOf (now (text .entry)) at line (length (now (join .entry))) (length (now (out .entry))) .text) (now (out .entry)) ⌝ }
-    ensures { λ r. ⌜ toldPaper (r .told) ≡ onPaper (partOrder (now (text .entry)) at line (length (now (join .entry))) (length (now (out .entry)))) (goesOn (now (text .entry)) (length (now (out .entry))) (triesAt (now (text .entry)) maxText line at)) ⌝ }
+    ensures { λ r. ⌜ toldPaper (r .told) ≡ onPaper (partOrder (now (text .entry)) at line (length (now (join .entry))) (length (now (out .entry)))) (moreToTell (now (text .entry)) (length (now (out .entry))) (triesAt (now (text .entry)) maxText line at)) ⌝ }
 {
     if base_refusals::MAX_TEXT < text.len() {
         return refused(Refusal::TextTooLong, 0);
@@ -254,7 +254,7 @@ pub fn report_start(text: &[u8], join: &mut [u8], out: &mut [u8]) -> Part
     ensures { λ r. ⌜ r ≡ shownPart (startOf (now (text .entry)) (length (now (join .entry))) (length (now (out .entry)))) ⌝ }
     ensures { λ r. ⌜ now (join .exit) ≡ joinBehind (now (join .entry)) (startOf (now (text .entry)) (length (now (join .entry))) (length (now (out .entry))) .past) ⌝ }
     ensures { λ r. ⌜ now (out .exit) ≡ over (startOf (now (text .entry)) (length (now (join .entry))) (length (now (out .entry))) .text) (now (out .entry)) ⌝ }
-    ensures { λ r. ⌜ toldPaper (r .told) ≡ onPaper (startOrder (now (text .entry)) (length (now (join .entry))) (length (now (out .entry)))) (goesOn (now (text .entry)) (length (now (out .entry))) (triesAt (now (text .entry)) maxText 1 0)) ⌝ }
+    ensures { λ r. ⌜ toldPaper (r .told) ≡ onPaper (startOrder (now (text .entry)) (length (now (join .entry))) (length (now (out .entry)))) (moreToTell (now (text .entry)) (length (now (out .entry))) (triesAt (now (text .entry)) maxText 1 0)) ⌝ }
 {
     match text_checks::check_text(text) {
         Outcome::Refused(why) => lay_refusal(why, out),
