@@ -32,6 +32,7 @@ int main(void)
     EXPECT(bridlesnow_parse_standalone_attrs_block(NULL, 0, 1, NULL, 0, NULL, 0, NULL, 0) == 3);
     EXPECT(bridlesnow_wrapped_attrs_run_at(NULL, 0, 1, SIZE_MAX, NULL, 0, NULL, 0, NULL, 0) == 3);
     EXPECT(bridlesnow_read_block_at(NULL, 0, SIZE_MAX, NULL, 0, NULL, 0, NULL, 0) == 3);
+    EXPECT(bridlesnow_merge_blocks(NULL, 0, 1, 2, NULL, 0, NULL, 0, NULL, 0, NULL, 0) == 3);
     EXPECT(bridlesnow_standalone_attrs_block_len(NULL, 0, 1, NULL, 0, NULL, 0) == 3);
     EXPECT(bridlesnow_indented_wrapped_attrs_block_len(NULL, 0, 1, NULL, 0, NULL, 0) == 3);
     EXPECT(bridlesnow_attrs_block_len_at(NULL, 0, 1, SIZE_MAX, NULL, 0, NULL, 0) == 3);
@@ -57,6 +58,30 @@ int main(void)
     EXPECT(told[0] == 0 && told[1] == 0 && told[2] == 2 && told[3] == 2 && memcmp(join, "{a\7\7", 4) == 0);
     EXPECT(bridlesnow_standalone_attrs_block_len(wrapped, 6, 1, join, 5, told, 4) == 0);
     EXPECT(told[0] == 2 && told[1] == 6 && told[2] == 5 && told[3] == 5 && memcmp(join, "{a b}\7", 6) == 0);
+
+    /* Two blocks, each with its own buffer: what is told of both, and what stands in each buffer afterwards. */
+    static const uint8_t sheet[] = "{.a}\n{b\n c}\n{d\n e}\nno\n{f\n";
+    uint8_t other_join[8], merged[24];
+    memset(join, 7, sizeof join);
+    memset(other_join, 8, sizeof other_join);
+    memset(merged, 9, sizeof merged);
+    EXPECT(bridlesnow_merge_blocks(sheet, 24, 1, 2, NULL, 0, other_join, 5, merged, 21, told, 4) == 0);
+    EXPECT(told[0] == 0 && told[1] == 21 && told[2] == 1 && told[3] == 2);
+    EXPECT(memcmp(merged, "{class=\"a\" b=\"\" c=\"\"}\11", 22) == 0 && memcmp(other_join, "{b c}\10", 6) == 0);
+    EXPECT(bridlesnow_merge_blocks(sheet, 24, 2, 4, join, 8, other_join, 8, merged, 24, told, 4) == 0);
+    EXPECT(told[0] == 0 && told[1] == 21 && told[2] == 2 && told[3] == 2);
+    EXPECT(memcmp(merged, "{b=\"\" c=\"\" d=\"\" e=\"\"}", 21) == 0 && memcmp(join, "{b c}\7", 6) == 0 && memcmp(other_join, "{d e}\10", 6) == 0);
+    memset(merged, 9, sizeof merged);
+    memset(join, 7, sizeof join);
+    memset(other_join, 8, sizeof other_join);
+    EXPECT(bridlesnow_merge_blocks(sheet, 24, 6, 2, join, 8, other_join, 8, merged, 24, told, 4) == 3);
+    EXPECT(told[0] == 1 && told[1] == 0 && told[2] == 0 && told[3] == 2 && join[0] == 7 && memcmp(other_join, "{b c}\10", 6) == 0);
+    EXPECT(bridlesnow_merge_blocks(sheet, 24, 2, 7, join, 8, other_join, 8, merged, 24, told, 4) == 5);
+    EXPECT(told[0] == 2 && told[1] == 0 && told[2] == 2 && told[3] == 0 && memcmp(join, "{b c}\7", 6) == 0 && memcmp(other_join, "{f", 2) == 0);
+    EXPECT(bridlesnow_merge_blocks(sheet, 24, 2, 4, join, 8, other_join, 4, merged, 24, told, 4) == 9);
+    EXPECT(told[0] == 2 && told[2] == 2 && told[3] == 0 && memcmp(other_join, "{d", 2) == 0);
+    EXPECT(bridlesnow_merge_blocks(sheet, 24, 2, 4, join, 8, other_join, 8, merged, 20, told, 4) == 10);
+    EXPECT(told[0] == 3 && told[1] == 0 && told[2] == 2 && told[3] == 2 && merged[0] == 9);
 
     static uint8_t lines[BRIDLESNOW_MAX], report[BRIDLESNOW_LINE];
     EXPECT(bridlesnow_report_start(block, 4, lines, sizeof lines - 1, report, sizeof report, told, 3) == 9);

@@ -17,9 +17,9 @@
  * comment gives: as many as `told_len` has room for, the rest of it untouched. So a caller who wants none passes NULL and 0. They are told on a
  * refusal too; the length of the canonical text is 0 where none is written, so 10 doesn't tell how much is needed.
  *
- * What the caller owes: each pointer with a length other than 0 points to that many elements, and memory that a call writes (`join`, `out`, `told`)
- * overlaps no other memory of that call. A pointer with length 0 may be NULL. Any other argument gets an answer: a place or a line that isn't
- * there is 3 (for a refused run: no), a buffer too short is 9 or 10.
+ * What the caller owes: each pointer with a length other than 0 points to that many elements, and memory that a call writes (`join`, `other_join`,
+ * `out`, `told`) overlaps no other memory of that call. A pointer with length 0 may be NULL. Any other argument gets an answer: a place or a line
+ * that isn't there is 3 (for a refused run: no), a buffer too short is 9 or 10.
  *
  * Lines end at LF, a CR before it is dropped, and are counted from 1. `join` is where the lines of a wrapped block are joined; 65,535 bytes are
  * enough for any text.
@@ -88,6 +88,15 @@ uint8_t bridlesnow_wrapped_attrs_run_at(const uint8_t *text, size_t text_len, si
 uint8_t bridlesnow_read_block_at(const uint8_t *text, size_t text_len, size_t at,
                                  uint8_t *join, size_t join_len,
                                  uint8_t *out, size_t out_len, size_t *told, size_t told_len);
+
+/* Merges the blocks of one or more lines that begin at two lines: what the variant's block says wins over the common one. The lines of the common
+ * block are joined in `join`, those of the variant's in `other_join`; a block on one line needs none. Order: the numbers of the common block, those of
+ * the variant's, 6 and 7 of the merge, 10. The variant's block is read also where the common one is refused.
+ * Tells: which step refuses (1 the common block, 2 the variant's, 3 the merge or 10, 0 none); the length of the canonical text; the lines of the
+ * common block and those of the variant's, each as bridlesnow_parse_standalone_attrs_block tells them. */
+uint8_t bridlesnow_merge_blocks(const uint8_t *text, size_t text_len, size_t common, size_t variant,
+                                uint8_t *join, size_t join_len, uint8_t *other_join, size_t other_join_len,
+                                uint8_t *out, size_t out_len, size_t *told, size_t told_len);
 
 /* Measures the block at a line: one that isn't indented; a wrapped one, whatever its indentation; one whose line stands in a column.
  * Order: 1, 2, 3, then 9 or 5 as its lines are met.

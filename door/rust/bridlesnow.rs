@@ -6,7 +6,7 @@
 //! rustc -O --crate-type rlib door/rust/bridlesnow.rs -L target/door -l static=door
 //! ```
 //!
-//! A [`Reader`] owns the memory that the calls are lent, 128 KB, and hands out canonical text as a part of it. What the functions answer is proved;
+//! A [`Reader`] owns the memory that the calls are lent, 192 KB, and hands out canonical text as a part of it. What the functions answer is proved;
 //! that this file passes pointers, lengths and numbers on in the right order is not, and is tested below.
 
 use std::fmt;
@@ -47,6 +47,11 @@ mod raw {
         ) -> u8;
         pub fn bridlesnow_read_block_at(
             text: *const u8, len: usize, at: usize, join: *mut u8, join_len: usize,
+            out: *mut u8, out_len: usize, told: *mut usize, told_len: usize,
+        ) -> u8;
+        pub fn bridlesnow_merge_blocks(
+            text: *const u8, len: usize, common: usize, variant: usize,
+            join: *mut u8, join_len: usize, other_join: *mut u8, other_join_len: usize,
             out: *mut u8, out_len: usize, told: *mut usize, told_len: usize,
         ) -> u8;
         pub fn bridlesnow_standalone_attrs_block_len(
@@ -167,6 +172,7 @@ pub enum BraceRun {
 /// Memory for the calls, to be used again and again.
 pub struct Reader {
     join: Vec<u8>,
+    other_join: Vec<u8>,
     out: Vec<u8>,
 }
 
@@ -182,9 +188,9 @@ impl Reader {
         Self::with_room(MAX, LINE)
     }
 
-    /// With `join` bytes to join lines in and `out` bytes for canonical text: what doesn't fit is refused by 9 or 10.
+    /// With `join` bytes to join the lines of each block in and `out` bytes for canonical text: what doesn't fit is refused by 9 or 10.
     pub fn with_room(join: usize, out: usize) -> Self {
-        Reader { join: vec![0; join], out: vec![0; out] }
+        Reader { join: vec![0; join], other_join: vec![0; join], out: vec![0; out] }
     }
 
     /// The first `len` bytes that were written. Canonical text over UTF-8 is UTF-8; where the bytes that were read aren't, it is refused by 2 here.
@@ -276,6 +282,22 @@ impl Reader {
             )
         };
         self.block(number, told)
+    }
+
+    /// The blocks of one or more lines at two lines made into one: what the variant's block says wins. Answers the lines of both; the number with a
+    /// refusal says where: 1 the common block, 2 the variant's, 3 the merge or its writing.
+    pub fn merge_blocks(&mut self, text: &[u8], common: usize, variant: usize) -> Result<(usize, usize, &str), (Refusal, usize)> {
+        let mut told = [0usize; 4];
+        let number = unsafe {
+            raw::bridlesnow_merge_blocks(
+                text.as_ptr(), text.len(), common, variant,
+                self.join.as_mut_ptr(), self.join.len(), self.other_join.as_mut_ptr(), self.other_join.len(),
+                self.out.as_mut_ptr(), self.out.len(), told.as_mut_ptr(), told.len(),
+            )
+        };
+        granted(number).map_err(|refusal| (refusal, told[0]))?;
+        let text = self.canonical(told[1]).map_err(|refusal| (refusal, 3))?;
+        Ok((told[2], told[3], text))
     }
 
     fn measured(number: u8, told: [usize; 4]) -> Result<Lines, (Refusal, Lines)> {
@@ -469,6 +491,34 @@ mod tests {
         assert_eq!(reader.parse_standalone_attrs_block(format!("{{{classes}}}").as_bytes(), 1), Err((Refusal(6), lines)));
     }
 
+    #[test]
+    fn merged_blocks() {
+        let mut reader = Reader::new();
+        // A common line, a wrapped variant, a wrapped common block, plain text, a line that gives 5.
+        let text = b"{.wheel side=left}\n{side=right\n #v17}\n{.b\n side=up}\ntext\n{.a";
+        assert_eq!(reader.merge_blocks(text, 1, 2), Ok((1, 2, "{class=\"wheel\" side=\"right\" id=\"v17\"}")));
+        assert_eq!((&reader.join[..3], &reader.other_join[..18]), (&b"\0\0\0"[..], &b"{side=right #v17}\0"[..]));
+        assert_eq!(reader.merge_blocks(text, 2, 1), Ok((2, 1, "{side=\"left\" id=\"v17\" class=\"wheel\"}")));
+        assert_eq!(reader.merge_blocks(text, 4, 2), Ok((2, 2, "{class=\"b\" side=\"right\" id=\"v17\"}")));
+        assert_eq!((&reader.join[..12], &reader.other_join[..17]), (&b"{.b side=up}"[..], &b"{side=right #v17}"[..]));
+        assert_eq!(reader.merge_blocks(text, 1, 1), Ok((1, 1, "{class=\"wheel\" class=\"wheel\" side=\"left\"}")));
+        assert_eq!(reader.merge_blocks(text, 6, 2), Err((Refusal(3), 1)));
+        assert_eq!(reader.merge_blocks(text, 7, 6), Err((Refusal(5), 1)));
+        assert_eq!(reader.merge_blocks(text, 2, 7), Err((Refusal(5), 2)));
+        assert_eq!(reader.merge_blocks(text, 2, 0), Err((Refusal(3), 2)));
+        assert_eq!(reader.merge_blocks(b"{.a}\n\xff", 1, 1), Err((Refusal(2), 1)));
+        let classes = (0..17).map(|i| format!(" .c{i}")).collect::<String>();
+        assert_eq!(reader.merge_blocks(format!("{{{classes}}}\n{{{classes}\n b}}").as_bytes(), 1, 2), Err((Refusal(6), 3)));
+        let keys = |word: &str| (0..17).map(|i| format!(" {word}{i}")).collect::<String>();
+        assert_eq!(reader.merge_blocks(format!("{{{}}}\n{{{}\n b}}", keys("k"), keys("l")).as_bytes(), 1, 2), Err((Refusal(7), 3)));
+        // As much room as is needed, and one byte less.
+        assert!(Reader::with_room(17, 37).merge_blocks(text, 1, 2).is_ok());
+        assert_eq!(Reader::with_room(17, 36).merge_blocks(text, 1, 2), Err((Refusal(10), 3)));
+        assert_eq!(Reader::with_room(16, 37).merge_blocks(text, 1, 2), Err((Refusal(9), 2)));
+        assert_eq!(Reader::with_room(16, 37).merge_blocks(text, 2, 1), Err((Refusal(9), 1)));
+        assert!(Reader::with_room(0, 99).merge_blocks(text, 1, 1).is_ok());
+    }
+
     fn reported(reader: &mut Reader, text: &[u8]) -> (String, usize, Result<(), Refusal>) {
         let (mut report, mut parts) = (Vec::new(), 0);
         let answer = reader.report(text, |part| {
@@ -531,6 +581,7 @@ mod tests {
             assert_eq!(raw::bridlesnow_parse_standalone_attrs_block(null(), 0, 1, null_mut(), 0, null_mut(), 0, null_mut(), 0), 3);
             assert_eq!(raw::bridlesnow_standalone_attrs_block_len(b"{a\n b}".as_ptr(), 6, 1, null_mut(), 0, null_mut(), 0), 9);
             assert_eq!(raw::bridlesnow_merge_lines(null(), 0, 1, 2, null_mut(), 0, null_mut(), 0), 3);
+            assert_eq!(raw::bridlesnow_merge_blocks(null(), 0, 1, 2, null_mut(), 0, null_mut(), 0, null_mut(), 0, null_mut(), 0), 3);
             let mut out = [255u8; 12];
             let mut told = [77usize; 2];
             assert_eq!(raw::bridlesnow_read_attrs_at(b"{.a}".as_ptr(), 4, 0, 0, out.as_mut_ptr(), 12, told.as_mut_ptr(), 1), 0);

@@ -4,13 +4,13 @@
 //!     generate exhaustive FAMILY LENGTH FROM COUNT  all strings of up to LENGTH atoms, in every request of the family
 //!     generate size FAMILY LENGTH                   how many requests that is
 //!
-//! FAMILIES are names parted by commas: leaves, brace, lines, refused, merge, sheet, rows, quick; `all` stands for these
-//! eight. The family `errors`, which is in no `all`, damages the request lines themselves.
+//! FAMILIES are names parted by commas: leaves, brace, lines, refused, merge, sheet, rows, quick, merge2; `all` stands for
+//! these nine. The family `errors`, which is in no `all`, damages the request lines themselves.
 //! Each request is made from the seed and its own number, so any part of the list can be made again.
 
 use std::io::{self, BufWriter, Write};
 
-const FAMILIES: [&str; 8] = ["leaves", "brace", "lines", "refused", "merge", "sheet", "rows", "quick"];
+const FAMILIES: [&str; 9] = ["leaves", "brace", "lines", "refused", "merge", "sheet", "rows", "quick", "merge2"];
 const TEXT_LIMIT: usize = 65_535;
 
 // ---- Chance ----
@@ -612,6 +612,7 @@ fn random(family: &str, rng: &mut Rng, out: &mut Out) {
         "lines" => lines(rng, out),
         "refused" => refused(rng, out),
         "merge" => merge(rng, out),
+        "merge2" => merge2(rng, out),
         "rows" => rows(rng, out),
         "quick" => quick(rng, out),
         "errors" => errors(rng, out),
@@ -835,8 +836,8 @@ fn brace(rng: &mut Rng, out: &mut Out) {
     }
 }
 
-/// A block of few names in many spellings, so that rows are met again and slots stand in every order.
-fn row_block(rng: &mut Rng) -> String {
+/// Tokens of few names in many spellings, so that rows are met again and slots stand in every order.
+fn few_names(rng: &mut Rng) -> Vec<String> {
     let mut tokens = Vec::new();
     for _ in 0..rng.between(1, 7) {
         let name = rng.pick(&["k", "k", "m", "_n", "lang", "id", "class", "class"]);
@@ -849,6 +850,12 @@ fn row_block(rng: &mut Rng) -> String {
             _ => format!("{name}={}", value(rng)),
         });
     }
+    tokens
+}
+
+/// A block of such tokens.
+fn row_block(rng: &mut Rng) -> String {
+    let tokens = few_names(rng);
     let blank = rng.pick(&[" ", " ", " ", "  ", "\r", "\n"]);
     let (before, behind) = (rng.pick(&["", "", " "]), rng.pick(&["", "", " "]));
     format!("{{{before}{}{behind}}}", tokens.join(blank))
@@ -1046,6 +1053,141 @@ fn merge(rng: &mut Rng, out: &mut Out) {
     }
     out.request(words, &pair[0], " ");
     out.hex(&pair[1]);
+}
+
+/// A pair of texts, whose lines or blocks at line 1 are merged.
+fn merge2(rng: &mut Rng, out: &mut Out) {
+    let words = rng.pick(&["merge2", "merge2_block", "merge2_block"]);
+    // How many of a hundred blocks are wrapped: at `merge2` line 1 of such a text is seldom good.
+    let wraps = if words == "merge2" { 12 } else { 55 };
+    let long = rng.once_in(900);
+    let pair = if long {
+        long_pair(rng).map(|text| {
+            let mut text = text.into_bytes();
+            damage(rng, &mut text, 6);
+            text.truncate(65_600);
+            text
+        })
+    } else {
+        let blocks = match rng.weighted(&[60, 30, 10]) {
+            0 => [(); 2].map(|()| any_block(rng, wraps)),
+            1 => [(); 2].map(|()| few_names(rng)).map(|list| laid(rng, &list, wraps)),
+            _ => crowded_pair(rng).map(|list| laid(rng, &list, wraps)),
+        };
+        blocks.map(|block| at_line_one(rng, &block))
+    };
+    // Each has a join buffer of that length; `merge2` has none, and takes the word all the same.
+    let side = rng.below(2);
+    let cap = if long && rng.percent(50) { format!(" cap={}", TEXT_LIMIT - rng.below(4)) } else { cap(rng, &pair[side], 1) };
+    out.request(words, &pair[0], " ");
+    out.hex(&pair[1]);
+    if words == "merge2_block" || rng.once_in(10) {
+        out.words(&cap);
+    }
+}
+
+/// A block on one line or over several, good or not.
+fn any_block(rng: &mut Rng, wraps: usize) -> String {
+    if rng.percent(30) {
+        let list = tokens(rng);
+        laid(rng, &list, wraps)
+    } else if rng.percent(wraps) {
+        let column = opener_column(rng);
+        wrapped(rng, column, 8)
+    } else {
+        chain(rng)
+    }
+}
+
+/// These tokens as blocks on one line or, all as they should stand, over several.
+fn laid(rng: &mut Rng, list: &[String], wraps: usize) -> String {
+    if rng.percent(wraps) {
+        return broken(rng, list);
+    }
+    format!("{{{}}}", list.join(rng.pick(&[" ", " ", " ", "  ", "}{"])))
+}
+
+/// A text that begins with a block, and what may stand around it: blanks, a byte order mark, more lines, CR LF, what
+/// isn't UTF-8.
+fn at_line_one(rng: &mut Rng, block: &str) -> Vec<u8> {
+    let mut text = String::new();
+    if rng.once_in(15) {
+        text.push_str(rng.pick(&[" ", "  ", "\t", "\u{c}", "\r", "\u{b}", "\u{a0}", "\u{feff}", "\n", "\r\n", "x"]));
+    }
+    text.push_str(block);
+    if rng.once_in(12) {
+        text.push_str(rng.pick(&[" ", "\t", "\r", "\u{c}", " \t ", "\u{a0}", "\u{feff}", "x", "{", "\\"]));
+    }
+    for _ in 0..rng.weighted(&[65, 22, 13]) {
+        text.push('\n');
+        let part = match rng.below(4) {
+            0 => wrapped(rng, 0, 10),
+            1 => format!(" {}}}", token(rng)),
+            _ => prose(rng),
+        };
+        text.push_str(&part);
+    }
+    if rng.once_in(5) {
+        text.push('\n');
+    }
+    if rng.once_in(8) {
+        text = text.replace("\r\n", "\n").replace('\n', "\r\n");
+    }
+    let mut text = text.into_bytes();
+    damage(rng, &mut text, 8);
+    if rng.once_in(80) {
+        // Behind the block, mostly in a line of its own: the whole text is asked.
+        text.extend_from_slice(rng.pick(&["\n", "\n", ""]).as_bytes());
+        text.extend_from_slice(rng.pick(BROKEN));
+    }
+    text
+}
+
+/// Classes or keys of two sets that stand together around a limit, some or all of them in both.
+fn crowded_pair(rng: &mut Rng) -> [Vec<String>; 2] {
+    let total = rng.between(31, 34);
+    let half = rng.between(1, total);
+    let shared = if rng.once_in(4) { half } else { rng.below(3).min(half) };
+    let spelled = rng.below(5);
+    let list = |range: std::ops::Range<usize>| -> Vec<String> {
+        match spelled {
+            0 => range.map(|n| format!(".c{n}")).collect(),
+            1 => range.map(|n| format!("k{n}={n}")).collect(),
+            2 => range.map(|n| format!("k{n}=\"\\\"{n}\"")).collect(),
+            3 => vec![format!("class='{}'", range.map(|n| format!("c{n}")).collect::<Vec<_>>().join(" "))],
+            // Both at once: classes go first.
+            _ => range.flat_map(|n| [format!(".c{n}"), format!("k{n}")]).collect(),
+        }
+    };
+    // A value under the names of the other text, and bare names.
+    let mut pair = [list(0..half), list(half - shared..total)];
+    for side in &mut pair {
+        if rng.once_in(3) {
+            let at = rng.below(side.len() + 1);
+            side.insert(at, rng.pick(&[":en", ":", "lang=x", "lang", "#i", "id=\"i j\"", "k0='\"'", "k1", ".c0"]).to_string());
+        }
+    }
+    pair
+}
+
+/// Texts at the limit or past it, one or both; or two whose merge has a canonical text around the limit.
+fn long_pair(rng: &mut Rng) -> [String; 2] {
+    match rng.below(8) {
+        0 | 1 => [(); 2].map(|()| if rng.percent(60) { long_line(rng) } else { long_lines(rng) }),
+        2 => [long_line(rng), any_block(rng, 50)],
+        3 => [any_block(rng, 50), long_line(rng)],
+        4 => [long_lines(rng), any_block(rng, 50)],
+        // A long value that the other text overrides.
+        5 => [wide_block(rng, 65_540), rng.pick(&["{k=1}", "{k}", "{a\n k='2'}", "{id}"]).to_string()],
+        _ => {
+            // Quotes take two bytes each there.
+            let room = TEXT_LIMIT + rng.below(5) - 2 - "{k=\"\" m=\"\"}".len();
+            let first = rng.between(1, room - 1);
+            let value = |room: usize| "\"".repeat(room / 2) + &"x".repeat(room % 2);
+            let breaks = [(); 2].map(|()| rng.pick(&["", "\n ", " "]));
+            [format!("{{{}k='{}'}}", breaks[0], value(first)), format!("{{{}m='{}'}}", breaks[1], value(room - first))]
+        }
+    }
 }
 
 /// A sheet: text and blocks of every kind, mostly a few, now and then up to the text limit.
@@ -1435,6 +1577,19 @@ fn sections(family: &str) -> &'static [Section] {
             atoms: &[b".a ", b".b ", b"#x ", b"#y ", b"k=1 ", b"k=2 ", b"m ", b"id ", b":en ", b"lang=\"\\\"\" ", b"class=\"c d\" ", b"}{"],
             forms: &[("merge", b"{", b"}"), ("merge_leading", b"{", b"}")],
         }],
+        "merge2" => &[
+            Section {
+                atoms: &[
+                    b".a ", b".b ", b"#x ", b"k=1 ", b"k='2' ", b"m ", b"id ", b":en ", b"lang=\"\\\"\" ", b"class=\"c d\" ", b"}{", b"\n ",
+                ],
+                forms: &[("merge2", b"{", b"}"), ("merge2_block", b"{", b"}")],
+            },
+            // What isn't read, and where a block ends.
+            Section {
+                atoms: &[b"{a}", b"{.b", b"}", b" k=1}", b"\n", b"\n ", b"\r\n ", b"\r", b"{c=", b"\xC3\xA9", b"\xFF"],
+                forms: &[("merge2", b"", b""), ("merge2_block", b"", b""), ("merge2_block cap=5", b"", b"")],
+            },
+        ],
         _ => &[
             Section { atoms: &[b"{", b"}", b"a", b" ", b"\n", b"\r", b"\"", b"="], forms: &[("sheet", b"", b""), ("sheet", b"{", b"}\n{b}")] },
             Section { atoms: &[b"{a", b"}", b"}{.b", b"\n", b"\n ", b" ", b"c=\"", b"\"", b"{#d}", b"text", b"\r\n"], forms: &[("sheet", b"", b"")] },
@@ -1466,11 +1621,12 @@ fn pairs(atoms: usize, length: usize) -> u64 {
 const BEFORE_A_BYTE: [&[u8]; 7] = [b"{", b"{ ", b"{#", b"{.", b"{.a", b"{a", b"{a="];
 
 /// The leaves begin with all 256 byte classes, then come the texts by size, then pairs of raw and unescaped text. The
-/// quick test begins with each of the 256 bytes wherever one decides.
+/// quick test begins with each of the 256 bytes wherever one decides, merges over two texts with texts by size.
 fn extra(family: &str, length: usize) -> u64 {
     match family {
         "leaves" => 256 + (SIZES.len() * SIZED.len()) as u64 + pairs(ESCAPE_ATOMS.len(), length),
         "quick" => 256 * BEFORE_A_BYTE.len() as u64,
+        "merge2" => (SIZES.len() * SIZED.len() * 3 * 2) as u64,
         _ => 0,
     }
 }
@@ -1479,6 +1635,9 @@ fn exhaustive_extra(family: &str, mut number: u64, out: &mut Out) {
     if family == "quick" {
         let text = [BEFORE_A_BYTE[(number / 256) as usize], &[(number % 256) as u8]].concat();
         return out.request("attr_payload_provably_invalid 0", &text, "");
+    }
+    if family == "merge2" {
+        return exhaustive_sizes(number as usize, out);
     }
     if number < 256 {
         return out.words(&format!("leaf is_class {number}"));
@@ -1502,6 +1661,18 @@ fn exhaustive_extra(family: &str, mut number: u64, out: &mut Out) {
     let (a, b) = list.split_at((number % (count + 1)) as usize);
     out.request("leaf same_unescaped", &a.concat(), " ");
     out.hex(&b.concat());
+}
+
+/// A text by size as the first, as the second or as both, asked by line and by block.
+fn exhaustive_sizes(number: usize, out: &mut Out) {
+    let words = ["merge2", "merge2_block"][number % 2];
+    let sides = number / 2 % 3;
+    let number = number / 6;
+    let mut text = filled(SIZES[number / SIZED.len()], "{k=", "x", "}").into_bytes();
+    SIZED[number % SIZED.len()](&mut text);
+    let short: &[u8] = b"{.a\n b}";
+    out.request(words, if sides == 1 { short } else { &text }, " ");
+    out.hex(if sides == 0 { short } else { &text });
 }
 
 /// As many atoms, as digits of the number.
@@ -1540,11 +1711,13 @@ fn exhaustive(family: &str, length: usize, mut number: u64, out: &mut Out) {
             count += 1;
         }
         let list = digits(section.atoms, rest, count);
-        if family == "merge" {
-            // One half on each side.
+        if family == "merge" || family == "merge2" {
+            // One half on each side, and the join buffer's length behind them.
             let (a, b) = list.split_at(list.len() / 2);
+            let (words, cap) = words.split_at(words.find(" cap=").unwrap_or(words.len()));
             out.request(words, &[before, &a.concat(), behind].concat(), " ");
-            return out.hex(&[before, &b.concat(), behind].concat());
+            out.hex(&[before, &b.concat(), behind].concat());
+            return out.words(cap);
         }
         return out.request(words, &[before, &list.concat(), behind].concat(), "");
     }

@@ -591,7 +591,8 @@ pub fn ends_in_refused_brace_run(bytes: &[u8], cap: usize) -> Traced<Result<bool
 
 // ---- Merging ----
 
-/// Where a merge request ended: one of its texts isn't read, or the merge is refused.
+/// Where a merge request ended: one of its sets isn't read, or the merge is refused.
+#[derive(Debug, PartialEq)]
 pub enum MergeRefusal {
     First(Number),
     Second(Number),
@@ -610,6 +611,65 @@ pub fn merge(a: &[u8], b: &[u8], leading: bool) -> Result<Attrs, MergeRefusal> {
         door::merge_attrs(&mut target, second);
     }
     within_limits(target.expect("a merge leaves a set")).map_err(MergeRefusal::Merge)
+}
+
+/// A set that was read, and the blocks back to back that it was read from: a line or a run's joined text, trimmed.
+type Read = (Attrs, String);
+
+/// The sets of two texts, merged by the original, the second later. They are over texts of their own, and together may
+/// be longer than any text.
+fn merge_two((first, blocks): Read, (second, later_blocks): Read) -> Result<Attrs, Number> {
+    let mut target = Some(first);
+    door::merge_attrs(&mut target, second);
+    // Document 01 merges blocks that stand back to back from left to right, so one line of all of them has that set.
+    assert_eq!(target, good_line(&(blocks + &later_blocks)), "the merge is what the blocks mean back to back");
+    within_limits(target.expect("a merge leaves a set"))
+}
+
+/// The sets that two texts are read to, merged; the first is asked first.
+fn merge_read(a: &[u8], b: &[u8], read: impl Fn(&[u8]) -> Result<Read, Number>) -> Result<Attrs, MergeRefusal> {
+    let first = read(a).map_err(MergeRefusal::First)?;
+    let second = read(b).map_err(MergeRefusal::Second)?;
+    merge_two(first, second).map_err(MergeRefusal::Merge)
+}
+
+/// The sets of line 1 of each of two texts, merged.
+pub fn merge2(a: &[u8], b: &[u8]) -> Result<Attrs, MergeRefusal> {
+    let answer = merge_read(a, b, |text| Ok((parse_standalone_attrs(text, 1)?, line_one(text))));
+    // A LF B is then a text whose two lines these are.
+    let texts = [a, b].iter().all(|text| one_line(text) && whole_text(text).is_ok());
+    if texts && a.len() + b.len() < TEXT_LIMIT {
+        assert_eq!(answer, merge(a, b, false), "two texts of one line merge as two lines of one text");
+    }
+    answer
+}
+
+/// The sets of the blocks at line 1 of each of two texts, merged; each has a join buffer of `cap` bytes.
+pub fn merge2_block(a: &[u8], b: &[u8], cap: usize) -> Result<Attrs, MergeRefusal> {
+    use MergeRefusal::{First, Second};
+    let answer = merge_read(a, b, |text| {
+        let found = block(Entry::Block, text, 1, cap);
+        let (attrs, _) = found.answer?;
+        let joined = String::from_utf8(found.trace.joined).expect("lines of UTF-8 are joined to UTF-8");
+        Ok((attrs, if joined.is_empty() { line_one(text) } else { joined }))
+    });
+    // A block is the line's own set, or a run where the line isn't good; a run takes a second line.
+    match merge2(a, b) {
+        Err(First(5)) if !one_line(a) || answer == Err(First(9)) => {}
+        Err(Second(5)) if !one_line(b) || answer == Err(Second(9)) => {}
+        lines => assert_eq!(answer, lines, "blocks of one line merge as lines"),
+    }
+    answer
+}
+
+/// No LF, so there is no second line.
+fn one_line(text: &[u8]) -> bool {
+    !text.contains(&b'\n')
+}
+
+/// Line 1 of a text that has been read, trimmed.
+fn line_one(bytes: &[u8]) -> String {
+    trim_ascii(lines_of(bytes).expect("a text that was read")[0]).to_string()
 }
 
 // ---- Canonical text ----

@@ -145,6 +145,19 @@ fn put_block(found: Traced<Result<(Attrs, usize), Number>>, with_set: bool, out:
     }
 }
 
+/// `ok SET`, or where the merge ended.
+fn put_merge(merged: Result<Attrs, MergeRefusal>, out: &mut Vec<u8>) {
+    match merged {
+        Ok(attrs) => {
+            out.extend_from_slice(b"ok");
+            put_canon(layer::canonical(&attrs), out);
+        }
+        Err(MergeRefusal::First(number)) => put!(out, "unread first {number}"),
+        Err(MergeRefusal::Second(number)) => put!(out, "unread second {number}"),
+        Err(MergeRefusal::Merge(number)) => put_refused(number, out),
+    }
+}
+
 fn answer_known(request: &[u8], out: &mut Vec<u8>) -> Option<()> {
     let mut fields: Vec<&[u8]> = request.split(|&b| b == b' ').collect();
     if fields[0] == b"leaf" {
@@ -237,16 +250,10 @@ fn answer_known(request: &[u8], out: &mut Vec<u8>) -> Option<()> {
             if a.contains(&b'\n') || b.contains(&b'\n') {
                 return None;
             }
-            match layer::merge(&a, &b, entry == b"merge_leading") {
-                Ok(attrs) => {
-                    out.extend_from_slice(b"ok");
-                    put_canon(layer::canonical(&attrs), out);
-                }
-                Err(MergeRefusal::First(number)) => put!(out, "unread first {number}"),
-                Err(MergeRefusal::Second(number)) => put!(out, "unread second {number}"),
-                Err(MergeRefusal::Merge(number)) => put_refused(number, out),
-            }
+            put_merge(layer::merge(&a, &b, entry == b"merge_leading"), out);
         }
+        (b"merge2", [a, b]) => put_merge(layer::merge2(&hex(a)?, &hex(b)?), out),
+        (b"merge2_block", [a, b]) => put_merge(layer::merge2_block(&hex(a)?, &hex(b)?, cap), out),
         (b"sheet", [text]) => {
             let written = layer::sheet(&hex(text)?);
             out.extend_from_slice(b"sheet ");

@@ -41,7 +41,7 @@ numberOf TooManyKeys = 7
 numberOf JoinFull = 9
 -- "canonical text above 65,535 bytes or the lent buffer"
 numberOf CanonTooLong = 10
--- "table not well-formed over its text"
+-- "table not well-formed over its texts"
 numberOf NotWellFormed = 11
 -- "empty set given to the writer"
 numberOf EmptySet = 12

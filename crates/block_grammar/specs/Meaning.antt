@@ -1,6 +1,6 @@
 -- What a meaning is made of, its slots in order, each with its name and its values: a key has one value, the id too, Class has one for each class. What items
 -- mean is proved_grammar/specs/Meaning; here stand the three names, and the pieces of a class value by places.
--- "which of the three it was doesn't count, and keys and slots go by name, not by row."
+-- "which of the three it was and which text it is of doesn't count, and keys and slots go by name, not by row."
 use mathlib.Core.Bool.{cond}
 use mathlib.Core.List.{List, [], _∷_}
 use Prim.Native.Nat.{ℕ, suc}

@@ -2,14 +2,15 @@
 use read_blocks::Block;
 ghost use mathlib.Core.Path.{_≡_};
 ghost use lib.ListN.{length};
-ghost use Rattle.set_table.specs.Types.{textOver};
+ghost use lib.Seq.{slice};
+ghost use Rattle.set_table.specs.Types.{two};
 ghost use Rattle.read_blocks.specs.Blocks.{found, sized, joinHolds};
 ghost use Rattle.text_line_start.specs.Starts.{placeOf};
 ghost use Rattle.read_blocks.specs.ByLine.{blockFound, wrappedFound};
 ghost use Rattle.door_shared.specs.Tells.{toldIn};
 ghost use Rattle.door_blocks.specs.Blocks.{blockSaidBy, blockSaid};
 
-// Writes and tells what a block reads.
+// Writes and tells what a block reads, whose set is over the text and the bytes that were joined.
 fn say_block<'a>(
     text: &'a [u8],
     block: Block,
@@ -17,13 +18,13 @@ fn say_block<'a>(
     out: &mut [u8],
     told: &mut [usize],
 ) -> u8
-    ensures { λ r. ⌜ r ≡ blockSaidBy block (textOver (now (text .entry)) (now (join .entry)) (block .joined)) (now (out .entry)) .number ⌝ }
-    ensures { λ r. ⌜ now (out .exit) ≡ blockSaidBy block (textOver (now (text .entry)) (now (join .entry)) (block .joined)) (now (out .entry)) .out ⌝ }
-    ensures { λ r. ⌜ now (told .exit) ≡ toldIn (now (told .entry)) (blockSaidBy block (textOver (now (text .entry)) (now (join .entry)) (block .joined)) (now (out .entry)) .told) ⌝ }
+    ensures { λ r. ⌜ r ≡ blockSaidBy block (two (now (text .entry)) (slice 0 (block .joined) (now (join .entry)))) (now (out .entry)) .number ⌝ }
+    ensures { λ r. ⌜ now (out .exit) ≡ blockSaidBy block (two (now (text .entry)) (slice 0 (block .joined) (now (join .entry)))) (now (out .entry)) .out ⌝ }
+    ensures { λ r. ⌜ now (told .exit) ≡ toldIn (now (told .entry)) (blockSaidBy block (two (now (text .entry)) (slice 0 (block .joined) (now (join .entry)))) (now (out .entry)) .told) ⌝ }
 {
     let outcome = block.outcome;
-    let over = set_table::text_over(text, join, block.joined);
-    let w = door_shared::write_out(outcome, over, block.set, out);
+    let joined = set_table::bytes_of(join, 0, block.joined);
+    let w = door_shared::write_out(outcome, text, joined, block.set, out);
     door_shared::tell(told, 0, block.lines);
     door_shared::tell(told, 1, block.next);
     door_shared::tell(told, 2, block.lookahead);

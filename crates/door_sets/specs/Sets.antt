@@ -6,6 +6,7 @@ use Rattle.base_bytes.specs.declared.Mode.the-variants.{Strict, Loose}
 use Rattle.text_checks.specs.Check.{checkOf}
 use Rattle.base_refusals.specs.declared.Outcome.{Outcome}
 use Rattle.base_refusals.specs.declared.Outcome.the-variants.{Passed, Refused}
+use Rattle.set_table.specs.Types.{one}
 use Rattle.set_table.specs.declared.Attrs.{Attrs}
 use Rattle.read_brace.specs.Brace.{readAttrsAt}
 use Rattle.read_brace.specs.declared.Read.{Read}
@@ -14,7 +15,7 @@ use Rattle.read_brace.specs.declared.Answer.the-variants as answer
 use Rattle.read_by_line.specs.Entries.{parseStandalone}
 use Rattle.set_merge.specs.Merge.{mergeOf}
 use Rattle.text_checks.specs.Outcomes.{orElse}
-use Rattle.door_shared.specs.Tells.{Said, setSaid}
+use Rattle.door_shared.specs.Tells.{Said, refusedStep, setSaid}
 
 -- "`read_attrs_at` is strict (spaces only), lines are loose": 0 is strict, any other number loose
 abbrev pub modeOf : ℕ → Mode
@@ -32,26 +33,19 @@ placeBehind (answer.Next n) = n
 
 -- "Order: at a brace 1, 3, 4, 2, 5, 6, 7", and then the writer's 2, of the whole text, and 10
 abbrev pub braceBy : List ℕ → List ℕ → Read → Said
-braceBy t buf r = setSaid (orElse (checkBy (r .answer)) (checkOf t)) t (r .set) buf (λ n. placeBehind (r .answer) ∷ n ∷ [])
+braceBy t buf r = setSaid (orElse (checkBy (r .answer)) (checkOf t)) (one t) (r .set) buf (λ n. placeBehind (r .answer) ∷ n ∷ [])
 
 unfoldable pub braceSaid : Mode → List ℕ → ℕ → List ℕ → Said
 braceSaid m t i buf = braceBy t buf (readAttrsAt m t i)
 
 -- `parse_standalone_attrs`, and then 10
 unfoldable pub lineSaid : List ℕ → ℕ → List ℕ → Said
-lineSaid t n buf = setSaid (parseStandalone t n .outcome) t (parseStandalone t n .set) buf (λ k. k ∷ [])
+lineSaid t n buf = setSaid (parseStandalone t n .outcome) (one t) (parseStandalone t n .set) buf (λ k. k ∷ [])
 
--- which of three steps is the first that refuses, counted from 1; 0 where none does
-abbrev pub refusedStep : Outcome → Outcome → Outcome → ℕ
-refusedStep (Refused r) b c = 1
-refusedStep Passed (Refused r) c = 2
-refusedStep Passed Passed (Refused r) = 3
-refusedStep Passed Passed Passed = 0
-
--- two lines of one text, "Both sets of a merge are over the same text.": the first line's refusal, else the second's, else the merge's, else 10
+-- two lines of one text, "Both sets of a merge are over the same two texts.": here the lent one and the empty one: the first line's refusal, else the second's, else the merge's, else 10
 abbrev pub mergeBy : List ℕ → List ℕ → Outcome → Attrs → Outcome → Attrs → Said
 mergeBy t buf a x b y =
-    setSaid (orElse a (orElse b (mergeOf t x y .outcome))) t (mergeOf t x y .set) buf (λ n. refusedStep a b (mergeOf t x y .outcome) ∷ n ∷ [])
+    setSaid (orElse a (orElse b (mergeOf (one t) x y .outcome))) (one t) (mergeOf (one t) x y .set) buf (λ n. refusedStep a b (mergeOf (one t) x y .outcome) ∷ n ∷ [])
 
 unfoldable pub mergeSaid : List ℕ → ℕ → ℕ → List ℕ → Said
 mergeSaid t m n buf =

@@ -1,4 +1,4 @@
-// What C and Rust call to read or merge a set within a line: the number of its refusal or 0, and the set as canonical text.
+// What C and Rust call to read or merge a set within a line: the number of its refusal or 0, and the set as canonical text. The sets are of one text, so the second is lent empty.
 use base_bytes::Mode;
 use base_refusals::Outcome;
 use read_brace::Answer;
@@ -6,7 +6,7 @@ ghost use mathlib.Core.Path.{_≡_};
 ghost use Rattle.text_checks.specs.Check.{checkOf};
 ghost use Rattle.text_checks.specs.Outcomes.{orElse};
 ghost use Rattle.door_shared.specs.Tells.{toldIn};
-ghost use Rattle.door_sets.specs.Sets.{modeOf, checkBy, placeBehind, refusedStep, braceSaid, lineSaid, mergeSaid};
+ghost use Rattle.door_sets.specs.Sets.{modeOf, checkBy, placeBehind, braceSaid, lineSaid, mergeSaid};
 
 // 0 is strict, any other number loose.
 fn mode_of(loose: u8) -> Mode
@@ -64,7 +64,7 @@ pub extern "C" fn bridlesnow_read_attrs_at(
     let read = read_brace::read_attrs_at_with(text, place, mode_of(loose));
     let answer = read.answer;
     let c = or_text(check_by(answer), text);
-    let w = door_shared::write_out(c, text, read.set, out);
+    let w = door_shared::write_out(c, text, b"", read.set, out);
     door_shared::tell(told, 0, next_of(answer));
     door_shared::tell(told, 1, door_shared::wrote_len(w));
     door_shared::wrote_number(w)
@@ -84,35 +84,9 @@ pub extern "C" fn bridlesnow_parse_standalone_attrs(
 {
     let filled = read_by_line::parse_standalone_attrs(text, line);
     let outcome = filled.outcome;
-    let w = door_shared::write_out(outcome, text, filled.set, out);
+    let w = door_shared::write_out(outcome, text, b"", filled.set, out);
     door_shared::tell(told, 0, door_shared::wrote_len(w));
     door_shared::wrote_number(w)
-}
-
-// The first of two refusals.
-fn first_of(a: Outcome, b: Outcome) -> Outcome
-    ensures { λ r. ⌜ r ≡ orElse a b ⌝ }
-{
-    match a {
-        Outcome::Refused(r) => Outcome::Refused(r),
-        Outcome::Passed => b,
-    }
-}
-
-// Which of three steps is the first that refuses, counted from 1.
-fn step_of(a: Outcome, b: Outcome, c: Outcome) -> usize
-    ensures { λ r. ⌜ r ≡ refusedStep a b c ⌝ }
-{
-    match a {
-        Outcome::Refused(_) => 1,
-        Outcome::Passed => match b {
-            Outcome::Refused(_) => 2,
-            Outcome::Passed => match c {
-                Outcome::Refused(_) => 3,
-                Outcome::Passed => 0,
-            },
-        },
-    }
 }
 
 // Merges the sets of two lines of blocks: what the variant's line says wins over the common line. Tells which step refuses, 1 or 2 for a line
@@ -131,12 +105,18 @@ pub extern "C" fn bridlesnow_merge_lines(
 {
     let first = read_by_line::parse_standalone_attrs(text, common);
     let second = read_by_line::parse_standalone_attrs(text, variant);
-    let merged = set_merge::merge_attrs(text, first.set, second.set);
+    let merged = set_merge::merge_attrs(text, b"", first.set, second.set);
     let a = first.outcome;
     let b = second.outcome;
     let c = merged.outcome;
-    let w = door_shared::write_out(first_of(a, first_of(b, c)), text, merged.set, out);
-    door_shared::tell(told, 0, step_of(a, b, c));
+    let w = door_shared::write_out(
+        door_shared::first_of(a, door_shared::first_of(b, c)),
+        text,
+        b"",
+        merged.set,
+        out,
+    );
+    door_shared::tell(told, 0, door_shared::step_of(a, b, c));
     door_shared::tell(told, 1, door_shared::wrote_len(w));
     door_shared::wrote_number(w)
 }

@@ -4,18 +4,21 @@ use mathlib.Core.Path.{_≡_, refl, sym, ap, _∙_}
 use mathlib.Core.List.{List, [], _∷_, _++_}
 use Prim.Native.Nat.{ℕ}
 use lib.ListN.{length, set}
-use Rattle.base_refusals.specs.Orders.{inOrder, onPaper, met}
+use Rattle.base_refusals.specs.Numbers.{outcomeNo}
+use Rattle.base_refusals.specs.Orders.{inOrder, onPaper, orderNo, met}
 use Rattle.base_refusals.specs.declared.Outcome.{Outcome}
 use Rattle.base_refusals.specs.declared.Outcome.the-variants.{Passed, Refused}
 use Rattle.set_canon.specs.Canon.{canon}
-use Rattle.set_table.specs.Types.{one}
+use Rattle.set_table.specs.Types.{Texts}
 use Rattle.set_table.specs.Rows.{meaningOf}
 use Rattle.set_table.specs.declared.Attrs.{Attrs}
 use Rattle.set_writer.specs.Write.{wrotePaper, roomOrder, wroteOf, contentAfter, orRefused}
-use Rattle.text_checks.specs.Outcomes.{orLeft}
+use Rattle.text_checks.specs.Outcomes.{orElse, orLeft}
 use Rattle.set_writer.specs.declared.Wrote.{Wrote}
+use Rattle.set_writer.specs.declared.Wrote as wrotes
+use Rattle.set_writer.specs.declared.Wrote.the-variants as wrote
 use Rattle.set_writer.proofs.Numbers.{set-no}
-use Rattle.door_shared.specs.Tells.{toldIn, lenOf, Said, setSaid}
+use Rattle.door_shared.specs.Tells.{toldIn, lenOf, outcomeOf, Said, setSaid}
 
 -- ---- telling
 
@@ -50,13 +53,13 @@ told-5 buf a b c d e p q r s z = behind buf (a ∷ b ∷ c ∷ d ∷ []) e (told
 
 -- ---- a set written and told
 
--- What writing and telling came to, with the number r, `o` in the memory lent for canonical text and `v` in that for numbers: the set a over the text t was written
--- unless c refused it, and its length is the last of the numbers told.
-pub record Came (buf told : List ℕ) (c : Outcome) (t : List ℕ) (a : Attrs) (tell : ℕ → List ℕ) (r : ℕ) (o v : List ℕ) : Type 0 where
+-- What writing and telling came to, with the number r, `o` in the memory lent for canonical text and `v` in that for numbers: the set a over the texts t was written
+-- unless c refused it, and its length is one of the numbers told.
+pub record Came (buf told : List ℕ) (c : Outcome) (t : Texts) (a : Attrs) (tell : ℕ → List ℕ) (r : ℕ) (o v : List ℕ) : Type 0 where
   pub wrote : Wrote
   pub len : ℕ
-  pub writes : wrote ≡ orRefused c (wroteOf (canon (meaningOf (one t) a)) (length buf))
-  pub out : o ≡ orLeft c buf (contentAfter buf (canon (meaningOf (one t) a)))
+  pub writes : wrote ≡ orRefused c (wroteOf (canon (meaningOf t a)) (length buf))
+  pub out : o ≡ orLeft c buf (contentAfter buf (canon (meaningOf t a)))
   pub counts : len ≡ lenOf wrote
   pub tells : v ≡ toldIn told (tell len)
   pub number : r ≡ wrotePaper wrote .number
@@ -66,8 +69,8 @@ module _ (buf told : List ℕ) where
   abbrev pub Says : Said → ℕ → List ℕ → List ℕ → Type 0
   Says s r o v = (r ≡ s .number) × ((o ≡ s .out) × (v ≡ toldIn told (s .told)))
 
-  -- it is that of the definition, whose outcome and text are d and u
-  pub set-said : {a : Attrs} {tell : ℕ → List ℕ} {c d : Outcome} {t u : List ℕ} {r : ℕ} {o v : List ℕ} → c ≡ d → t ≡ u → Came buf told c t a tell r o v → Says (setSaid d u a buf tell) r o v
+  -- it is that of the definition, whose outcome and texts are d and u
+  pub set-said : {a : Attrs} {tell : ℕ → List ℕ} {c d : Outcome} {t u : Texts} {r : ℕ} {o v : List ℕ} → c ≡ d → t ≡ u → Came buf told c t a tell r o v → Says (setSaid d u a buf tell) r o v
   set-said {tell = tell} e f k =
       rw (← e, ← f) (k .number ∙ ap (λ x. wrotePaper x .number) (k .writes), (k .out, k .tells ∙ ap (λ i. toldIn told (tell i)) (k .counts ∙ ap lenOf (k .writes))))
 
@@ -76,3 +79,21 @@ pub out-no : (c : Outcome) (xs : List ℕ) (size : ℕ) → wrotePaper (orRefuse
 unfolding inOrder onPaper
 out-no (Refused r) xs size = refl
 out-no Passed xs size = set-no xs size
+
+-- ---- the numbers of checks
+
+-- of two checks: the first's, else the second's
+pub first-no : (a b : Outcome) → outcomeNo (orElse a b) ≡ orderNo (met a ++ met b)
+unfolding inOrder orderNo
+first-no (Refused r) b = refl
+first-no Passed (Refused r) = refl
+first-no Passed Passed = refl
+
+-- of what the writer refuses: that of its answer
+pub wrote-no : (w : wrotes.Wrote) → outcomeNo (outcomeOf w) ≡ wrotePaper w .number
+wrote-no (wrote.Refused r) = refl
+wrote-no (wrote.Bytes n) = refl
+
+-- a check that is d is promised by d's number too
+pub check-says : {c d : Outcome} {n : ℕ} → outcomeNo d ≡ n → c ≡ d → (c ≡ d) × (outcomeNo c ≡ n)
+check-says e p = (p, ap outcomeNo p ∙ e)

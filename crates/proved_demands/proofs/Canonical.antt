@@ -19,10 +19,10 @@ use Rattle.text_utf8.specs.Computed.{isUtf8}
 use Rattle.proved_texts.proofs.Utf8Boundaries.{ascii}
 use Rattle.base_refusals.specs.Numbers.{maxText}
 use Rattle.base_refusals.specs.declared.Refusal.the-variants.{CanonTooLong, NotWellFormed, EmptySet}
-use Rattle.text_checks.specs.Check.{checkOf, isText}
+use Rattle.text_checks.specs.Check.{bothOf}
 use Rattle.base_refusals.specs.declared.Outcome.{Outcome}
 use Rattle.base_refusals.specs.declared.Outcome.the-variants as outcome
-use Rattle.text_checks.proofs.Texts.{passed, text-passes, is-text}
+use Rattle.text_checks.proofs.Texts.{is-text}
 use Rattle.text_checks.specs.Outcomes.{unless, orElse}
 use Rattle.text_names.specs.Names.{isKey}
 use Rattle.block_grammar.specs.Close.{noLf}
@@ -31,14 +31,15 @@ use Rattle.proved_grammar.specs.Meaning.{isClass, absent, distinct}
 use Rattle.set_canon.specs.Canon.{marked, escape, moreText, pairsText, pairsOf, pairs, canon}
 use Rattle.proved_sets.specs.Formed.{valuesOk, entryOk, wf}
 use Rattle.proved_sets.proofs.CanonBack.{back, same-text, same-meaning}
-use Rattle.set_table.specs.Types.{one, maxClasses, maxKeys, maxSlots}
+use Rattle.set_table.specs.Types.{Texts, maxClasses, maxKeys, maxSlots}
 use Rattle.set_table.specs.Rows.{rowsIn, meaningOf}
 use Rattle.set_table.specs.Shape.{isFree}
 use Rattle.set_table.specs.declared.Attrs.{Attrs}
 use Rattle.set_wellformed.specs.WellFormed.{countsOk, rowsOk, tableOk, wellFormed}
 use Rattle.set_wellformed.proofs.Shape.{shaped}
-use Rattle.proved_sets.proofs.MeansUtf8.{table-ok, written-utf8}
+use Rattle.proved_sets.proofs.MeansUtf8.{written-utf8}
 use Rattle.proved_sets.proofs.WellFormedMeans.{means-wf}
+use Rattle.proved_sets.proofs.WellFormedShape.{formed-parts, both-pass, both-texts}
 use Rattle.set_writer.specs.Write.{hasRoom, wroteOf, contentAfter, writable, orRefused, attrsWrote, attrsContent}
 use Rattle.set_writer.specs.declared.Wrote.the-variants.{Refused, Bytes}
 use Rattle.proved_sets.specs.Limits.{classCount, keyCount}
@@ -48,13 +49,13 @@ use Rattle.proved_reading.proofs.HandedOut.{handed-out-ok}
 use Rattle.proved_demands.specs.Demands.{canonOf, CanonFits, EqualTexts, ReadsBack, CanonReadsBack}
 use Rattle.proved_demands.specs.Canonical.{WritesCanon, FitsIsWritten, BytesEqual, BytesDiffer, BytesBack, NoConstant}
 
-well-wf : (t : List ℕ) (a : Attrs) → wellFormed t a ≡ true → wf (meaningOf (one t) a) ≡ true
-well-wf t a h = means-wf (one t) a (table-ok t a h)
+well-wf : (t : Texts) (a : Attrs) → wellFormed t a ≡ true → wf (meaningOf t a) ≡ true
+well-wf t a h = means-wf t a (formed-parts t a h .2)
 
 -- ======== "have equal canonical texts exactly when they mean the same"
 pub texts-equal : EqualTexts
 texts-equal t t′ a a′ f f′ =
-    (same-text (meaningOf (one t) a) (meaningOf (one t′) a′) (well-wf t a (f .well)) (well-wf t′ a′ (f′ .well)), same-meaning (meaningOf (one t) a) (meaningOf (one t′) a′))
+    (same-text (meaningOf t a) (meaningOf t′ a′) (well-wf t a (f .well)) (well-wf t′ a′ (f′ .well)), same-meaning (meaningOf t a) (meaningOf t′ a′))
 
 -- ======== what the writer leaves in the buffer
 all-passed : (c : Outcome) (o s : Bool) → orElse c (orElse (unless NotWellFormed o) (unless EmptySet s)) ≡ outcome.Passed → (c ≡ outcome.Passed) × ((o ≡ true) × (s ≡ true))
@@ -72,13 +73,13 @@ pub wrote : WritesCanon
 unfolding attrsWrote attrsContent writable wroteOf contentAfter hasRoom wellFormed
 wrote t a buf n e =
     let x = was-counted (writable t a) (hasRoom (length buf) (length (canonOf t a))) e in
-    let y = all-passed (checkOf t) (tableOk (one t) a) (isSome (meaningOf (one t) a)) (x .0) in
+    let y = all-passed (bothOf (t .first) (t .second)) (tableOk t a) (isSome (meaningOf t a)) (x .0) in
     let z = both (leb (length (canonOf t a)) maxText) (leb (length (canonOf t a)) (length buf)) (x .1 .0) in
     let c : attrsContent t a buf ≡ canonOf t a ++ drop (length (canonOf t a)) buf = rw (x .0, x .1 .0) in
     record {
       fits = record {
-        well = rw (← passed t refl (y .0), y .1 .0);
-        some = some-not (meaningOf (one t) a) (y .1 .1);
+        well = let b = both-texts t (y .0) in rw (b .0, b .1, y .1 .0);
+        some = some-not (meaningOf t a) (y .1 .1);
         short = leb-true (length (canonOf t a)) maxText (z .0);
       };
       count = x .1 .1;
@@ -90,8 +91,8 @@ wrote t a buf n e =
 pub writes : FitsIsWritten
 unfolding attrsWrote writable wroteOf hasRoom wellFormed
 writes t a buf f l =
-    let w = both (isText t) (tableOk (one t) a) (f .well) in
-    rw (text-passes t (w .0), w .1, not-some (meaningOf (one t) a) (f .some), le-leb (length (canonOf t a)) maxText (f .short), le-leb (length (canonOf t a)) (length buf) l)
+    let w = formed-parts t a (f .well) in
+    rw (both-pass t (w .0) (w .1), w .2, not-some (meaningOf t a) (f .some), le-leb (length (canonOf t a)) maxText (f .short), le-leb (length (canonOf t a)) (length buf) l)
 
 pub bytes-equal : BytesEqual
 bytes-equal t t′ a a′ buf buf′ n n′ e e′ =
@@ -125,17 +126,17 @@ module _ (m : List Entry) where
         again = i;
       }
 
-module _ {t : List ℕ} {a : Attrs} (f : CanonFits t a) where
-  may : May (meaningOf (one t) a)
+module _ {t : Texts} {a : Attrs} (f : CanonFits t a) where
+  may : May (meaningOf t a)
   unfolding tableOk countsOk meaningOf rowsIn wf
   may =
-      let k = table-ok t a (f .well) in
-      let w = means-wf (one t) a k in
-      let c = both (countsOk a) (rowsOk (one t) (rowsIn a)) k .0 in
+      let k = formed-parts t a (f .well) .2 in
+      let w = means-wf t a k in
+      let c = both (countsOk a) (rowsOk t (rowsIn a)) k .0 in
       let x = both (leb (a .nclass) maxClasses) _ c in
       let y = both (leb (a .nkey) maxKeys) (leb (a .norder) maxSlots) (x .1) in
-      let s = shaped (one t) a k in
-      let d = both (all entryOk (meaningOf (one t) a)) (distinct (meaningOf (one t) a)) w .1 in
+      let s = shaped t a k in
+      let d = both (all entryOk (meaningOf t a)) (distinct (meaningOf t a)) w .1 in
       record {
         well = w;
         some = f .some;
@@ -146,7 +147,7 @@ module _ {t : List ℕ} {a : Attrs} (f : CanonFits t a) where
       }
 
 pub reads-back : CanonReadsBack
-reads-back t a f = meaning-back (meaningOf (one t) a) (may f)
+reads-back t a f = meaning-back (meaningOf t a) (may f)
 
 pub bytes-back : BytesBack
 bytes-back t a buf n e = let w = wrote t a buf n e in rw (w .front) (reads-back t a (w .fits))

@@ -16,15 +16,13 @@ use Rattle.base_refusals.proofs.Numbers.{number-among, number-own, eight-unused
 use Rattle.base_refusals.specs.declared.Outcome.{Outcome}
 use Rattle.base_refusals.specs.declared.Outcome.the-variants as outcome
 use Rattle.text_lines.specs.Lines.{lines}
-use Rattle.text_lines.specs.declared.Line as places
-use Rattle.text_lines.specs.declared.Line.the-variants as place
 use Rattle.text_checks.specs.Check.{isText}
 use Rattle.text_checks.specs.Outcomes.{orLeft}
 use Rattle.text_line_start.specs.Starts.{placeOf}
 use Rattle.block_grammar.proofs.Payload as payloads
 use Rattle.block_chain.proofs.Blocks as chains
 use Rattle.set_canon.specs.Canon.{canon}
-use Rattle.set_table.specs.Types.{one}
+use Rattle.set_table.specs.Types.{Texts}
 use Rattle.set_table.specs.Rows.{meaningOf}
 use Rattle.set_table.specs.declared.Attrs.{Attrs}
 use Rattle.set_table.specs.declared.Filled.{Filled}
@@ -36,7 +34,6 @@ use Rattle.set_merge.specs.Merge.{mergeOf}
 use Rattle.set_lent.proofs.Standing.{refused-stands}
 use Rattle.run_lines.specs.Runs.{asIs, runAt}
 use Rattle.run_lines.proofs.Bounds.{lookahead-sum}
-use Rattle.read_brace.specs.declared.Answer.the-variants as answer
 use Rattle.read_blocks.specs.Blocks.{found, wrapped, joinedIn, joinHolds}
 use Rattle.read_blocks.specs.ByLine.{wrappedFound}
 use Rattle.sheet_blocks.specs.declared.Next.{Next}
@@ -57,15 +54,22 @@ use Rattle.proved_reading.proofs.Meaning.{brace-by-rules, third-dropped, tidy, 
 use Rattle.proved_reading.proofs.HandedOut.{handed-out-ok, fill-out-ok}
 use Rattle.proved_reading.proofs.ChainsOut.{chain-out-ok}
 use Rattle.proved_reading.proofs.ByLines.{blocks-by-rules, line-by-rules, block-by-rules, run-by-rules}
-use Rattle.proved_reading.proofs.BlockSets.{block-zeroed, filled-empty, block-empty, empty-fits}
+use Rattle.proved_reading.proofs.BlockSets.{block-zeroed, filled-empty, block-empty, empty-over}
 use Rattle.proved_reading.proofs.LineSets.{line-empty, line-zeroed, line-set-ok, block-set-ok, run-set-ok}
+use Rattle.proved_reading.proofs.Alone.{blocks-over-one}
 use Rattle.proved_reading.proofs.LengthsAgree.{agree}
 use Rattle.proved_reading.proofs.LengthsFair.{fair-block, fair-wraps}
 use Rattle.proved_sheets.proofs.Answers.{next-zeroed}
 use Rattle.proved_sheets.proofs.BlockSets.{next-set-ok}
 use Rattle.proved_sheets.proofs.Calls.{refused-laid}
+use Rattle.proved_origins.proofs.Meaning.{bytes-mean}
+use Rattle.proved_origins.proofs.Exchanged.{exchange-keeps, exchange-rest, exchange-merges, exchange-writes}
+use Rattle.proved_origins.proofs.OneText.{exchanged-of, behaves-as-before, formed-over-more, empty-asks}
+use Rattle.proved_origins.proofs.Mirror.{mirrors-as-before}
+use Rattle.proved_origins.proofs.Steady.{empty-range, zero-range}
+use Rattle.proved_origins.proofs.Read.{read-first, read-joined}
 use Rattle.proved_demands.proofs.Eight.{reading-never-eight, merge-never-eight}
-use Rattle.proved_demands.specs.Demands.{Numbered, NoneIfRefused, NoSet, LeftAsStated, ByStandards, ByGrammar, LastCloseDropped, QuickTest, Lookahead, RowsZero, SetsWellFormed}
+use Rattle.proved_demands.specs.Demands.{Numbered, NoneIfRefused, NoSet, LeftAsStated, ByStandards, ByGrammar, LastCloseDropped, QuickTest, Lookahead, RowsZero, SetsWellFormed, TwoTexts}
 
 -- ======== a refusal's number
 
@@ -106,12 +110,12 @@ no-set =
 
 -- ======== lent memory
 
-writer-leaves : (t : List ℕ) (a : Attrs) (buf : List ℕ) (r : Refusal) → attrsWrote t a (length buf) ≡ wrote.Refused r → attrsContent t a buf ≡ buf
+writer-leaves : (t : Texts) (a : Attrs) (buf : List ℕ) (r : Refusal) → attrsWrote t a (length buf) ≡ wrote.Refused r → attrsContent t a buf ≡ buf
 unfolding attrsWrote attrsContent wroteOf contentAfter
 writer-leaves t a buf r = go (writable t a) (hasRoom (length buf) (length xs))
   where
     xs : List ℕ
-    xs = canon (meaningOf (one t) a)
+    xs = canon (meaningOf t a)
 
     go : (c : Outcome) (b : Bool) → orRefused c (cond b (wrote.Bytes (length xs)) (wrote.Refused CanonTooLong)) ≡ wrote.Refused r → orLeft c buf (cond b (over xs buf) buf) ≡ buf
     go (outcome.Refused q) b e = refl
@@ -188,12 +192,12 @@ rows-zero =
       merge = rest-zero .merge;
     }
 
-merge-well : (t : List ℕ) (a b : Attrs) → isText t ≡ true → wellFormed t (mergeOf t a b .set) ≡ true
-merge-well t a b h = go (mergeOf t a b .outcome) refl
+merge-well : (t : Texts) (a b : Attrs) → isText (t .first) ≡ true → isText (t .second) ≡ true → wellFormed t (mergeOf t a b .set) ≡ true
+merge-well t a b h u = go (mergeOf t a b .outcome) refl
   where
     go : (o : Outcome) → mergeOf t a b .outcome ≡ o → wellFormed t (mergeOf t a b .set) ≡ true
     go outcome.Passed e = merge-gives t a b e .formed
-    go (outcome.Refused r) e = rw (filled-empty (refusals-empty .merge t a b) e) (empty-fits t h)
+    go (outcome.Refused r) e = rw (filled-empty (refusals-empty .merge t a b) e) (empty-over (t .first) h (t .second) u)
 
 pub sets-well-formed : SetsWellFormed
 sets-well-formed =
@@ -206,4 +210,26 @@ sets-well-formed =
       chain = chain-out-ok;
       fill = fill-out-ok;
       next = next-set-ok;
+    }
+
+-- ---- two texts
+
+pub two-texts : TwoTexts
+two-texts =
+    record {
+      means = bytes-mean;
+      exchange = exchange-keeps;
+      rest = exchange-rest;
+      merges = exchange-merges;
+      writes = exchange-writes;
+      alone = behaves-as-before;
+      other = exchanged-of;
+      mirror = mirrors-as-before;
+      empty = empty-range;
+      zero = zero-range;
+      more = formed-over-more;
+      asks = empty-asks;
+      read = read-first;
+      joined = read-joined;
+      single = blocks-over-one;
     }

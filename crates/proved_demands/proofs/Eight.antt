@@ -1,6 +1,5 @@
 -- No reading and no merge gave 8: the set that it hands out has at most 34 slots.
 -- Assumes nothing.
-use mathlib.Core.Path.{_≡_, refl}
 use mathlib.Core.Bool.{Bool, true, false, cond}
 use mathlib.Core.List.{List, [], _∷_}
 use Prim.Native.Nat.{ℕ, _≤_}
@@ -21,14 +20,14 @@ use Rattle.set_table.specs.Types.{maxSlots}
 use Rattle.set_table.specs.Filled.{refusing}
 use Rattle.set_table.specs.declared.Attrs.{Attrs}
 use Rattle.set_table.specs.declared.Filled.{Filled}
+use Rattle.set_exchange.specs.Exchange.{exchanged}
 use Rattle.set_fill.specs.Fill.{chainAt}
 use Rattle.set_merge.specs.Merge.{mergeOf}
-use Rattle.set_lent.specs.Lent.{standing, endOf, bothOf}
+use Rattle.set_lent.specs.Lent.{standing, endOf, lentBoth}
 use Rattle.read_brace.specs.Brace.{bracePaper, readAttrsAt}
 use Rattle.read_blocks.specs.Blocks.{Found, found, wrapped, blockOf, sized}
 use Rattle.read_blocks.specs.ByLine.{blockFound, wrappedFound}
 use Rattle.read_by_line.specs.Entries.{lineRead, parseStandalone}
-use Rattle.sheet_blocks.specs.declared.Next.{Next}
 use Rattle.sheet_blocks.specs.Sheets.{Try, triesAt, onlyBlocks, nowhere, firstBlock, nextOf}
 use Rattle.proved_sets.specs.Eight.{NeverEight}
 use Rattle.proved_sets.proofs.Eight.{never-eight, outcome-eight, never-given, few-slots, sets-never-given}
@@ -52,7 +51,7 @@ line-few t n = go (startAt t n)
 -- ---- a block or a run, whatever was found
 
 block-few : (t : List ℕ) (at : ℕ) (f : Found) → blockOf t at f .set .norder ≤ maxSlots
-unfolding blockOf
+unfolding blockOf exchanged
 block-few t at Found.line = few-slots .chain Loose t (frontOf t at .from) (frontOf t at .to)
 block-few t at (Found.run r) = few-slots .chain Loose (r .text) 0 (length (r .text))
 block-few t at (Found.none q x n) = omega arith
@@ -96,7 +95,7 @@ lent-never was f h = go (f .outcome)
     go (outcome.Refused r) = never-eight (numberOf r) was (outcome-eight (outcome.Refused r)) (λ e. omega (arith, e, number-among r .0))
 
 pub merge-never-eight : MergeNeverEight
-unfolding bothOf
+unfolding lentBoth
 merge-never-eight =
     record {
       merge = sets-never-given .merge;

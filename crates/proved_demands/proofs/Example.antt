@@ -25,6 +25,7 @@ use Rattle.set_table.specs.Rows.{padded, tableOf, putRow, hasKey, withPut, with
 use Rattle.set_table.specs.Puts.{byName, valued, putsOf, putsIn}
 use Rattle.set_table.specs.Types.{rangeBytes, nameBytes, valueBytes}
 use Rattle.set_table.specs.Filled.{limited}
+use Rattle.set_exchange.specs.Exchange.{firstsBy, exchanged}
 use Rattle.block_chain.specs.Chain.{goodLine}
 use Rattle.block_chain.specs.Computed.{blocksFrom, readBlocks}
 use Rattle.set_fill.specs.Fill.{chainAt}
@@ -45,6 +46,6 @@ unfolding typed isIn all headed run same isBlank isPlain isQuote within isLetter
     trimStart trim trimRange isBlankLine tabStop columnAfter indentFrom capped ends finish shutOf valueToken afterName tokenOf text readFrom readPayload isValue scanStep
     closeFrom meaning.pieceRanges pairsOf pairs flatMap marked isMarked escape moreText pairsText canon endsInClose behindFrom behindLast continues turned passed seekStep
     seekFrom lastOpenBrace scanFrom openQuoteAtEnd heldStep holdFrom holdsOpen padded tableOf putRow hasKey withPut withPuts slotEntry meant rowsIn meaningOf byName valued
-    putsOf putsIn rangeBytes nameBytes valueBytes blocksFrom readBlocks goodLine limited chainAt passes runFrom runAt frontOf opensAt runFound found flushLeft triesFrom
+    putsOf putsIn rangeBytes nameBytes valueBytes blocksFrom readBlocks goodLine limited chainAt firstsBy exchanged passes runFrom runAt frontOf opensAt runFound found flushLeft triesFrom
     onlyBlocks blocksOf placesIn places decimal reportLine refusedLine canonLine blockLine reportOf report
 example = refl

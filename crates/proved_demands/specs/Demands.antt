@@ -33,7 +33,7 @@ use Rattle.block_grammar.specs.Meaning.{Entry}
 use Rattle.block_chain.specs.Chain.{Blocks}
 use Rattle.block_chain.specs.Computed.{readBlocks}
 use Rattle.set_canon.specs.Canon.{canon}
-use Rattle.set_table.specs.Types.{one, emptySet}
+use Rattle.set_table.specs.Types.{Texts, one, emptySet}
 use Rattle.set_table.specs.Rows.{meaningOf}
 use Rattle.set_table.specs.declared.Attrs.{Attrs}
 use Rattle.set_table.specs.declared.Filled.{Filled}
@@ -48,7 +48,7 @@ use Rattle.run_refused.specs.Refused.{refusedRun}
 use Rattle.run_endings.specs.Endings.{endsIn}
 use Rattle.read_brace.specs.Brace.{readAttrsAt}
 use Rattle.read_brace.specs.declared.Answer.the-variants as answer
-use Rattle.read_blocks.specs.Blocks.{Found, joinedIn, lookaheadOf, joinHolds, textIn, blockOf}
+use Rattle.read_blocks.specs.Blocks.{Found, joinedIn, lookaheadOf, joinHolds, textsIn, blockOf}
 use Rattle.read_blocks.specs.ByLine.{blockFound, wrappedFound}
 use Rattle.read_by_line.specs.Entries.{parseStandalone}
 use Rattle.read_lengths.specs.Lengths.{linesIn, measured}
@@ -59,9 +59,14 @@ use Rattle.proved_sets.specs.HandedOut.{Zeroed}
 use Rattle.proved_sets.specs.Merged.{MergeByRules}
 use Rattle.proved_reading.specs.AtBraces.{BraceByRules, ThirdDropped}
 use Rattle.proved_reading.specs.HandedSets.{FillFormed}
+use Rattle.proved_reading.specs.Alone.{BlocksOverOne}
 use Rattle.proved_reading.specs.ByLines.{BlocksByRules, LineByRules, BlockByRules, RunByRules}
 use Rattle.proved_sheets.specs.Blocks.{NextSetOk}
 use Rattle.proved_sheets.specs.Calls.{refusedLays}
+use Rattle.proved_origins.specs.Meaning.{BytesMean}
+use Rattle.proved_origins.specs.Exchanged.{ExchangeKeeps, ExchangeRest, ExchangeMerges, ExchangeWrites}
+use Rattle.proved_origins.specs.OneText.{ExchangedOf, BehavesAsBefore, MirrorsAsBefore, EmptyText, ZeroRange, FormedOverMore, EmptyAsksNothing}
+use Rattle.proved_origins.specs.Read.{ReadFirst, ReadJoined}
 use Rattle.proved_demands.specs.Eight.{ReadingNeverEight, MergeNeverEight}
 
 -- "exactly when"
@@ -108,7 +113,7 @@ pub record NoSet : Type 0 where
   -- `next_block`, of a whole sheet
   pub next : (t : List ℕ) (cap at : ℕ) → NoneIfRefused (nextOf t cap at .block .outcome) (nextOf t cap at .block .set)
   -- `merge_attrs` and `merge_leading_attrs`
-  pub merge : (t : List ℕ) (a b : Attrs) → NoneIfRefused (mergeOf t a b .outcome) (mergeOf t a b .set)
+  pub merge : (t : Texts) (a b : Attrs) → NoneIfRefused (mergeOf t a b .outcome) (mergeOf t a b .set)
 
 -- "and leaves lent memory exactly as stated there"
 pub record LeftAsStated : Type 0 where
@@ -116,7 +121,7 @@ pub record LeftAsStated : Type 0 where
   pub front : (buf : List ℕ) (f : Found) → take (length (joinedIn f)) (joinHolds buf f) ≡ joinedIn f
   pub rest : (buf : List ℕ) (f : Found) → drop (length (joinedIn f)) (joinHolds buf f) ≡ drop (length (joinedIn f)) buf
   -- "A refusal touches no other lent memory": `write_attrs`
-  pub writer : (t : List ℕ) (a : Attrs) (buf : List ℕ) (r : Refusal) → attrsWrote t a (length buf) ≡ wrote.Refused r → attrsContent t a buf ≡ buf
+  pub writer : (t : Texts) (a : Attrs) (buf : List ℕ) (r : Refusal) → attrsWrote t a (length buf) ≡ wrote.Refused r → attrsContent t a buf ≡ buf
   -- `report_start`: 9 and 10, and 1 and 2 where the longest line has no room; else "For 1 or 2 the only output is `refused`, 0, 0, number."
   pub start : (t out : List ℕ) (cap : ℕ) (r : Refusal) → startOf t cap (length out) .told ≡ told.Refused r → over (startOf t cap (length out) .text) out ≡ over (refusedLays t (length out) r) out
   -- `report_part`
@@ -184,43 +189,68 @@ pub record RowsZero : Type 0 where
   pub line : (t : List ℕ) (n : ℕ) → Zeroed (parseStandalone t n .set)
   pub block : (t : List ℕ) (at : ℕ) (f : Found) → Zeroed (blockOf t at f .set)
   pub next : (t : List ℕ) (cap at : ℕ) → Zeroed (nextOf t cap at .block .set)
-  pub merge : (t : List ℕ) (a b : Attrs) → Zeroed (mergeOf t a b .set)
+  pub merge : (t : Texts) (a b : Attrs) → Zeroed (mergeOf t a b .set)
 
--- "and it is well-formed if its text gives neither 1 nor 2": that of a block over `textIn`, the lent text or the joined one
+-- "and it is well-formed if its texts give neither 1 nor 2": that of a block over `textsIn`, the lent text and what was joined
 pub record SetsWellFormed : Type 0 where
-  pub brace : (m : Mode) (t : List ℕ) (i : ℕ) → isText t ≡ true → wellFormed t (readAttrsAt m t i .set) ≡ true
-  pub line : (t : List ℕ) (n : ℕ) → isText t ≡ true → wellFormed t (parseStandalone t n .set) ≡ true
-  pub block : (t : List ℕ) (n base cap : ℕ) → isText t ≡ true → wellFormed (textIn t (blockFound t n base cap)) (blockOf t (placeOf t n) (blockFound t n base cap) .set) ≡ true
-  pub run : (t : List ℕ) (n base cap : ℕ) → isText t ≡ true → wellFormed (textIn t (wrappedFound t n base cap)) (blockOf t (placeOf t n) (wrappedFound t n base cap) .set) ≡ true
-  pub merge : (t : List ℕ) (a b : Attrs) → isText t ≡ true → wellFormed t (mergeOf t a b .set) ≡ true
+  pub brace : (m : Mode) (t : List ℕ) (i : ℕ) → isText t ≡ true → wellFormed (one t) (readAttrsAt m t i .set) ≡ true
+  pub line : (t : List ℕ) (n : ℕ) → isText t ≡ true → wellFormed (one t) (parseStandalone t n .set) ≡ true
+  pub block : (t : List ℕ) (n base cap : ℕ) → isText t ≡ true → wellFormed (textsIn t (blockFound t n base cap)) (blockOf t (placeOf t n) (blockFound t n base cap) .set) ≡ true
+  pub run : (t : List ℕ) (n base cap : ℕ) → isText t ≡ true → wellFormed (textsIn t (wrappedFound t n base cap)) (blockOf t (placeOf t n) (wrappedFound t n base cap) .set) ≡ true
+  pub merge : (t : Texts) (a b : Attrs) → isText (t .first) ≡ true → isText (t .second) ≡ true → wellFormed t (mergeOf t a b .set) ≡ true
   -- `fill_chain`, of any part of a text; `fill` only of a part that is UTF-8 by itself and holds no LF, which its callers see to
-  pub chain : (m : Mode) (t : List ℕ) (from to : ℕ) → isText t ≡ true → wellFormed t (chainAt m t from to .set) ≡ true
+  pub chain : (m : Mode) (t : List ℕ) (from to : ℕ) → isText t ≡ true → wellFormed (one t) (chainAt m t from to .set) ≡ true
   pub fill : FillFormed
   -- `next_block`, of a whole sheet
   pub next : NextSetOk
 
--- ======== Demand 3
+-- ======== Two texts (document 02): "Every range shall say which of two lent texts it belongs to"
 
--- the canonical text of a set over its text
-abbrev pub canonOf : List ℕ → Attrs → List ℕ
-canonOf t a = canon (meaningOf (one t) a)
+-- each by its statements in proved_origins/specs
+pub record TwoTexts : Type 0 where
+  -- "meaning doesn't include the origin"
+  pub means : BytesMean
+  -- the texts changed over
+  pub exchange : ExchangeKeeps
+  pub rest : ExchangeRest
+  pub merges : ExchangeMerges
+  pub writes : ExchangeWrites
+  -- "A set with one text only, the other being lent empty, behaves as before."
+  pub alone : BehavesAsBefore
+  pub other : ExchangedOf
+  pub mirror : MirrorsAsBefore
+  pub empty : EmptyText
+  pub zero : ZeroRange
+  pub more : FormedOverMore
+  pub asks : EmptyAsksNothing
+  -- what is read is of the first text; "the variant's block is wrapped and lives in the join buffer", which is the second
+  pub read : ReadFirst
+  pub joined : ReadJoined
+  -- `as_first` and `as_second`: a block's set over its own text alone
+  pub single : BlocksOverOne
+
+-- ======== Demand 3: "reads from then on over sets with either origin"
+
+-- the canonical text of a set over its texts
+abbrev pub canonOf : Texts → Attrs → List ℕ
+canonOf t a = canon (meaningOf t a)
 
 -- "non-empty well-formed sets whose canonical text fits"
-pub record CanonFits (t : List ℕ) (a : Attrs) : Type 0 where
+pub record CanonFits (t : Texts) (a : Attrs) : Type 0 where
   pub well : wellFormed t a ≡ true
-  pub some : meaningOf (one t) a ≡ [] → ⊥
+  pub some : meaningOf t a ≡ [] → ⊥
   pub short : length (canonOf t a) ≤ maxText
 
--- "Two non-empty well-formed sets whose canonical text fits have equal canonical texts exactly when they mean the same", be they over one text or over two
+-- "Two non-empty well-formed sets whose canonical text fits have equal canonical texts exactly when they mean the same", each over its own two texts
 abbrev pub EqualTexts : Type 0
-EqualTexts = (t t′ : List ℕ) (a a′ : Attrs) → CanonFits t a → CanonFits t′ a′ → Iff (canonOf t a ≡ canonOf t′ a′) (meaningOf (one t) a ≡ meaningOf (one t′) a′)
+EqualTexts = (t t′ : Texts) (a a′ : Attrs) → CanonFits t a → CanonFits t′ a′ → Iff (canonOf t a ≡ canonOf t′ a′) (meaningOf t a ≡ meaningOf t′ a′)
 
 -- "a canonical text reads back, to its last byte, with that meaning": by `read_attrs_at` at byte 0; and what was read may be written, and is written as it stood
 pub record ReadsBack (c : List ℕ) (m : List Entry) : Type 0 where
   pub answer : readAttrsAt Strict c 0 .answer ≡ answer.Next (length c)
   pub means : meaningOf (one c) (readAttrsAt Strict c 0 .set) ≡ m
-  pub fits : CanonFits c (readAttrsAt Strict c 0 .set)
-  pub again : canonOf c (readAttrsAt Strict c 0 .set) ≡ c
+  pub fits : CanonFits (one c) (readAttrsAt Strict c 0 .set)
+  pub again : canonOf (one c) (readAttrsAt Strict c 0 .set) ≡ c
 
 abbrev pub CanonReadsBack : Type 0
-CanonReadsBack = (t : List ℕ) (a : Attrs) → CanonFits t a → ReadsBack (canonOf t a) (meaningOf (one t) a)
+CanonReadsBack = (t : Texts) (a : Attrs) → CanonFits t a → ReadsBack (canonOf t a) (meaningOf t a)

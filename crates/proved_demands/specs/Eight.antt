@@ -5,10 +5,11 @@ use Prim.Native.Nat.{ℕ}
 use Rattle.base_bytes.specs.declared.Mode.{Mode}
 use Rattle.base_refusals.specs.Numbers.{outcomeNo}
 use Rattle.text_line_start.specs.Starts.{placeOf}
+use Rattle.set_table.specs.Types.{Texts}
 use Rattle.set_table.specs.declared.Attrs.{Attrs}
 use Rattle.set_fill.specs.Fill.{fillAt, chainAt}
 use Rattle.set_merge.specs.Merge.{mergeOf}
-use Rattle.set_lent.specs.Lent.{endOf, bothOf}
+use Rattle.set_lent.specs.Lent.{endOf, lentBoth}
 use Rattle.read_brace.specs.Brace.{bracePaper, readAttrsAt}
 use Rattle.read_blocks.specs.declared.Block.{Block}
 use Rattle.read_blocks.specs.Blocks.{found, wrapped, blockOf, sized}
@@ -37,14 +38,14 @@ pub record ReadingNeverEight : Type 0 where
   -- `next_block`, of a whole sheet
   pub next : (t : List ℕ) (cap at : ℕ) → NeverOfBlock (nextOf t cap at .block)
 
--- "and merge", of any two tables over any text, hand-made ones too
+-- "and merge", of any two tables over any texts, hand-made ones too
 pub record MergeNeverEight : Type 0 where
   -- `merge_attrs` and `merge_leading_attrs`
-  pub merge : (t : List ℕ) (a b : Attrs) → NeverGiven (mergeOf t a b)
-  pub leading : (t : List ℕ) (a b : Attrs) → NeverGiven (mergeOf t b a)
+  pub merge : (t : Texts) (a b : Attrs) → NeverGiven (mergeOf t a b)
+  pub leading : (t : Texts) (a b : Attrs) → NeverGiven (mergeOf t b a)
   -- `merge_into` and `merge_leading_into`, with the lent set as it then stands
-  pub into : (t : List ℕ) (a b : Attrs) → NeverEight (outcomeNo (mergeOf t a b .outcome)) (endOf a (mergeOf t a b))
-  pub leadingInto : (t : List ℕ) (a b : Attrs) → NeverEight (outcomeNo (mergeOf t b a .outcome)) (endOf a (mergeOf t b a))
+  pub into : (t : Texts) (a b : Attrs) → NeverEight (outcomeNo (mergeOf t a b .outcome)) (endOf a (mergeOf t a b))
+  pub leadingInto : (t : Texts) (a b : Attrs) → NeverEight (outcomeNo (mergeOf t b a .outcome)) (endOf a (mergeOf t b a))
   -- `merge_both`: of each of its two merges
-  pub led : (t : List ℕ) (a leading incoming : Attrs) → NeverEight (outcomeNo (bothOf t a leading incoming .led)) (endOf a (mergeOf t leading a))
-  pub merged : (t : List ℕ) (a leading incoming : Attrs) → NeverEight (outcomeNo (bothOf t a leading incoming .merged)) (bothOf t a leading incoming .set)
+  pub led : (t : Texts) (a leading incoming : Attrs) → NeverEight (outcomeNo (lentBoth t a leading incoming .led)) (endOf a (mergeOf t leading a))
+  pub merged : (t : Texts) (a leading incoming : Attrs) → NeverEight (outcomeNo (lentBoth t a leading incoming .merged)) (lentBoth t a leading incoming .set)

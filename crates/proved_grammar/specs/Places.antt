@@ -1,4 +1,4 @@
--- "A set has ranges of one text": each item's text stands in it at the item's place.
+-- "What is read out of the lent text is of the first": each item's text stands in it at the item's place.
 use mathlib.Core.Path.{_≡_}
 use mathlib.Core.List.{List, [], _∷_, _++_}
 use Prim.Native.Nat.{ℕ}

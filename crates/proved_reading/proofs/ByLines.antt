@@ -28,14 +28,15 @@ use Rattle.block_chain.specs.Chain.{Blocks, goodLine}
 use Rattle.block_chain.specs.Computed.{readBlocks}
 use Rattle.proved_grammar.specs.Merged.{blockItems, merged}
 use Rattle.block_trimmed_line.specs.Fronts.{frontOf, opensAt}
-use Rattle.set_table.specs.Types.{one}
+use Rattle.set_table.specs.Types.{one, two}
 use Rattle.set_table.specs.Rows.{meaningOf}
 use Rattle.set_table.specs.declared.Filled.{Filled}
 use Rattle.set_table.specs.Filled.{refusing}
 use Rattle.set_fill.specs.Fill.{filledBy, chainAt}
 use Rattle.run_lines.specs.Runs as runs
 use Rattle.run_lines.proofs.Bounds.{text-short}
-use Rattle.read_blocks.specs.Blocks.{Found, nothing, closedRun, endedRun, runFound, found, wrapped, textIn, blockOf, sized}
+use Rattle.proved_origins.proofs.Read.{read-joined}
+use Rattle.read_blocks.specs.Blocks.{Found, nothing, closedRun, endedRun, runFound, found, wrapped, textsIn, blockOf, sized}
 use Rattle.read_blocks.specs.ByLine.{blockFound, wrappedFound}
 use Rattle.read_by_line.specs.Entries.{lineRead, parseStandalone}
 use Rattle.text_lines.proofs.Counted.{line-missing, missing-line}
@@ -131,7 +132,7 @@ line-exactly t l at = go (opensAt t at) refl
 -- ---- a refusal, with whatever was joined
 refused-exactly : {G : Outcome → List Entry → Type 0} (t : List ℕ) (at : ℕ) {q : Refusal} (x : List ℕ) (n : ℕ) → Exactly G (Refused q) [] → FoundExactly G t at (Found.none q x n)
 unfolding blockOf
-refused-exactly t at x n g = rw (empty-means (one t)) g
+refused-exactly t at x n g = rw (empty-means (two t x)) g
 
 -- ---- a run
 module _ (t : List ℕ) (l : length t ≤ maxText) (at base cap : ℕ) where
@@ -140,7 +141,7 @@ module _ (t : List ℕ) (l : length t ≤ maxText) (at base cap : ℕ) where
 
   closed-exactly : (b : Bool) → goodLine (ran .text) 0 (length (ran .text)) ≡ b → FoundExactly (BlocksGiven (ran .text) 0 (length (ran .text))) t at (closedRun ran b)
   unfolding blockOf
-  closed-exactly true e = chain-exactly (ran .text) 0 (length (ran .text)) (omega (arith, l, text-short cap base t at))
+  closed-exactly true e = rw (read-joined Loose t (ran .text) 0 (length (ran .text)) .means) (chain-exactly (ran .text) 0 (length (ran .text)) (omega (arith, l, text-short cap base t at)))
   closed-exactly false e = refused-exactly t at (ran .text) (ran .lookahead) (none-exactly (ran .text) 0 (length (ran .text)) (no-good (ran .text) 0 (length (ran .text)) e))
 
   run-exactly : FoundExactly (RunGiven t base cap at) t at (runFound t at base cap)
@@ -199,7 +200,7 @@ block-exactly t l at base cap = go (opensAt t at) refl (goodLine t (frontOf t at
 sized-exactly : (t : List ℕ) (at : ℕ) (f : Found) {G : Outcome → List Entry → Type 0} → (length t ≤ maxText → FoundExactly G t at f) → FoundExactly (SizeGiven t G) t at (sized t f)
 unfolding sized blockOf
 sized-exactly t at f h =
-    size-exactly t (λ b. blockOf t at (cond b (nothing TextTooLong) f) .outcome) (λ b. meaningOf (one (textIn t (cond b (nothing TextTooLong) f))) (blockOf t at (cond b (nothing TextTooLong) f) .set))
+    size-exactly t (λ b. blockOf t at (cond b (nothing TextTooLong) f) .outcome) (λ b. meaningOf (textsIn t (cond b (nothing TextTooLong) f)) (blockOf t at (cond b (nothing TextTooLong) f) .set))
     (refl, empty-means (one t)) h
 
 pub block-by-rules-at : BlockByRulesAt
@@ -235,7 +236,7 @@ found-exactly : (t : List ℕ) (n : ℕ) (k : ℕ → Found) {G : ℕ → Outcom
 unfolding blockOf
 found-exactly t n k h =
     number-exactly t n (λ s. blockOf t (onStart (λ r. 0) (λ at. at) s) (onStart nothing k s) .outcome)
-    (λ s. meaningOf (one (textIn t (onStart nothing k s))) (blockOf t (onStart (λ r. 0) (λ at. at) s) (onStart nothing k s) .set)) (λ r. (refl, empty-means (one t))) h
+    (λ s. meaningOf (textsIn t (onStart nothing k s)) (blockOf t (onStart (λ r. 0) (λ at. at) s) (onStart nothing k s) .set)) (λ r. (refl, empty-means (one t))) h
 
 pub block-by-rules : BlockByRules
 unfolding blockFound

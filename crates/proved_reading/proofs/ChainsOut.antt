@@ -22,6 +22,7 @@ use Rattle.block_chain.proofs.Blocks.{sound}
 use Rattle.set_table.specs.Types.{one}
 use Rattle.set_table.specs.Puts.{putsIn}
 use Rattle.set_table.specs.Filled.{refusing}
+use Rattle.proved_origins.proofs.Checks.{empty-text}
 use Rattle.set_wellformed.specs.WellFormed.{tableOk, wellFormed}
 use Rattle.proved_sets.proofs.PutsKept.{putOk}
 use Rattle.proved_sets.proofs.PutsParts.{Part, low-ends}
@@ -52,9 +53,9 @@ module _ (w : List ℕ) where
       let b = sound m from (slice from to w) is e in
       blocks-ok b (low-ends w from to u (first b .1) (last b .0) (last b .1) (omega arith) (omega arith))
 
-pub chain-out-ok : (m : Mode) (t : List ℕ) (from to : ℕ) → isText t ≡ true → wellFormed t (fills.chainAt m t from to .set) ≡ true
+pub chain-out-ok : (m : Mode) (t : List ℕ) (from to : ℕ) → isText t ≡ true → wellFormed (one t) (fills.chainAt m t from to .set) ≡ true
 unfolding wellFormed fills.chainAt
-chain-out-ok m t from to h = rw h (go (ltb maxText (length t)))
+chain-out-ok m t from to h = rw (h, empty-text) (go (ltb maxText (length t)))
   where
     go : (a : Bool) → tableOk (one t) (cond a (refusing TextTooLong) (fills.filledBy (one t) (readBlocks m from (slice from to t))) .set) ≡ true
     go true = empty-ok (one t)

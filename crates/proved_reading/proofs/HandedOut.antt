@@ -24,6 +24,7 @@ use Rattle.block_grammar.specs.declared.Place.the-variants.{Nothing, At}
 use Rattle.set_table.specs.Types.{Texts, one, emptySet, maxClasses, maxKeys}
 use Rattle.set_table.specs.Rows.{Rows, noRows, withPuts, tableOf}
 use Rattle.set_table.specs.Puts.{putsIn}
+use Rattle.proved_origins.proofs.Checks.{empty-text}
 use Rattle.set_wellformed.specs.WellFormed.{rowsOk, tableOk, wellFormed}
 use Rattle.proved_sets.proofs.PutsKept.{putOk, rows-none, rows-puts, table-ok}
 use Rattle.proved_sets.proofs.PutsParts.{own-part}
@@ -60,7 +61,7 @@ filled-ok t (Reading.items is) h = limited-ok t (withPuts t noRows (putsIn is)) 
 
 pub handed-out-ok : BraceFormed
 unfolding wellFormed readAttrsAt atBrace braceAt finished fills.filledOf
-handed-out-ok m t i h = rw h (go (ltb maxText (length t)) (braceAt t i) refl)
+handed-out-ok m t i h = rw (h, empty-text) (go (ltb maxText (length t)) (braceAt t i) refl)
   where
     payload : (e : ℕ) → braceAt t i ≡ true → findClose t (suc i) ≡ At e → (is : List Placed) → readPayload m (suc i) (payloadOf t i e) ≡ Reading.items is → all (putOk (one t)) (putsIn is) ≡ true
     payload e o c is r =
@@ -84,7 +85,7 @@ handed-out-ok m t i h = rw h (go (ltb maxText (length t)) (braceAt t i) refl)
 
 pub fill-out-ok : FillFormed
 unfolding wellFormed fills.fillAt fills.filledOf readPayload readFrom
-fill-out-ok m t at end h u f = rw h (go (ltb maxText (length t)))
+fill-out-ok m t at end h u f = rw (h, empty-text) (go (ltb maxText (length t)))
   where
     some : (s : List ℕ) → slice at end t ≡ s → (is : List Placed) → readPayload m at s ≡ Reading.items is → all (putOk (one t)) (putsIn is) ≡ true
     some [] q is e = contra true refl (cc)

@@ -10,3 +10,4 @@ pub mod LengthsAgree
 pub mod Places
 pub mod Wraps
 pub mod ByLines
+pub mod Alone

@@ -10,7 +10,9 @@ use Rattle.text_checks.specs.Check.{isText}
 use Rattle.base_refusals.specs.declared.Outcome.the-variants as outcome
 use Rattle.set_fill.specs.Fill.{chainAt}
 use Rattle.proved_sets.proofs.Zeroed.{Zeroed, empty-zeroed}
+use Rattle.set_table.specs.Types.{one}
 use Rattle.set_wellformed.specs.WellFormed.{wellFormed}
+use Rattle.proved_origins.proofs.Checks.{empty-text}
 use Rattle.proved_reading.proofs.ChainsOut.{chain-out-ok}
 use Rattle.block_trimmed_line.specs.Fronts.{frontOf, opensAt}
 use Rattle.text_line_start.specs.declared.Start as starts
@@ -50,7 +52,7 @@ start-ok : (t : List ℕ) → isText t ≡ true → (n : ℕ) (g : ℕ → Found
 start-ok t h n g k = go (startAt t n)
   where
     go : (s : starts.Start) → SetFormed t (onStart (λ r. 0) (λ at. at) s) (onStart nothing g s)
-    go (start.Refused r) = none-ok t h 0 r [] 0
+    go (start.Refused r) = none-ok t h 0 r [] 0 empty-text
     go (start.At at) = k at
 
 pub block-set-ok : BlockFormed
@@ -61,11 +63,11 @@ pub run-set-ok : RunFormed
 unfolding wrappedFound
 run-set-ok t h n base cap = start-ok t h n (λ at. wrapped t at base cap) (λ at. wrapped-ok t h at base cap)
 
-line-read-ok : (t : List ℕ) → isText t ≡ true → (at : ℕ) → wellFormed t (lineRead t at .set) ≡ true
+line-read-ok : (t : List ℕ) → isText t ≡ true → (at : ℕ) → wellFormed (one t) (lineRead t at .set) ≡ true
 unfolding lineRead
 line-read-ok t h at = go (opensAt t at)
   where
-    go : (o : Bool) → wellFormed t (cond o (chainAt Loose t (frontOf t at .from) (frontOf t at .to)) (refusing NothingThere) .set) ≡ true
+    go : (o : Bool) → wellFormed (one t) (cond o (chainAt Loose t (frontOf t at .from) (frontOf t at .to)) (refusing NothingThere) .set) ≡ true
     go true = chain-out-ok Loose t (frontOf t at .from) (frontOf t at .to) h
     go false = empty-fits t h
 
@@ -73,7 +75,7 @@ pub line-set-ok : LineFormed
 unfolding parseStandalone
 line-set-ok t h n = go (startAt t n)
   where
-    go : (s : starts.Start) → wellFormed t (onStart refusing (lineRead t) s .set) ≡ true
+    go : (s : starts.Start) → wellFormed (one t) (onStart refusing (lineRead t) s .set) ≡ true
     go (start.Refused r) = empty-fits t h
     go (start.At at) = line-read-ok t h at
 

@@ -25,7 +25,7 @@ use Rattle.set_table.specs.Types.{one}
 use Rattle.set_table.specs.Rows.{meaningOf}
 use Rattle.set_fill.specs.Fill.{chainAt}
 use Rattle.run_lines.specs.Runs.{runAt}
-use Rattle.read_blocks.specs.Blocks.{Found, found, wrapped, textIn, blockOf, sized}
+use Rattle.read_blocks.specs.Blocks.{Found, found, wrapped, textsIn, blockOf, sized}
 use Rattle.read_blocks.specs.ByLine.{blockFound, wrappedFound}
 use Rattle.read_by_line.specs.Entries.{parseStandalone}
 use Rattle.proved_texts.specs.Lines.{NoSuchLine}
@@ -80,9 +80,9 @@ BlocksByRules = (t : List ℕ) (from to : ℕ) → Exactly (SizeGiven t (BlocksG
 abbrev pub LineByRules : Type 0
 LineByRules = (t : List ℕ) (n : ℕ) → Exactly (SizeGiven t (Utf8Given t (NumberGiven t n (LineGiven t)))) (parseStandalone t n .outcome) (meaningOf (one t) (parseStandalone t n .set))
 
--- of what was found, by the rules G: its set is over the lent text, that of a run over the joined one
+-- of what was found, by the rules G: its set is over the lent text and what was joined
 abbrev pub FoundExactly : (Outcome → List Entry → Type 0) → List ℕ → ℕ → Found → Type 0
-FoundExactly G t at f = Exactly G (blockOf t at f .outcome) (meaningOf (one (textIn t f)) (blockOf t at f .set))
+FoundExactly G t at f = Exactly G (blockOf t at f .outcome) (meaningOf (textsIn t f) (blockOf t at f .set))
 
 -- `parse_standalone_attrs_block`, and by place `read_at`
 abbrev pub BlockByRules : Type 0

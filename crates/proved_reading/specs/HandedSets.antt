@@ -12,14 +12,14 @@ use Rattle.text_utf8.specs.Computed.{isUtf8}
 use Rattle.text_checks.specs.Check.{isText}
 use Rattle.text_line_start.specs.Starts.{placeOf}
 use Rattle.block_grammar.specs.Close.{noLf}
-use Rattle.set_table.specs.Types.{emptySet, maxClasses, maxKeys, maxSlots}
+use Rattle.set_table.specs.Types.{one, emptySet, maxClasses, maxKeys, maxSlots}
 use Rattle.set_table.specs.declared.Attrs.{Attrs}
 use Rattle.set_fill.specs.Fill.{fillAt}
 use Rattle.set_wellformed.specs.WellFormed.{wellFormed}
 use Rattle.proved_sets.specs.HandedOut.{Zeroed}
 use Rattle.read_brace.specs.declared.Answer.the-variants.{Refused}
 use Rattle.read_brace.specs.Brace.{readAttrsAt}
-use Rattle.read_blocks.specs.Blocks.{Found, found, wrapped, textIn, blockOf}
+use Rattle.read_blocks.specs.Blocks.{Found, found, wrapped, textsIn, blockOf}
 use Rattle.read_blocks.specs.ByLine.{blockFound, wrappedFound}
 use Rattle.read_by_line.specs.Entries.{parseStandalone}
 
@@ -54,21 +54,21 @@ LineZeroed = (t : List ℕ) (n : ℕ) → Zeroed (parseStandalone t n .set)
 abbrev pub BlockZeroed : Type 0
 BlockZeroed = (t : List ℕ) (at : ℕ) (f : Found) → Zeroed (blockOf t at f .set)
 
--- ---- "and it is well-formed if its text gives neither 1 nor 2"
+-- ---- "and it is well-formed if its texts give neither 1 nor 2"
 
 abbrev pub BraceFormed : Type 0
-BraceFormed = (m : Mode) (t : List ℕ) (i : ℕ) → isText t ≡ true → wellFormed t (readAttrsAt m t i .set) ≡ true
+BraceFormed = (m : Mode) (t : List ℕ) (i : ℕ) → isText t ≡ true → wellFormed (one t) (readAttrsAt m t i .set) ≡ true
 
 abbrev pub LineFormed : Type 0
-LineFormed = (t : List ℕ) → isText t ≡ true → (n : ℕ) → wellFormed t (parseStandalone t n .set) ≡ true
+LineFormed = (t : List ℕ) → isText t ≡ true → (n : ℕ) → wellFormed (one t) (parseStandalone t n .set) ≡ true
 
 -- `fill`, which takes any part of a text: of one that is UTF-8 by itself and holds no LF
 abbrev pub FillFormed : Type 0
-FillFormed = (m : Mode) (t : List ℕ) (at end : ℕ) → isText t ≡ true → isUtf8 (slice at end t) ≡ true → noLf (slice at end t) ≡ true → wellFormed t (fillAt m t at end .set) ≡ true
+FillFormed = (m : Mode) (t : List ℕ) (at end : ℕ) → isText t ≡ true → isUtf8 (slice at end t) ≡ true → noLf (slice at end t) ≡ true → wellFormed (one t) (fillAt m t at end .set) ≡ true
 
--- a block's set is well-formed over the lent text, that of a run over the joined one
+-- a block's set is well-formed over its texts, the lent one and what was joined
 abbrev pub SetFormed : List ℕ → ℕ → Found → Type 0
-SetFormed t at f = wellFormed (textIn t f) (blockOf t at f .set) ≡ true
+SetFormed t at f = wellFormed (textsIn t f) (blockOf t at f .set) ≡ true
 
 -- by line number
 abbrev pub BlockFormed : Type 0

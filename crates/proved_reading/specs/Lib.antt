@@ -4,3 +4,4 @@ pub mod AtBraces
 pub mod HandedSets
 pub mod Measuring
 pub mod ByLines
+pub mod Alone

@@ -1,4 +1,4 @@
--- The joined text: "A set has ranges of one text: the lent one or, for a wrapped run, the joined text".
+-- The joined text: "a wrapped run's set is of the second, the joined text".
 use Prim.Native.Nat.{ℕ, _-_, _≤_}
 use mathlib.Core.Path.{_≡_}
 use mathlib.Core.Bool.{true, false, not}
@@ -16,7 +16,7 @@ use Rattle.block_payloads.specs.Payloads.{opens}
 use Rattle.run_lines.specs.Runs.{runAt}
 use Rattle.run_refused.specs.Refused.{refusedRun}
 
--- ---- "well-formed if its text gives neither 1 nor 2": the joined text is UTF-8
+-- ---- "well-formed if its texts give neither 1 nor 2": the joined text is UTF-8
 
 -- where the text is, from the first line's place on
 abbrev pub JoinedUtf8 : Type 0

@@ -10,13 +10,12 @@ use lib.ListN.{length}
 use lib.Seq.{slice}
 use borrow.Author.Tests.{ltb-false, le-ltb}
 use Rattle.base_lists.proofs.Scan.{both}
-use Rattle.base_bytes.specs.declared.Mode.{Mode}
 use Rattle.base_refusals.specs.Numbers.{maxText, numberOf, outcomeNo}
 use Rattle.base_refusals.specs.declared.Refusal.the-variants.{TextTooLong, TooManyClasses, TooManyKeys, NotWellFormed}
 use Rattle.base_refusals.specs.declared.Outcome.{Outcome}
 use Rattle.base_refusals.specs.declared.Outcome.the-variants.{Passed, Refused}
 use Rattle.base_refusals.proofs.Numbers.{eight-unused}
-use Rattle.text_checks.specs.Check.{checkOf}
+use Rattle.text_checks.specs.Check.{bothOf}
 use Rattle.block_grammar.specs.Computed.{readPayload}
 use Rattle.block_grammar.specs.Grammar.{Reading}
 use Rattle.block_chain.specs.Computed.{readBlocks}
@@ -34,7 +33,7 @@ use Rattle.set_wellformed.specs.WellFormed.{tableOk}
 use Rattle.set_wellformed.proofs.Shape.{shaped}
 use Rattle.set_merge.specs.Merge.{putsBy, mergedBy, mergeOf}
 use Rattle.proved_sets.specs.HandedOut.{Throughout}
-use Rattle.proved_sets.specs.Eight.{firstLimits, firstNo, FirstOrder, NeverEight, NeverGiven, SetsNeverGiven}
+use Rattle.proved_sets.specs.Eight.{firstNo, FirstOrder, NeverEight, NeverGiven, SetsNeverGiven}
 
 -- ---- the order with 8
 
@@ -96,20 +95,20 @@ sized-few t r true = omega arith
 sized-few t r false = reading-few (one t) r
 
 -- a merge puts the second table's rows into the first's, which has a slot for each thing as it is well-formed
-merge-few : (t : List ℕ) (a b : Attrs) → Few (mergeOf t a b .set)
+merge-few : (t : Texts) (a b : Attrs) → Few (mergeOf t a b .set)
 unfolding mergeOf
-merge-few t a b = go (checkOf t)
+merge-few t a b = go (bothOf (t .first) (t .second))
   where
     S : Rows
-    S = withPuts (one t) (rowsIn a) (putsBy (rowsIn b))
+    S = withPuts t (rowsIn a) (putsBy (rowsIn b))
 
-    pair : (x : Bool) → (tableOk (one t) a && tableOk (one t) b) ≡ x → Few (cond x (limited S) (refusing NotWellFormed) .set)
-    pair true e = limited-few S (each-puts (one t) (putsBy (rowsIn b)) (record { is = slots-length (shaped (one t) a (both (tableOk (one t) a) (tableOk (one t) b) e .0)) }))
+    pair : (x : Bool) → (tableOk t a && tableOk t b) ≡ x → Few (cond x (limited S) (refusing NotWellFormed) .set)
+    pair true e = limited-few S (each-puts t (putsBy (rowsIn b)) (record { is = slots-length (shaped t a (both (tableOk t a) (tableOk t b) e .0)) }))
     pair false e = omega arith
 
     go : (c : Outcome) → Few (mergedBy c t a b .set)
     go (Refused r) = omega arith
-    go Passed = pair (tableOk (one t) a && tableOk (one t) b) refl
+    go Passed = pair (tableOk t a && tableOk t b) refl
 
 pub few-slots : Throughout (λ f. Few (f .set))
 unfolding fillAt filledOf chainAt

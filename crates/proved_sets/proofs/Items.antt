@@ -27,6 +27,7 @@ use Rattle.set_table.specs.Types.{one, rangeBytes, nameBytes, textBytes, valueB
 use Rattle.set_table.specs.Rows.{Rows, Put, noRows, withPuts, meant}
 use Rattle.set_table.specs.Puts.{valueOf, pieceOf, byName, valued, putsOf, putsIn}
 use Rattle.set_table.specs.Shape.{isFree, Shaped}
+use Rattle.set_table.specs.declared.Origin.the-variants.{First}
 use Rattle.set_table.specs.declared.Text.{Text}
 use Rattle.set_table.specs.declared.Text.the-variants as texts
 use Rattle.set_table.specs.declared.Name.the-variants as name
@@ -55,7 +56,7 @@ classes-puts [] v m = refl
 classes-puts (w ∷ vs) v m = classes-puts vs w (put m (entry className (v ∷ []))) ∙ put-join m className (v ∷ []) (w ∷ vs) refl
 
 -- ======== a part of a text, by its range
-range-is : (w b c : List ℕ) (from : ℕ) → drop from w ≡ b ++ c → rangeBytes (one w) from (from + length b) ≡ b
+range-is : (w b c : List ℕ) (from : ℕ) → drop from w ≡ b ++ c → rangeBytes (one w) First from (from + length b) ≡ b
 unfolding rangeBytes
 range-is w b c from d = rw (slice-add from (length b) w, d, take-append-seam b c)
 
@@ -76,14 +77,14 @@ module _ (w : List ℕ) where
   by-name at k rest d x u e classes c = go (same k idName) refl (same k className) refl
     where
       go : (a : Bool) → same k idName ≡ a → (b : Bool) → same k className ≡ b
-          → Says w (cond a (Put.ident (valueOf x) ∷ []) (cond b classes (Put.key (name.Range at (at + length k)) (valueOf x) ∷ []))) (entry k (cond b (classesOf u) (u ∷ [])))
+          → Says w (cond a (Put.ident (valueOf x) ∷ []) (cond b classes (Put.key (name.Range First at (at + length k)) (valueOf x) ∷ []))) (entry k (cond b (classesOf u) (u ∷ [])))
       go true p true q = contra (same k className) q (rw (same-true k idName p))
       go true p false q = record { means = λ m. rw (e, same-true k idName p); allowed = refl }
       go false p true q = record { means = λ m. rw (same-true k className q) (c .means m); allowed = c .allowed }
       go false p false q = record { means = λ m. rw (e, range-is w k rest at d); allowed = rw (range-is w k rest at d, p, q) }
 
   -- a value, read by the function f: itself, or unescaped
-  module _ (kind : ℕ → ℕ → Text) (f : List ℕ → List ℕ) (reads : (a b : ℕ) → textBytes (one w) (kind a b) ≡ f (rangeBytes (one w) a b))
+  module _ (kind : ℕ → ℕ → Text) (f : List ℕ → List ℕ) (reads : (a b : ℕ) → textBytes (one w) (kind a b) ≡ f (rangeBytes (one w) First a b))
       (splits : (v : List ℕ) → piecesFrom [] (f v) ≡ map f (piecesFrom [] v)) where
     pieces : (rs : List PieceAt) → map (putEntry (one w)) (map (pieceOf kind) rs) ≡ map (λ u. entry className (u ∷ [])) (map f (cut w rs))
     unfolding putEntry valueBytes rangeBytes
@@ -111,7 +112,7 @@ module _ (w : List ℕ) where
         go (r ∷ rs) = record { means = λ m. ap (puts m) (pieces (r ∷ rs)) ∙ classes-puts (map f (cut w rs)) (f (take (r .to - r .from) (drop (r .from) w))) m; allowed = pieces-allowed rs }
 
   -- ---- each item
-  word : (c at : ℕ) (n rest : List ℕ) → drop at w ≡ c ∷ (n ++ rest) → rangeBytes (one w) (at + 1) (at + 1 + length n) ≡ n
+  word : (c at : ℕ) (n rest : List ℕ) → drop at w ≡ c ∷ (n ++ rest) → rangeBytes (one w) First (at + 1) (at + 1 + length n) ≡ n
   word c at n rest d = range-is w n rest (at + 1) (drop-past w (c ∷ []) (n ++ rest) at (at + 1) d refl)
 
   says : (at : ℕ) (i : Item) (rest : List ℕ) → drop at w ≡ text i ++ rest → Says w (putsOf at i) (said i)
@@ -121,10 +122,10 @@ module _ (w : List ℕ) where
   says at (Item.class n) rest d = record { means = λ m. rw (word 46 at n rest d); allowed = refl }
   says at (Item.plain k v) rest d =
       let e : drop (at + length k + 1) w ≡ v ++ rest = drop-past w (k ++ (61 ∷ [])) (v ++ rest) at (at + length k + 1) (d ∙ simp append-assoc) (omega (arith, length-append k (61 ∷ []))) in
-      value-says (λ a b. texts.Plain a b) (λ v. v) (λ a b. refl) (λ v. sym (map-id (piecesFrom [] v))) at k ((61 ∷ v) ++ rest) (d ∙ simp append-assoc) (at + length k + 1) v rest e
+      value-says (λ a b. texts.Plain First a b) (λ v. v) (λ a b. refl) (λ v. sym (map-id (piecesFrom [] v))) at k ((61 ∷ v) ++ rest) (d ∙ simp append-assoc) (at + length k + 1) v rest e
   says at (Item.quoted k q v) rest d =
       let e : drop (at + length k + 2) w ≡ v ++ ((q ∷ []) ++ rest) = drop-past w (k ++ (61 ∷ (q ∷ []))) (v ++ ((q ∷ []) ++ rest)) at (at + length k + 2) (d ∙ simp append-assoc) (omega (arith, length-append k (61 ∷ (q ∷ [])))) in
-      value-says (λ a b. texts.Quoted a b) unescape (λ a b. refl) (λ v. pieces-unescape v ∙ unescapes-map (piecesFrom [] v)) at k ((61 ∷ (q ∷ (v ++ (q ∷ [])))) ++ rest) (d ∙ simp append-assoc) (at + length k + 2) v ((q ∷ []) ++ rest) e
+      value-says (λ a b. texts.Quoted First a b) unescape (λ a b. refl) (λ v. pieces-unescape v ∙ unescapes-map (piecesFrom [] v)) at k ((61 ∷ (q ∷ (v ++ (q ∷ [])))) ++ rest) (d ∙ simp append-assoc) (at + length k + 2) v ((q ∷ []) ++ rest) e
   says at (Item.bare n) rest d = by-name at n rest d texts.Empty [] refl (Put.class (valueOf texts.Empty) ∷ []) (record { means = λ m. refl; allowed = refl })
 
 -- ======== all items

@@ -20,30 +20,30 @@ use Rattle.text_utf8.specs.Utf8.{isBoundary}
 use Rattle.text_utf8.proofs.Laws.{past-ascii}
 use Rattle.proved_texts.proofs.Utf8Grammar.{char, sound, utf8-append}
 use Rattle.proved_texts.proofs.Utf8Boundaries.{ascii, slice-utf8}
-use Rattle.text_checks.specs.Check.{isText}
 use Rattle.text_checks.proofs.Texts as texts
 use Rattle.text_escapes.specs.Unescape.{unescape, unescapeFrom}
 use Rattle.block_grammar.specs.Close.{noLf}
 use Rattle.block_grammar.specs.Meaning.{Entry, idName, className}
 use Rattle.block_grammar.proofs.Bytes.{key-parts}
 use Rattle.set_canon.specs.Canon.{marked, escape, Pair, pairText, moreText, pairsText, pairsOf, pairs, canon}
-use Rattle.set_table.specs.Types.{Texts, one, rangeBytes, textBytes, valueBytes, zeroRow}
-use Rattle.set_table.specs.Rows.{Rows, isThere, idValues, slotEntry, meant, rowsIn, meaningOf}
+use Rattle.set_table.specs.Types.{Texts, textAt, rangeBytes, textBytes, valueBytes, zeroRow}
+use Rattle.set_table.specs.Rows.{Ident, Rows, isThere, idValues, slotEntry, meant, rowsIn, meaningOf}
 use Rattle.set_table.specs.Shape.{isPresent}
 use Rattle.set_table.specs.declared.Attrs.{Attrs}
-use Rattle.set_table.specs.declared.Id as ids
-use Rattle.set_table.specs.declared.Id.the-variants as id
+use Rattle.set_table.specs.declared.Origin.{Origin}
+use Rattle.set_table.specs.declared.Origin.the-variants.{First, Second}
 use Rattle.set_table.specs.declared.Slot.{Slot}
 use Rattle.set_table.specs.declared.Slot.the-variants.{Id, Class, Key}
 use Rattle.set_table.specs.declared.Text.{Text}
 use Rattle.set_table.specs.declared.Text.the-variants.{Plain, Quoted, Empty}
 use Rattle.set_table.specs.declared.Value.{Value}
 use Rattle.set_values.specs.Values.{rangeOk, textOk, valueOk, identOk, classOk, keyOk}
-use Rattle.set_wellformed.specs.WellFormed.{tableOk, wellFormed}
+use Rattle.set_wellformed.specs.WellFormed.{wellFormed}
 use Rattle.base_lists.proofs.Each.{all-map, all-at}
 use Rattle.set_wellformed.proofs.Shape.{slots-named, Passed, keyed, table-passed}
 use Rattle.proved_sets.specs.Formed.{entryUtf8, NamesUtf8, WrittenUtf8, MeansUtf8}
 use Rattle.proved_sets.proofs.WellFormedMeans.{class-value}
+use Rattle.proved_sets.proofs.WellFormedShape.{formed-parts}
 
 -- ---- a character is one ASCII byte, or bytes that are all above ASCII
 abbrev isHigh : ℕ → Bool
@@ -192,29 +192,29 @@ part-low b e = go (leb b 0x7F) refl
 key-utf8 : (n : List ℕ) → isKey n ≡ true → isUtf8 n ≡ true
 key-utf8 n e = ascii n (all-weaker isNamePart (λ b. leb b 0x7F) part-low n (key-parts n e))
 
--- ---- the values of a table over UTF-8 text
-module _ (t : Texts) (u : isUtf8 (t .text) ≡ true) where
-  range-utf8 : (from to : ℕ) → rangeOk t from to ≡ true → isUtf8 (rangeBytes t from to) ≡ true
+-- ---- the values of a table over texts that are UTF-8
+module _ (t : Texts) (u : (o : Origin) → isUtf8 (textAt t o) ≡ true) where
+  range-utf8 : (o : Origin) (from to : ℕ) → rangeOk t o from to ≡ true → isUtf8 (rangeBytes t o from to) ≡ true
   unfolding rangeOk rangeBytes
-  range-utf8 from to e =
-      let a = both (leb from to) (isBoundary (t .text) from && isBoundary (t .text) to) e in
-      let b = both (isBoundary (t .text) from) (isBoundary (t .text) to) (a .1) in
-      slice-utf8 (t .text) from to u (b .0) (b .1) (leb-true from to (a .0))
+  range-utf8 o from to e =
+      let a = both (leb from to) (isBoundary (textAt t o) from && isBoundary (textAt t o) to) e in
+      let b = both (isBoundary (textAt t o) from) (isBoundary (textAt t o) to) (a .1) in
+      slice-utf8 (textAt t o) from to (u o) (b .0) (b .1) (leb-true from to (a .0))
 
   pub value-utf8 : (v : Value) → valueOk t v ≡ true → isUtf8 (valueBytes t v) ≡ true
   unfolding valueOk valueBytes textOk all
   value-utf8 v e = go (v .text) (both (textOk t (v .text)) (noLf (valueBytes t v)) e .0)
     where
       go : (x : Text) → textOk t x ≡ true → isUtf8 (textBytes t x) ≡ true
-      go (Plain from to) h = range-utf8 from to h
-      go (Quoted from to) h = unescape-utf8 (rangeBytes t from to) (range-utf8 from to h)
+      go (Plain o from to) h = range-utf8 o from to h
+      go (Quoted o from to) h = unescape-utf8 (rangeBytes t o from to) (range-utf8 o from to h)
       go Empty h = ascii [] refl
 
   module _ {s : Rows} (p : Passed t s) where
-    id-utf8 : (i : ids.Id) → isThere i ≡ true → identOk t i ≡ true → all isUtf8 (idValues t i) ≡ true
+    id-utf8 : (i : Ident) → isThere i ≡ true → identOk t i ≡ true → all isUtf8 (idValues t i) ≡ true
     unfolding all
-    id-utf8 id.Missing h e = refl
-    id-utf8 (id.Given v) h e = rw (value-utf8 v e)
+    id-utf8 Ident.missing h e = refl
+    id-utf8 (Ident.given v) h e = rw (value-utf8 v e)
 
     slot-utf8 : (x : Slot) → isPresent s x ≡ true → entryUtf8 (slotEntry t s x) ≡ true
     unfolding slotEntry all
@@ -230,21 +230,17 @@ module _ (t : Texts) (u : isUtf8 (t .text) ≡ true) where
     slots-utf8 (x ∷ o) h = let z = both (isPresent s x) (all (isPresent s) o) h in rw (slot-utf8 x (z .0)) (slots-utf8 o (z .1))
 
 -- ======== of a table
-module _ (t : List ℕ) (a : Attrs) (e : wellFormed t a ≡ true) where
-  pub text-utf8 : isUtf8 t ≡ true
-  unfolding wellFormed
-  text-utf8 = texts.text-utf8 t (both (isText t) (tableOk (one t) a) e .0)
-
-  pub table-ok : tableOk (one t) a ≡ true
-  unfolding wellFormed
-  table-ok = both (isText t) (tableOk (one t) a) e .1
+module _ (t : Texts) (a : Attrs) (e : wellFormed t a ≡ true) where
+  pub text-utf8 : (o : Origin) → isUtf8 (textAt t o) ≡ true
+  text-utf8 First = texts.text-utf8 (t .first) (formed-parts t a e .0)
+  text-utf8 Second = texts.text-utf8 (t .second) (formed-parts t a e .1)
 
   pub means-utf8 : NamesUtf8 t a
   unfolding meaningOf meant
-  means-utf8 = let p = table-passed (one t) a table-ok in slots-utf8 (one t) text-utf8 p (rowsIn a .order) (slots-named (rowsIn a) (p .slots))
+  means-utf8 = let p = table-passed t a (formed-parts t a e .2) in slots-utf8 t text-utf8 p (rowsIn a .order) (slots-named (rowsIn a) (p .slots))
 
   pub written-utf8 : WrittenUtf8 t a
-  written-utf8 = canon-utf8 (meaningOf (one t) a) means-utf8
+  written-utf8 = canon-utf8 (meaningOf t a) means-utf8
 
 pub all-utf8 : MeansUtf8
 all-utf8 t a e = (means-utf8 t a e, written-utf8 t a e)

@@ -12,15 +12,14 @@ use borrow.Author.Tests.{ltb-false, le-ltb}
 use Rattle.base_lists.specs.Lists.{all}
 use Rattle.base_lists.proofs.Scan.{both}
 use Rattle.base_refusals.specs.declared.Refusal.{Refusal}
-use Rattle.text_checks.specs.Check.{checkOf, isText}
+use Rattle.text_checks.specs.Check.{bothOf}
 use Rattle.base_refusals.specs.declared.Outcome.{Outcome}
 use Rattle.base_refusals.specs.declared.Outcome.the-variants.{Passed, Refused}
 use Rattle.base_refusals.specs.declared.Outcome.the-variants as outcome
-use Rattle.text_checks.proofs.Texts.{passed, text-passes}
 use Rattle.proved_sets.specs.Formed.{entryOk, wf, HasNothing}
 use Rattle.block_grammar.specs.Meaning.{className}
 use Rattle.proved_grammar.specs.Meaning.{puts, lookup, slotNames, distinct}
-use Rattle.set_table.specs.Types.{Texts, one, maxClasses, maxKeys, zeroRow}
+use Rattle.set_table.specs.Types.{Texts, maxClasses, maxKeys, zeroRow}
 use Rattle.set_table.specs.Rows.{Rows, Put, noRows, isNamed, putRow, withPut, withPuts, tableOf, rowsIn, meant, meaningOf}
 use Rattle.set_table.specs.Shape.{Shaped}
 use Rattle.set_table.specs.declared.Attrs.{Attrs}
@@ -45,7 +44,7 @@ use Rattle.proved_sets.proofs.MergePuts.{good-puts, says, all-allowed}
 use Rattle.proved_sets.proofs.TableWhole.{table-means}
 use Rattle.proved_sets.proofs.MergeRest.{own-keys}
 use Rattle.proved_sets.proofs.WellFormedMeans.{means-wf}
-use Rattle.proved_sets.proofs.WellFormedShape.{passed-rows}
+use Rattle.proved_sets.proofs.WellFormedShape.{passed-rows, formed-parts, both-pass, both-texts}
 
 -- ---- what puts do to the names of rows that are there
 module _ (t : Texts) (k : ℕ) where
@@ -73,36 +72,36 @@ module _ (t : Texts) (k : ℕ) where
   puts-names s (p ∷ ps) l = puts-names (withPut t s p) ps (omega (arith, put-grows t s p)) ∙ put-name s p l
 
 -- ---- the rows that a merge comes to
-module _ (t : List ℕ) (a b : Attrs) where
+module _ (t : Texts) (a b : Attrs) where
   abbrev pub whole : Rows
-  whole = withPuts (one t) (rowsIn a) (putsBy (rowsIn b))
+  whole = withPuts t (rowsIn a) (putsBy (rowsIn b))
 
   -- what a set handed out says of its making
   record Gave : Type 0 where
-    text : checkOf t ≡ Passed
-    first : tableOk (one t) a ≡ true
-    second : tableOk (one t) b ≡ true
+    text : bothOf (t .first) (t .second) ≡ Passed
+    first : tableOk t a ≡ true
+    second : tableOk t b ≡ true
     classes : length (whole .classes) ≤ maxClasses
     keys : length (whole .keys) ≤ maxKeys
     is : mergeOf t a b .set ≡ tableOf whole
 
   -- they are as well-formed as those of the two sets
-  module _ (f : tableOk (one t) a ≡ true) (g : tableOk (one t) b ≡ true) where
-    good : all (putOk (one t)) (putsBy (rowsIn b)) ≡ true
-    good = good-puts (table-passed (one t) b g)
+  module _ (f : tableOk t a ≡ true) (g : tableOk t b ≡ true) where
+    good : all (putOk t) (putsBy (rowsIn b)) ≡ true
+    good = good-puts (table-passed t b g)
 
-    allowed : all (isAllowed (one t)) (putsBy (rowsIn b)) ≡ true
-    allowed = all-allowed (one t) (putsBy (rowsIn b)) good
+    allowed : all (isAllowed t) (putsBy (rowsIn b)) ≡ true
+    allowed = all-allowed t (putsBy (rowsIn b)) good
 
-    pub whole-shaped : Shaped (one t) whole
-    whole-shaped = shaped-puts (shaped (one t) a f) (putsBy (rowsIn b)) allowed
+    pub whole-shaped : Shaped t whole
+    whole-shaped = shaped-puts (shaped t a f) (putsBy (rowsIn b)) allowed
 
-    whole-good : rowsOk (one t) whole ≡ true
-    whole-good = rows-puts (one t) (rowsIn a) (putsBy (rowsIn b)) (passed-rows (table-passed (one t) a f)) good
+    whole-good : rowsOk t whole ≡ true
+    whole-good = rows-puts t (rowsIn a) (putsBy (rowsIn b)) (passed-rows (table-passed t a f)) good
 
-    pub whole-means : meant (one t) whole ≡ puts (meaningOf (one t) a) (meaningOf (one t) b)
+    pub whole-means : meant t whole ≡ puts (meaningOf t a) (meaningOf t b)
     unfolding meaningOf
-    whole-means = puts-meant (shaped (one t) a f) (putsBy (rowsIn b)) allowed ∙ says (table-passed (one t) b g) (meant (one t) (rowsIn a))
+    whole-means = puts-meant (shaped t a f) (putsBy (rowsIn b)) allowed ∙ says (table-passed t b g) (meant t (rowsIn a))
 
 abbrev Done : Filled → Type 0
 Done f = f .outcome ≡ outcome.Passed
@@ -110,12 +109,12 @@ Done f = f .outcome ≡ outcome.Passed
 refuses : {A : Type 0} {r : Refusal} → outcome.Refused r ≡ outcome.Passed → A
 refuses e = let z : _≡_ {A = ℕ} 0 1 = cc in absurd (omega arith)
 
-module _ (t : List ℕ) (a b : Attrs) where
+module _ (t : Texts) (a b : Attrs) where
   gave : Done (mergeOf t a b) → Gave t a b
   unfolding mergeOf limited
-  gave = go (checkOf t) refl (tableOk (one t) a) refl (tableOk (one t) b) refl (ltb maxClasses (length (whole t a b .classes))) refl (ltb maxKeys (length (whole t a b .keys))) refl
+  gave = go (bothOf (t .first) (t .second)) refl (tableOk t a) refl (tableOk t b) refl (ltb maxClasses (length (whole t a b .classes))) refl (ltb maxKeys (length (whole t a b .keys))) refl
     where
-      go : (c : Outcome) → checkOf t ≡ c → (x : Bool) → tableOk (one t) a ≡ x → (y : Bool) → tableOk (one t) b ≡ y
+      go : (c : Outcome) → bothOf (t .first) (t .second) ≡ c → (x : Bool) → tableOk t a ≡ x → (y : Bool) → tableOk t b ≡ y
           → (p : Bool) → ltb maxClasses (length (whole t a b .classes)) ≡ p → (q : Bool) → ltb maxKeys (length (whole t a b .keys)) ≡ q → Done (mergeOf t a b) → Gave t a b
       go (Refused r) e x f y g p h q i d = refuses (rw e at d)
       go Passed e false f y g p h q i d = refuses (rw (e, f) at d)
@@ -129,22 +128,23 @@ module _ (t : List ℕ) (a b : Attrs) where
 
   -- ======== the set that is handed out
   module _ (d : Done (mergeOf t a b)) where
-    pub merge-means : mergeMeaning t a b ≡ puts (meaningOf (one t) a) (meaningOf (one t) b)
-    merge-means = let g = gave d in ap (meaningOf (one t)) (g .is) ∙ table-means (whole t a b) (one t) ∙ whole-means t a b (g .first) (g .second)
+    pub merge-means : mergeMeaning t a b ≡ puts (meaningOf t a) (meaningOf t b)
+    merge-means = let g = gave d in ap (meaningOf t) (g .is) ∙ table-means (whole t a b) t ∙ whole-means t a b (g .first) (g .second)
 
-    second-distinct : distinct (meaningOf (one t) b) ≡ true
+    second-distinct : distinct (meaningOf t b) ≡ true
     unfolding wf
-    second-distinct = both (all entryOk (meaningOf (one t) b)) (distinct (meaningOf (one t) b)) (means-wf (one t) b (gave d .second)) .1
+    second-distinct = both (all entryOk (meaningOf t b)) (distinct (meaningOf t b)) (means-wf t b (gave d .second)) .1
 
     -- by names: what b has of a name wins, its classes are joined; what it hasn't stays
-    merge-values : (n : List ℕ) → lookup n (mergeMeaning t a b) ≡ valuesMerged n (meaningOf (one t) a) (meaningOf (one t) b)
-    merge-values n = ap (lookup n) merge-means ∙ puts-lookup n (meaningOf (one t) b) (meaningOf (one t) a) second-distinct
+    merge-values : (n : List ℕ) → lookup n (mergeMeaning t a b) ≡ valuesMerged n (meaningOf t a) (meaningOf t b)
+    merge-values n = ap (lookup n) merge-means ∙ puts-lookup n (meaningOf t b) (meaningOf t a) second-distinct
 
     formed : wellFormed t (mergeOf t a b .set) ≡ true
     unfolding wellFormed
     formed =
         let g = gave d in
-        rw (← passed t refl (g .text), g .is) (table-ok (one t) (whole t a b) (whole-good t a b (g .first) (g .second)) (g .classes) (g .keys))
+        let z = both-texts t (g .text) in
+        rw (z .0, z .1, g .is) (table-ok t (whole t a b) (whole-good t a b (g .first) (g .second)) (g .classes) (g .keys))
 
 pub merge-gives : MergeGives
 merge-gives t a b d =
@@ -152,40 +152,39 @@ merge-gives t a b d =
       means = merge-means t a b d;
       later-wins = λ n q c. merge-values t a b d n ∙ (rw (q, c));
       earlier-stays = λ n q. merge-values t a b d n ∙ (rw q);
-      classes-joined = merge-values t a b d className ∙ merged-classes (meaningOf (one t) a) (meaningOf (one t) b);
-      new-behind = ap slotNames (merge-means t a b d) ∙ puts-slots (meaningOf (one t) b) (meaningOf (one t) a) (second-distinct t a b d);
-      rows-kept = λ k l. rw (gave t a b d .is, rows-table (whole t a b)) (puts-names (one t) k (rowsIn a) (putsBy (rowsIn b)) l);
+      classes-joined = merge-values t a b d className ∙ merged-classes (meaningOf t a) (meaningOf t b);
+      new-behind = ap slotNames (merge-means t a b d) ∙ puts-slots (meaningOf t b) (meaningOf t a) (second-distinct t a b d);
+      rows-kept = λ k l. rw (gave t a b d .is, rows-table (whole t a b)) (puts-names t k (rowsIn a) (putsBy (rowsIn b)) l);
       formed = formed t a b d;
     }
 
 -- ======== "An empty set is well-formed and merges as nothing."
-module _ (t : List ℕ) {e : Attrs} (n : HasNothing e) (a : Attrs) (p : checkOf t ≡ Passed) (h : tableOk (one t) a ≡ true) where
+module _ (t : Texts) {e : Attrs} (n : HasNothing e) (a : Attrs) (p : bothOf (t .first) (t .second) ≡ Passed) (h : tableOk t a ≡ true) where
   merge-empty : mergeOf t a e ≡ record { outcome = outcome.Passed; set = tableOf (rowsIn a) }
   unfolding mergeOf limited flatMap withPuts
   merge-empty =
       let s = rowsIn a in
-      let l = few (one t) a h in
+      let l = few t a h in
       rw (p, h, empty-formed t e n, nothing-rows n, le-ltb maxClasses (length (s .classes)) (l .0), le-ltb maxKeys (length (s .keys)) (l .1))
 
   empty-merge : Done (mergeOf t e a)
   unfolding mergeOf limited
   empty-merge =
-      let w = withPuts (one t) (rowsIn e) (putsBy (rowsIn a)) in
-      let l = few (one t) a h in
-      let c : length (w .classes) ≤ maxClasses = rw (nothing-rows n) (omega (arith, count-classes (one t) (rowsIn a) noRows (shaped (one t) a h .once Class), l)) in
-      let k : length (w .keys) ≤ maxKeys = rw (nothing-rows n) (omega (arith, own-keys (one t) (rowsIn a) (shaped (one t) a h), l)) in
+      let w = withPuts t (rowsIn e) (putsBy (rowsIn a)) in
+      let l = few t a h in
+      let c : length (w .classes) ≤ maxClasses = rw (nothing-rows n) (omega (arith, count-classes t (rowsIn a) noRows (shaped t a h .once Class), l)) in
+      let k : length (w .keys) ≤ maxKeys = rw (nothing-rows n) (omega (arith, own-keys t (rowsIn a) (shaped t a h), l)) in
       rw (p, h, empty-formed t e n, le-ltb maxClasses (length (w .classes)) c, le-ltb maxKeys (length (w .keys)) k)
 
-  no-meaning : meaningOf (one t) e ≡ []
+  no-meaning : meaningOf t e ≡ []
   unfolding meaningOf meant
   no-meaning = rw (nothing-rows n)
 
-  empty-keeps : mergeMeaning t e a ≡ meaningOf (one t) a
-  empty-keeps = merge-means t e a empty-merge ∙ (rw no-meaning (puts-none (meaningOf (one t) a) (second-distinct t e a empty-merge)))
+  empty-keeps : mergeMeaning t e a ≡ meaningOf t a
+  empty-keeps = merge-means t e a empty-merge ∙ (rw no-meaning (puts-none (meaningOf t a) (second-distinct t e a empty-merge)))
 
 pub empty-merges : EmptyMerges
-unfolding wellFormed
 empty-merges t e a n w =
-    let z = both (isText t) (tableOk (one t) a) w in
-    let p = text-passes t (z .0) in
-    record { behind = merge-empty t n a p (z .1); passes = empty-merge t n a p (z .1); keeps = empty-keeps t n a p (z .1) }
+    let z = formed-parts t a w in
+    let p = both-pass t (z .0) (z .1) in
+    record { behind = merge-empty t n a p (z .2); passes = empty-merge t n a p (z .2); keeps = empty-keeps t n a p (z .2) }

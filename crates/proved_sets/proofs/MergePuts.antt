@@ -13,10 +13,8 @@ use Rattle.block_grammar.specs.Meaning.{Entry, idName, className}
 use Rattle.proved_grammar.specs.Meaning.{put, puts}
 use Rattle.proved_grammar.proofs.Views.{puts-append}
 use Rattle.set_table.specs.Types.{Texts, valueBytes, zeroRow}
-use Rattle.set_table.specs.Rows.{Rows, Put, isThere, idValues, slotEntry, meant}
+use Rattle.set_table.specs.Rows.{Ident, Rows, Put, isThere, idValues, slotEntry, meant}
 use Rattle.set_table.specs.Shape.{isPresent}
-use Rattle.set_table.specs.declared.Id as ids
-use Rattle.set_table.specs.declared.Id.the-variants as id
 use Rattle.set_table.specs.declared.Slot.{Slot}
 use Rattle.set_table.specs.declared.Slot.the-variants.{Id, Class, Key}
 use Rattle.set_table.specs.declared.Value.{Value}
@@ -35,9 +33,9 @@ module _ {t : Texts} {s : Rows} (h : Passed t s) where
   unfolding putsAt putOk all
   good-at Id p = go (s .ident) (h .ident)
     where
-      go : (i : ids.Id) → identOk t i ≡ true → all (putOk t) (putsOfId i) ≡ true
-      go id.Missing k = refl
-      go (id.Given v) k = rw k
+      go : (i : Ident) → identOk t i ≡ true → all (putOk t) (putsOfId i) ≡ true
+      go Ident.missing k = refl
+      go (Ident.given v) k = rw k
   good-at Class p = go (s .classes) (h .classes)
     where
       go : (cs : List Value) → all (classOk t) cs ≡ true → all (putOk t) (map Put.class cs) ≡ true
@@ -53,9 +51,9 @@ module _ {t : Texts} {s : Rows} (h : Passed t s) where
   unfolding putsAt putEntry slotEntry puts
   says-at m Id p = go (s .ident) p
     where
-      go : (i : ids.Id) → isThere i ≡ true → puts m (map (putEntry t) (putsOfId i)) ≡ put m (record { name = idName; values = idValues t i })
-      go id.Missing q = contra false q refl
-      go (id.Given v) q = refl
+      go : (i : Ident) → isThere i ≡ true → puts m (map (putEntry t) (putsOfId i)) ≡ put m (record { name = idName; values = idValues t i })
+      go Ident.missing q = contra false q refl
+      go (Ident.given v) q = refl
   says-at m Class p = go (s .classes) p
     where
       each : (cs : List Value) → map (putEntry t) (map Put.class cs) ≡ map (λ u. entry className (u ∷ [])) (map (valueBytes t) cs)

@@ -8,7 +8,7 @@ use native.Mathlib.Omega.{arith}
 use lib.ListN.{length, getD}
 use borrow.Author.Tests.{ne-eqb}
 use Rattle.set_table.specs.Types.{Texts, zeroRow}
-use Rattle.set_table.specs.Rows.{Rows, Put, noRows, withPut, withPuts}
+use Rattle.set_table.specs.Rows.{Ident, Rows, Put, noRows, withPut, withPuts}
 use Rattle.set_table.specs.Shape.{isSlot, times, Shaped}
 use Rattle.set_table.specs.declared.Slot.{Slot}
 use Rattle.set_table.specs.declared.Slot.the-variants.{Id, Class, Key}
@@ -16,8 +16,6 @@ use Rattle.set_table.specs.declared.Value.{Value}
 use Rattle.set_table.proofs.Slots.{slots-length}
 use Rattle.set_table.proofs.Puts.{key-count, puts-after}
 use Rattle.set_merge.specs.Merge.{putsOfId, putsAt, putsBy}
-use Rattle.set_table.specs.declared.Id as ids
-use Rattle.set_table.specs.declared.Id.the-variants as id
 
 module _ (t : Texts) where
   module _ (b : Rows) where
@@ -30,9 +28,9 @@ module _ (t : Texts) where
     unfolding putsAt withPuts withPut
     keys-at s Id = go (b .ident)
       where
-        go : (i : ids.Id) → length (withPuts t s (putsOfId i) .keys) + 1 + 0 ≤ length (s .keys) + 1
-        go id.Missing = omega arith
-        go (id.Given v) = omega arith
+        go : (i : Ident) → length (withPuts t s (putsOfId i) .keys) + 1 + 0 ≤ length (s .keys) + 1
+        go Ident.missing = omega arith
+        go (Ident.given v) = omega arith
     keys-at s Class = omega (arith, ap length (class-keys s (b .classes)))
     keys-at s (Key k) =
         let r = getD (b .keys) k zeroRow in

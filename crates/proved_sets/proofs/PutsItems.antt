@@ -28,6 +28,7 @@ use Rattle.set_table.specs.Types.{one, nameBytes, textBytes, valueBytes, rangeB
 use Rattle.set_table.specs.Rows.{Put}
 use Rattle.set_table.specs.Puts.{valueOf, pieceOf, byName, valued, putsOf, putsIn}
 use Rattle.set_table.specs.Shape.{isFree}
+use Rattle.set_table.specs.declared.Origin.the-variants.{First}
 use Rattle.set_table.specs.declared.Text.{Text}
 use Rattle.set_table.specs.declared.Text.the-variants as texts
 use Rattle.set_table.specs.declared.Name.the-variants as name
@@ -71,16 +72,16 @@ no-ranges (b ∷ s) at e = go (isSpace b) refl e (no-ranges s (suc at))
 -- ---- values: the text of a kind has the bytes of its range, themselves or unescaped
 module _ (w : List ℕ) where
   record Kind (kind : ℕ → ℕ → Text) (f : List ℕ → List ℕ) : Type 0 where
-    reads : (a b : ℕ) → textBytes (one w) (kind a b) ≡ f (rangeBytes (one w) a b)
-    inside : (a b : ℕ) → textOk (one w) (kind a b) ≡ rangeOk (one w) a b
+    reads : (a b : ℕ) → textBytes (one w) (kind a b) ≡ f (rangeBytes (one w) First a b)
+    inside : (a b : ℕ) → textOk (one w) (kind a b) ≡ rangeOk (one w) First a b
     flat : (v : List ℕ) → noLf v ≡ true → noLf (f v) ≡ true
     class : (v : List ℕ) → isClassValue v ≡ true → isClassValue (f v) ≡ true
 
-  plain-kind : Kind (λ a b. texts.Plain a b) (λ v. v)
+  plain-kind : Kind (λ a b. texts.Plain First a b) (λ v. v)
   unfolding textOk
   plain-kind = record { reads = λ a b. refl; inside = λ a b. refl; flat = λ v h. h; class = λ v h. h }
 
-  quoted-kind : Kind (λ a b. texts.Quoted a b) unescape
+  quoted-kind : Kind (λ a b. texts.Quoted First a b) unescape
   unfolding textOk noLf isClassValue
   quoted-kind = record { reads = λ a b. refl; inside = λ a b. refl; flat = λ v h. no-lf v ∙ h; class = λ v h. rw (no-space v, only-space v) h }
 
@@ -136,7 +137,7 @@ module _ (w : List ℕ) where
   unfolding all putOk byName keyOk nameOk nameBytes isFree
   by-name {at} {k} p h x v classes c = go (same k idName) refl (same k className) refl
     where
-      go : (a : Bool) → same k idName ≡ a → (b : Bool) → same k className ≡ b → all (putOk (one w)) (cond a (Put.ident (valueOf x) ∷ []) (cond b classes (Put.key (name.Range at (at + length k)) (valueOf x) ∷ []))) ≡ true
+      go : (a : Bool) → same k idName ≡ a → (b : Bool) → same k className ≡ b → all (putOk (one w)) (cond a (Put.ident (valueOf x) ∷ []) (cond b classes (Put.key (name.Range First at (at + length k)) (valueOf x) ∷ []))) ≡ true
       go true q b r = rw v
       go false q true r = c
       go false q false r = rw (range-ok p, range-is p, h, q, r, v)
@@ -161,7 +162,7 @@ module _ (w : List ℕ) where
 
   token-ok : {t : List ℕ} {i : Item} → IsToken t i → {at : ℕ} {rest : List ℕ} → Part w at t rest → noLf t ≡ true → all (putOk (one w)) (putsOf at i) ≡ true
   unfolding putsOf all putOk noLf
-  token-ok (IsToken.tag {t = t} h) {at} p f = rw (lang-ok (texts.Plain (at + 1) (at + 1 + length t)) (value-ok plain-kind (behind [] 58 t (omega arith) p (omega arith)) f))
+  token-ok (IsToken.tag {t = t} h) {at} p f = rw (lang-ok (texts.Plain First (at + 1) (at + 1 + length t)) (value-ok plain-kind (behind [] 58 t (omega arith) p (omega arith)) f))
   token-ok (IsToken.id {n = n} h) {at} p f = rw (value-ok plain-kind {from = at + 1} (behind [] 35 n (omega arith) p (omega arith)) f)
   token-ok (IsToken.class {n = n} h) {at} p f = rw (class-ok plain-kind {from = at + 1} (behind [] 46 n (omega arith) p (omega arith)) f (name-class n h))
   token-ok (IsToken.plain {k = k} {v = v} h g) p f =

@@ -6,7 +6,7 @@ use mathlib.Core.List.{List, [], _∷_}
 use Rattle.base_lists.specs.Lists.{all}
 use Rattle.base_lists.proofs.Scan.{both, all-append}
 use native.Mathlib.Omega.{arith}
-use Rattle.set_table.specs.Types.{Texts, one}
+use Rattle.set_table.specs.Types.{Texts}
 use Rattle.set_table.specs.declared.Attrs.{Attrs}
 use Rattle.set_table.specs.Rows.{Rows, Put, noRows, isNamed, putRow, withPut, withPuts, tableOf, rowsIn}
 use Rattle.set_table.specs.Shape.{times, Shaped}
@@ -75,4 +75,4 @@ nothing-rows h = rw (h .id, h .classes, h .keys, h .slots)
 
 pub empty-formed : EmptyFormed
 unfolding tableOk
-empty-formed t e h = rw (counts e (omega (arith, h .classes)) (omega (arith, h .keys)) (omega (arith, h .slots)), nothing-rows h) (rows-none (one t))
+empty-formed t e h = rw (counts e (omega (arith, h .classes)) (omega (arith, h .keys)) (omega (arith, h .slots)), nothing-rows h) (rows-none t)

@@ -19,6 +19,7 @@ use Rattle.text_utf8.proofs.Laws.{past-ascii}
 use Rattle.proved_texts.proofs.Utf8Boundaries.{parts, rest-boundary, before-ascii}
 use Rattle.proved_texts.proofs.Utf8Grammar.{utf8-append}
 use Rattle.set_table.specs.Types.{one, rangeBytes}
+use Rattle.set_table.specs.declared.Origin.the-variants.{First}
 use Rattle.set_values.specs.Values.{rangeOk}
 
 -- b stands in w at `from`, and `rest` behind it
@@ -32,7 +33,7 @@ module _ {w : List ℕ} {from : ℕ} {b rest : List ℕ} (p : Part w from b rest
   part-length : length w ≡ from + length b + length rest
   part-length = omega (arith, p .within, length-drop from w, ap length (p .stands), length-append b rest)
 
-  pub range-ok : rangeOk (one w) from (from + length b) ≡ true
+  pub range-ok : rangeOk (one w) First from (from + length b) ≡ true
   unfolding rangeOk
   range-ok =
       let n = part-length in
@@ -41,7 +42,7 @@ module _ {w : List ℕ} {from : ℕ} {b rest : List ℕ} (p : Part w from b rest
       let z : isBoundary w (from + length b) ≡ true = rest-boundary w (from + length b) (omega arith) (rw e (p .back)) in
       rw (le-leb from (from + length b) (omega arith), a, z)
 
-  pub range-is : rangeBytes (one w) from (from + length b) ≡ b
+  pub range-is : rangeBytes (one w) First from (from + length b) ≡ b
   unfolding rangeBytes
   range-is = rw (slice-add from (length b) w, p .stands, take-append-seam b rest)
 

@@ -21,7 +21,7 @@ use Rattle.set_table.specs.declared.Filled.{Filled}
 use Rattle.set_table.specs.Filled.{refusing, limited}
 use Rattle.set_fill.specs.Fill.{filledBy, filledOf, fillAt, chainAt}
 use Rattle.base_refusals.specs.declared.Outcome.{Outcome}
-use Rattle.text_checks.specs.Check.{checkOf}
+use Rattle.text_checks.specs.Check.{bothOf}
 use Rattle.set_table.specs.declared.Attrs.{Attrs}
 use Rattle.set_wellformed.specs.WellFormed.{tableOk}
 use Rattle.set_merge.specs.Merge.{putsBy, mergedBy, mergeOf}
@@ -53,13 +53,13 @@ module _ (m : Mode) (t : List ℕ) (from to : ℕ) where
   unfolding chainAt
   chain-settled = unless (ltb maxText (length t)) TextTooLong (reading-settled (one t) (readBlocks m from (slice from to t)))
 
-pub merge-settled : (t : List ℕ) (a b : Attrs) → Settled (mergeOf t a b)
+pub merge-settled : (t : Texts) (a b : Attrs) → Settled (mergeOf t a b)
 unfolding mergeOf
-merge-settled t a b = go (checkOf t)
+merge-settled t a b = go (bothOf (t .first) (t .second))
   where
     go : (c : Outcome) → Settled (mergedBy c t a b)
     go (Refused r) = Settled.refused r
-    go Passed = either (tableOk (one t) a && tableOk (one t) b) (limited-settled (withPuts (one t) (rowsIn a) (putsBy (rowsIn b)))) (Settled.refused NotWellFormed)
+    go Passed = either (tableOk t a && tableOk t b) (limited-settled (withPuts t (rowsIn a) (putsBy (rowsIn b)))) (Settled.refused NotWellFormed)
 
 pub refusals-empty : RefusalsEmpty
 refusals-empty = record { fill = fill-settled; chain = chain-settled; merge = merge-settled }

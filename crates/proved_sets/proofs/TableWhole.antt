@@ -1,13 +1,15 @@
--- A table means what the rows mean that it was made of, and what lies past its counts is zero.
+-- A table means what the rows mean that it was made of, and what lies past its counts is zero, as is an id that isn't given.
 -- Assumes nothing.
 use Prim.Native.Nat.{ℕ, zero, suc, _+_, _≤_, _-_}
 use mathlib.Core.Path.{_≡_, refl, ap}
+use mathlib.Core.Bool.{true, false}
 use mathlib.Core.List.{List, [], map}
 use native.Mathlib.Omega.{arith}
 use lib.ListN.{length, getD, replicate, length-map}
 use lib.Seq.{getD-append-add}
+use Rattle.base_lists.proofs.More.{contra}
 use Rattle.set_table.specs.Types.{Texts, maxClasses, maxKeys, maxSlots, zeroValue, zeroRow, zeroSlot, emptySet}
-use Rattle.set_table.specs.Rows.{Rows, noRows, padded, held, tableOf, rowsIn, meant, meaningOf}
+use Rattle.set_table.specs.Rows.{Ident, Rows, noRows, isThere, padded, held, idOr, tableOf, rowsIn, meant, meaningOf}
 use Rattle.set_table.proofs.Whole.{rows-table}
 
 module _ {A : Type 0} (n : ℕ) (z : A) where
@@ -24,6 +26,14 @@ module _ (s : Rows) where
   pub table-means : (t : Texts) → meaningOf t (tableOf s) ≡ meant t s
   unfolding meaningOf
   table-means t = ap (meant t) (rows-table s)
+
+  pub past-id : tableOf s .given ≡ false → tableOf s .id ≡ zeroValue
+  unfolding tableOf
+  past-id = go (s .ident)
+    where
+      go : (i : Ident) → isThere i ≡ false → idOr i ≡ zeroValue
+      go Ident.missing e = refl
+      go (Ident.given v) e = contra true refl e
 
   module _ (k : ℕ) where
     pub past-classes : tableOf s .nclass ≤ k → getD (tableOf s .classes) k zeroValue ≡ zeroValue

@@ -20,8 +20,8 @@ use Rattle.set_canon.specs.Canon.{isClassValue}
 use Rattle.proved_sets.specs.Formed.{entryOk, wf, MeansFormed, MeansNothing, CountsZero}
 use Rattle.proved_sets.proofs.CanonParts.{entry-ok, classes-ok, value-ok, joined}
 use Rattle.proved_sets.proofs.Shaping.{free-parts}
-use Rattle.set_table.specs.Types.{Texts, one, valueBytes, zeroRow}
-use Rattle.set_table.specs.Rows.{Rows, noRows, isThere, idValues, slotEntry, meant, rowsIn, meaningOf}
+use Rattle.set_table.specs.Types.{Texts, valueBytes, zeroRow}
+use Rattle.set_table.specs.Rows.{Ident, Rows, noRows, isThere, idValues, slotEntry, meant, rowsIn, meaningOf}
 use Rattle.set_table.specs.Shape.{times, isSlot, isPresent, nameAt, Shaped}
 use Rattle.set_table.specs.declared.Attrs.{Attrs}
 use Rattle.set_table.specs.declared.Row.{Row}
@@ -32,8 +32,6 @@ use Rattle.set_table.proofs.Slots.{times-le, times-head}
 use Rattle.set_values.specs.Values.{textOk, valueOk, identOk, classOk, keyOk}
 use Rattle.base_lists.proofs.Each.{all-map, all-at}
 use Rattle.set_wellformed.proofs.Shape.{slots-named, Passed, keyed, passed-shaped, table-passed, shaped}
-use Rattle.set_table.specs.declared.Id as ids
-use Rattle.set_table.specs.declared.Id.the-variants as id
 
 flat : (t : Texts) (v : Value) → valueOk t v ≡ true → noLf (valueBytes t v) ≡ true
 unfolding valueOk
@@ -60,10 +58,10 @@ unfolding isClass same
 class-class = refl
 
 module _ {t : Texts} {s : Rows} (p : Passed t s) where
-  id-entry : (i : ids.Id) → isThere i ≡ true → identOk t i ≡ true → entryOk (record { name = idName; values = idValues t i }) ≡ true
+  id-entry : (i : Ident) → isThere i ≡ true → identOk t i ≡ true → entryOk (record { name = idName; values = idValues t i }) ≡ true
   unfolding all
-  id-entry id.Missing h e = contra false h refl
-  id-entry (id.Given v) h e = entry-ok _ (record { key = id-key; flat = rw (flat t v e); shape = value-ok idName (valueBytes t v) id-no-class })
+  id-entry Ident.missing h e = contra false h refl
+  id-entry (Ident.given v) h e = entry-ok _ (record { key = id-key; flat = rw (flat t v e); shape = value-ok idName (valueBytes t v) id-no-class })
 
   class-entry : (cs : List Value) → isSome cs ≡ true → all (classOk t) cs ≡ true → entryOk (record { name = className; values = map (valueBytes t) cs }) ≡ true
   class-entry cs h e =
@@ -143,9 +141,9 @@ module _ {t : Texts} {s : Rows} (h : Shaped t s) where
   unfolding times
   empty-rows e = rw (no-id (s .ident) (rw e at (h .once Id)), no-class (s .classes) (rw e at (h .once Class)), no-key (s .keys) (rw e at (h .once (Key 0))), e)
     where
-      no-id : (i : ids.Id) → _≡_ {A = ℕ} 0 (cond (isThere i) 1 0) → i ≡ id.Missing
-      no-id id.Missing q = refl
-      no-id (id.Given v) q = absurd (omega arith)
+      no-id : (i : Ident) → _≡_ {A = ℕ} 0 (cond (isThere i) 1 0) → i ≡ Ident.missing
+      no-id Ident.missing q = refl
+      no-id (Ident.given v) q = absurd (omega arith)
 
       no-class : (cs : List Value) → _≡_ {A = ℕ} 0 (cond (isSome cs) 1 0) → cs ≡ []
       no-class [] q = refl
@@ -169,12 +167,16 @@ module _ (t : Texts) (a : Attrs) where
 -- the meaning is empty just where there are no rows
 pub means-none : MeansNothing
 unfolding meaningOf meant
-means-none t a e = (λ q. empty-rows (shaped (one t) a e) (none (rowsIn a .order) q), λ q. rw q)
+means-none t a e = (λ q. empty-rows (shaped t a e) (none (rowsIn a .order) q), λ q. rw q)
   where
-    none : (o : List Slot) → map (slotEntry (one t) (rowsIn a)) o ≡ [] → o ≡ []
+    none : (o : List Slot) → map (slotEntry t (rowsIn a)) o ≡ [] → o ≡ []
     none [] q = refl
     none (x ∷ o) q = contra true refl (cc)
 
 pub counts-zero : CountsZero
 unfolding rowsIn
-counts-zero t a e c k o = record { id = ap (λ s. s .ident) (empty-rows (shaped (one t) a e) (rw o)); classes = c; keys = k; slots = o }
+counts-zero t a e c k o = record { id = no-id (a .given) (ap (λ s. s .ident) (empty-rows (shaped t a e) (rw o))); classes = c; keys = k; slots = o }
+  where
+    no-id : (b : Bool) → cond b (Ident.given (a .id)) Ident.missing ≡ Ident.missing → b ≡ false
+    no-id true q = contra true refl (cc)
+    no-id false q = refl

@@ -1,7 +1,7 @@
 -- What `wellFormed` decides: rows that pass its tests are shaped as those that are put together, and shaped rows pass the tests that aren't of one row alone.
 -- Assumes nothing.
 use Prim.Native.Nat.{ℕ, zero, suc, _<_}
-use mathlib.Core.Path.{_≡_, refl}
+use mathlib.Core.Path.{_≡_, refl, sym, _∙_}
 use mathlib.Core.Bool.{Bool, true, false, cond, _&&_}
 use mathlib.Core.List.{List, [], _∷_}
 use native.Mathlib.Omega.{arith}
@@ -9,14 +9,20 @@ use lib.Dec.{leb}
 use lib.ListN.{length}
 use borrow.Author.Tests.{leb-true, eq-eqb}
 use Rattle.base_lists.proofs.Scan.{both}
-use Rattle.text_checks.specs.Check.{isText}
+use Rattle.base_lists.proofs.More.{contra}
+use Rattle.base_refusals.specs.declared.Outcome.{Outcome}
+use Rattle.base_refusals.specs.declared.Outcome.the-variants as outcome
+use Rattle.text_checks.specs.Check.{isText, checkOf, bothOf}
+use Rattle.text_checks.specs.Outcomes.{orElse}
+use Rattle.text_checks.proofs.CheckNumbers.{both-is}
 use Rattle.text_checks.proofs.Texts.{passed, text-passes}
 use Rattle.proved_sets.specs.Formed.{Formed, Decides}
 use Rattle.base_lists.specs.Lists.{same, all}
 use Rattle.base_lists.proofs.Each.{all-at, all-each}
-use Rattle.set_table.specs.Types.{Texts, one, maxClasses, maxKeys, maxSlots, zeroValue, zeroRow}
+use Rattle.set_table.specs.Types.{Texts, maxClasses, maxKeys, maxSlots, zeroValue, zeroRow}
 use Rattle.set_table.specs.Rows.{Rows, rowsIn}
 use Rattle.set_table.specs.Shape.{times, isPresent, nameAt, Shaped}
+use Rattle.set_table.specs.declared.Attrs.{Attrs}
 use Rattle.set_table.specs.declared.Row.{Row}
 use Rattle.set_table.specs.declared.Slot.{Slot}
 use Rattle.set_table.specs.declared.Slot.the-variants.{Id, Class, Key}
@@ -71,35 +77,61 @@ module _ {t : Texts} {s : Rows} where
   pub shaped-slots : Shaped t s → slotsOk s ≡ true
   shaped-slots h = once-slots s (h .once)
 
--- ---- the whole table
+-- ---- the texts, and the whole table over them
+module _ (t : Texts) (a : Attrs) where
+  pub formed-parts : wellFormed t a ≡ true → (isText (t .first) ≡ true) × (isText (t .second) ≡ true) × (tableOk t a ≡ true)
+  unfolding wellFormed
+  formed-parts e =
+      let x = both (isText (t .first)) (isText (t .second) && tableOk t a) e in
+      let y = both (isText (t .second)) (tableOk t a) (x .1) in
+      (x .0, y .0, y .1)
+
+  pub formed-whole : isText (t .first) ≡ true → isText (t .second) ≡ true → wellFormed t a ≡ tableOk t a
+  unfolding wellFormed
+  formed-whole x y = rw (x, y)
+
 pub decides : Decides
-unfolding wellFormed tableOk countsOk
-decides t a = (λ e. formed (both (isText t) (countsOk a && rowsOk (one t) (rowsIn a)) e), λ h. whole h)
+unfolding tableOk countsOk
+decides t a = (λ e. formed (formed-parts t a e), λ h. whole h)
   where
-    formed : (isText t ≡ true) × ((countsOk a && rowsOk (one t) (rowsIn a)) ≡ true) → Formed t a
+    formed : (isText (t .first) ≡ true) × (isText (t .second) ≡ true) × ((countsOk a && rowsOk t (rowsIn a)) ≡ true) → Formed t a
     formed e =
-        let c = both (countsOk a) (rowsOk (one t) (rowsIn a)) (e .1) in
+        let c = both (countsOk a) (rowsOk t (rowsIn a)) (e .2) in
         let x = both (leb (a .nclass) maxClasses) (leb (a .nkey) maxKeys && leb (a .norder) maxSlots) (c .0) in
         let y = both (leb (a .nkey) maxKeys) (leb (a .norder) maxSlots) (x .1) in
-        let p = rows-passed (one t) (rowsIn a) (c .1) in
+        let p = rows-passed t (rowsIn a) (c .1) in
         record {
-          text = text-passes t (e .0);
+          first = text-passes (t .first) (e .0);
+          second = text-passes (t .second) (e .1);
           classes = leb-true (a .nclass) maxClasses (x .0);
           keys = leb-true (a .nkey) maxKeys (y .0);
           slots = leb-true (a .norder) maxSlots (y .1);
           ident = p .ident;
-          class = all-at (classOk (one t)) zeroValue (rowsIn a .classes) (p .classes);
-          key = all-at (keyOk (one t)) zeroRow (rowsIn a .keys) (p .keys);
+          class = all-at (classOk t) zeroValue (rowsIn a .classes) (p .classes);
+          key = all-at (keyOk t) zeroRow (rowsIn a .keys) (p .keys);
           shape = passed-shaped p;
         }
 
-    whole : Formed t a → (isText t && (countsOk a && rowsOk (one t) (rowsIn a))) ≡ true
+    whole : Formed t a → wellFormed t a ≡ true
     whole h =
-        let p : Passed (one t) (rowsIn a) = record {
+        let p : Passed t (rowsIn a) = record {
           ident = h .ident;
-          classes = all-each (classOk (one t)) zeroValue (rowsIn a .classes) (h .class);
-          keys = all-each (keyOk (one t)) zeroRow (rowsIn a .keys) (h .key);
+          classes = all-each (classOk t) zeroValue (rowsIn a .classes) (h .class);
+          keys = all-each (keyOk t) zeroRow (rowsIn a .keys) (h .key);
           apart = shaped-apart (h .shape);
           slots = shaped-slots (h .shape);
         } in
-        rw (← passed t refl (h .text), counts a (h .classes) (h .keys) (h .slots)) (passed-rows p)
+        formed-whole t a (sym (passed (t .first) refl (h .first))) (sym (passed (t .second) refl (h .second)))
+        ∙ (rw (counts a (h .classes) (h .keys) (h .slots)) (passed-rows p))
+
+-- the check of both passes where each is a text
+module _ (t : Texts) where
+  pub both-pass : isText (t .first) ≡ true → isText (t .second) ≡ true → bothOf (t .first) (t .second) ≡ outcome.Passed
+  both-pass x y = sym (both-is (t .first) (t .second)) ∙ (rw (text-passes (t .first) x, text-passes (t .second) y))
+
+  pub both-texts : bothOf (t .first) (t .second) ≡ outcome.Passed → (isText (t .first) ≡ true) × (isText (t .second) ≡ true)
+  both-texts e = go (checkOf (t .first)) refl (both-is (t .first) (t .second) ∙ e)
+    where
+      go : (c : Outcome) → checkOf (t .first) ≡ c → orElse c (checkOf (t .second)) ≡ outcome.Passed → (isText (t .first) ≡ true) × (isText (t .second) ≡ true)
+      go outcome.Passed q e = (sym (passed (t .first) refl q), sym (passed (t .second) refl e))
+      go (outcome.Refused r) q e = contra true refl (cc)

@@ -33,6 +33,6 @@ pub record NeverEight (n : ℕ) (a : Attrs) : Type 0 where
 abbrev pub NeverGiven : Filled → Type 0
 NeverGiven f = NeverEight (outcomeNo (f .outcome)) (f .set)
 
--- of a payload, of a line of blocks, and of a merge of any two tables over any text, hand-made ones too; the entries that read are in proved_demands/specs/Eight
+-- of a payload, of a line of blocks, and of a merge of any two tables over any texts, hand-made ones too; the entries that read are in proved_demands/specs/Eight
 abbrev pub SetsNeverGiven : Type 0
 SetsNeverGiven = Throughout NeverGiven

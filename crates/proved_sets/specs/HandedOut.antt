@@ -1,5 +1,6 @@
 -- What holds of every set handed out by what fills a set or merges two, that of a refusal included.
 use mathlib.Core.Path.{_≡_}
+use mathlib.Core.Bool.{false}
 use mathlib.Core.List.{List}
 use Prim.Native.Nat.{ℕ, _+_, _≤_}
 use lib.ListN.{length, getD}
@@ -18,7 +19,7 @@ use Rattle.set_merge.specs.Merge.{mergeOf}
 pub record Throughout (P : Filled → Type 0) : Type 0 where
   pub fill : (m : Mode) (t : List ℕ) (at end : ℕ) → P (fillAt m t at end)
   pub chain : (m : Mode) (t : List ℕ) (from to : ℕ) → P (chainAt m t from to)
-  pub merge : (t : List ℕ) (a b : Attrs) → P (mergeOf t a b)
+  pub merge : (t : Texts) (a b : Attrs) → P (mergeOf t a b)
 
 -- "a refusal has its number, hands out no set" (demand 1): a refusal comes with the empty set, anything else with the table of some rows
 pub data Settled : Filled → Type 0 where
@@ -30,6 +31,8 @@ RefusalsEmpty = Throughout Settled
 
 -- "Rows past the counts are zero in every set handed out"
 pub record Zeroed (a : Attrs) : Type 0 where
+  -- and so is an id that isn't given
+  pub id : a .given ≡ false → a .id ≡ zeroValue
   pub classes : (k : ℕ) → a .nclass ≤ k → getD (a .classes) k zeroValue ≡ zeroValue
   pub keys : (k : ℕ) → a .nkey ≤ k → getD (a .keys) k zeroRow ≡ zeroRow
   pub slots : (k : ℕ) → a .norder ≤ k → getD (a .order) k zeroSlot ≡ zeroSlot

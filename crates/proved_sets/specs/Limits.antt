@@ -12,7 +12,7 @@ use Rattle.base_refusals.specs.declared.Outcome.the-variants.{Passed, Refused}
 use Rattle.proved_texts.specs.Utf8Rules.{WellFormed}
 use Rattle.block_grammar.specs.Meaning.{Entry}
 use Rattle.proved_grammar.specs.Meaning.{isClass, absent}
-use Rattle.set_table.specs.Types.{maxClasses, maxKeys}
+use Rattle.set_table.specs.Types.{Texts, maxClasses, maxKeys}
 use Rattle.set_table.specs.Shape.{isFree}
 
 -- "32 classes": each counts, each time that it is said
@@ -48,6 +48,10 @@ pub data Utf8Given (t : List ℕ) (G : Outcome → List Entry → Type 0) : Outc
   -- 2: "not UTF-8: ..; the whole text elsewhere"
   garbled : (WellFormed t → ⊥) → Utf8Given t G (Refused NotUtf8) []
   text : {o : Outcome} {s : List Entry} → WellFormed t → G o s → Utf8Given t G o s
+
+-- "1 and 2 are checked for the first text, then 1 and 2 for the second", and then what G gives
+abbrev pub TextsGiven : Texts → (Outcome → List Entry → Type 0) → Outcome → List Entry → Type 0
+TextsGiven t G = SizeGiven (t .first) (Utf8Given (t .first) (SizeGiven (t .second) (Utf8Given (t .second) G)))
 
 -- ".., 6, 7", where es is all that is said, and else the set, which means s
 pub data LimitGiven (es s : List Entry) : Outcome → List Entry → Type 0 where

@@ -69,10 +69,10 @@ unfolding nextOf
 next-zeroed t cap at = go (ltb maxText (length t)) (ltb cap maxText) (onlyBlocks (triesAt t cap 0 at))
   where
     none : Zeroed emptySet
-    none = let z = empty-zeroed in record { classes = z .classes; keys = z .keys; slots = z .slots }
+    none = empty-zeroed
 
     go : (x y : Bool) (bs : List Try) → Zeroed (cond x (nowhere TextTooLong at) (cond y (nowhere JoinFull at) (firstBlock t at bs)) .block .set)
     go true y bs = none
     go false true bs = none
     go false false [] = none
-    go false false (b ∷ bs) = let z = block-zeroed t (b .at) (b .found) in record { classes = z .classes; keys = z .keys; slots = z .slots }
+    go false false (b ∷ bs) = block-zeroed t (b .at) (b .found)

@@ -6,6 +6,7 @@ use mathlib.Core.List.{List}
 use Prim.Native.Nat.{ℕ}
 use Rattle.text_checks.specs.Check.{isText}
 use Rattle.text_checks.proofs.Texts.{text-short}
+use Rattle.proved_origins.proofs.Checks.{empty-text}
 use Rattle.proved_reading.specs.HandedSets.{SetFormed}
 use Rattle.proved_reading.proofs.BlockSets.{none-ok, found-ok}
 use Rattle.read_lengths.specs.Lengths.{flushLeft}
@@ -15,7 +16,7 @@ use Rattle.sheet_blocks.proofs.Goes.{goes-on}
 use Rattle.proved_sheets.specs.Blocks.{NextSetOk}
 
 flush-ok : (t : List ℕ) → isText t ≡ true → (cap at : ℕ) → SetFormed t at (flushLeft t cap at)
-flush-ok t h cap at = flush-by (SetFormed t at) t at cap (none-ok t h at _ _ _) (found-ok t h at 0 cap)
+flush-ok t h cap at = flush-by (SetFormed t at) t at cap (none-ok t h at _ _ _ empty-text) (found-ok t h at 0 cap)
 
 -- the next block stands some lines farther on
 pub next-set-ok : NextSetOk

@@ -17,11 +17,11 @@ use Rattle.text_checks.specs.Check.{checkOf}
 use Rattle.base_refusals.specs.declared.Outcome as outcomes
 use Rattle.base_refusals.specs.declared.Outcome.the-variants as outcome
 use Rattle.set_canon.specs.Canon.{canon}
-use Rattle.set_table.specs.Types.{one}
+use Rattle.set_table.specs.Types.{Texts}
 use Rattle.set_table.specs.Rows.{meaningOf}
 use Rattle.set_table.specs.declared.Attrs.{Attrs}
 use Rattle.run_lines.specs.Runs.{pastLines}
-use Rattle.read_blocks.specs.Blocks.{linesOf, textIn, filledFound, blockOf}
+use Rattle.read_blocks.specs.Blocks.{linesOf, textsIn, filledFound, blockOf}
 use Rattle.sheet_blocks.specs.Sheets.{Try, blocksOf}
 use Rattle.proved_sheets.proofs.Answers.{block-limited}
 use Rattle.proved_sheets.proofs.Order.{sheet-in-order}
@@ -40,9 +40,9 @@ canon-says n k m = go (ltb maxText (length (canon m))) refl
     go true e = Says.refused CanonTooLong refl
     go false e = Says.block (ltb-false maxText (length (canon m)) e)
 
-line-says : (n k : ℕ) (t : List ℕ) (a : Attrs) (o : outcomes.Outcome) → isLimited o ≡ true → Says n k (meaningOf (one t) a) (lineBy n k t a o)
+line-says : (n k : ℕ) (t : Texts) (a : Attrs) (o : outcomes.Outcome) → isLimited o ≡ true → Says n k (meaningOf t a) (lineBy n k t a o)
 unfolding all isIn
-line-says n k t a outcome.Passed e = canon-says n k (meaningOf (one t) a)
+line-says n k t a outcome.Passed e = canon-says n k (meaningOf t a)
 line-says n k t a (outcome.Refused r) e = Says.refused r (among (isIn (6 ∷ 7 ∷ 10 ∷ [])) (6 ∷ 7 ∷ []) (numberOf r) refl e)
 
 module _ (t : List ℕ) (fits : length t ≤ maxText) where
@@ -51,8 +51,8 @@ module _ (t : List ℕ) (fits : length t ≤ maxText) where
   good {n} {at} {x} h s =
       let l : isLimited (filledFound t (x .at) (x .found) .outcome) ≡ true = rw (s .found) (block-limited t maxText (x .at) fits (rw (s .found) at (s .is))) in
       record {
-        says = line-says (x .line) (linesOf (x .found)) (textIn t (x .found)) (filledFound t (x .at) (x .found) .set) (filledFound t (x .at) (x .found) .outcome) l;
-        short = line-le (x .line) (linesOf (x .found)) (textIn t (x .found)) (filledFound t (x .at) (x .found) .set) (filledFound t (x .at) (x .found) .outcome)
+        says = line-says (x .line) (linesOf (x .found)) (textsIn t (x .found)) (filledFound t (x .at) (x .found) .set) (filledFound t (x .at) (x .found) .outcome) l;
+        short = line-le (x .line) (linesOf (x .found)) (textsIn t (x .found)) (filledFound t (x .at) (x .found) .set) (filledFound t (x .at) (x .found) .outcome)
             (omega (arith, s .number, s .order, s .bytes, s .inside)) (omega (arith, s .bytes, s .inside));
       }
 

@@ -11,7 +11,7 @@ use Rattle.base_refusals.specs.declared.Outcome.the-variants.{Passed, Refused}
 use Rattle.text_checks.specs.Check.{isText}
 use Rattle.set_wellformed.specs.WellFormed.{wellFormed}
 use Rattle.proved_sets.specs.HandedOut.{Zeroed}
-use Rattle.read_blocks.specs.Blocks.{textIn, blockOf}
+use Rattle.read_blocks.specs.Blocks.{textsIn, blockOf}
 use Rattle.read_lengths.specs.Lengths.{flushLeft}
 use Rattle.sheet_blocks.specs.Sheets.{isBlock, nextOf}
 
@@ -32,9 +32,9 @@ BlockLimited = (t : List ℕ) (cap at : ℕ) → length t ≤ maxText → isBloc
 abbrev pub NextZeroed : Type 0
 NextZeroed = (t : List ℕ) (cap at : ℕ) → Zeroed (nextOf t cap at .block .set)
 
--- ---- "and it is well-formed if its text gives neither 1 nor 2"
+-- ---- "and it is well-formed if its texts give neither 1 nor 2"
 
--- the set of the next block behind a place, over the lent text or the joined one
+-- the set of the next block behind a place, over the lent text and what was joined
 abbrev pub NextSetOk : Type 0
 NextSetOk = (t : List ℕ) (cap at : ℕ) → isText t ≡ true → maxText ≤ cap → (nextOf t cap at .block .lines ≡ 0 → ⊥)
-    → wellFormed (textIn t (flushLeft t cap (nextOf t cap at .at))) (nextOf t cap at .block .set) ≡ true
+    → wellFormed (textsIn t (flushLeft t cap (nextOf t cap at .at))) (nextOf t cap at .block .set) ≡ true

@@ -13,9 +13,8 @@ use Rattle.base_refusals.specs.declared.Outcome.the-variants as outcome
 use Rattle.text_checks.specs.Check.{checkOf}
 use Rattle.block_grammar.specs.Meaning.{Entry}
 use Rattle.set_canon.specs.Canon.{canon}
-use Rattle.set_table.specs.Types.{one}
 use Rattle.set_table.specs.Rows.{meaningOf}
-use Rattle.read_blocks.specs.Blocks.{linesOf, textIn, filledFound}
+use Rattle.read_blocks.specs.Blocks.{linesOf, textsIn, filledFound}
 use Rattle.sheet_blocks.specs.Sheets.{Try, blocksOf}
 use Rattle.sheet_report.specs.Decimal.{decimal}
 use Rattle.sheet_report.specs.Report.{blockWord, reportLine, refusedLine, blockLine, report}
@@ -31,7 +30,7 @@ pub data Says (n k : ℕ) (m : List Entry) : List ℕ → Type 0 where
 
 -- what the set of a block means
 abbrev pub meantBy : List ℕ → Try → List Entry
-meantBy t x = meaningOf (one (textIn t (x .found))) (filledFound t (x .at) (x .found) .set)
+meantBy t x = meaningOf (textsIn t (x .found)) (filledFound t (x .at) (x .found) .set)
 
 -- the line of a block says that, and none is longer than `maxLine`
 pub record Good (t : List ℕ) (x : Try) : Type 0 where

@@ -16,7 +16,7 @@ PassedIsOctets = (s : List ℕ) → isUtf8 s ≡ true → WellFormed s
 abbrev pub OctetsPass : List ℕ → Type 0
 OctetsPass s = WellFormed s → isUtf8 s ≡ true
 
--- "ranges inside it on character boundaries": a boundary parts well-formed text into two such texts, ..
+-- "ranges inside their text on character boundaries": a boundary parts well-formed text into two such texts, ..
 abbrev pub BoundaryParts : Type 0
 BoundaryParts = (s : List ℕ) (i : ℕ) → isUtf8 s ≡ true → isBoundary s i ≡ true → (isUtf8 (take i s) ≡ true) × (isUtf8 (drop i s) ≡ true)
 

@@ -31,7 +31,7 @@ use Rattle.block_trimmed_line.specs.declared.Front.{Front}
 use Rattle.read_blocks.specs.declared.Block.{Block}
 use Rattle.run_lines.proofs.Bounds.{text-short}
 use Rattle.block_trimmed_line.specs.Fronts.{frontOf, opensAt}
-use Rattle.read_blocks.specs.Blocks.{Found, nothing, closedRun, runFound, found, wrapped, joinHolds, blockBy, unread, blockOf, sized}
+use Rattle.read_blocks.specs.Blocks.{Found, nothing, closedRun, runFound, found, wrapped, joinHolds, inSecond, blockBy, unread, blockOf, sized}
 use Rattle.read_blocks.specs.Inner.{isUnread}
 
 -- ---- a good line is one that is read
@@ -169,9 +169,9 @@ module _ (t : List ℕ) (at base : ℕ) (buf : List ℕ) {j : Joined} {b : List 
       unfolding joinHolds
       good-holds = rw (closed-is true g, o)
 
-      pub good-read : {y : Filled} {x : Block} → y ≡ chainAt Loose (take (j .len) b) 0 (j .len) → x ≡ blockBy y (j .lines) (j .lookahead) (j .len) (j .next) → x ≡ blockOf t at f
+      pub good-read : {y z : Filled} {x : Block} → y ≡ chainAt Loose (take (j .len) b) 0 (j .len) → z ≡ inSecond y → x ≡ blockBy z (j .lines) (j .lookahead) (j .len) (j .next) → x ≡ blockOf t at f
       unfolding blockOf
-      good-read p q = rw (closed-is true g, q, p, joined-is, e)
+      good-read p r q = rw (closed-is true g, q, r, p, joined-is, e)
 
     module _ (g : goodLine (take (j .len) b) 0 (j .len) ≡ false) where
       pub bad-holds : b ≡ joinHolds buf f

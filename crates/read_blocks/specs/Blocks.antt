@@ -2,9 +2,10 @@
 use Prim.Native.Nat.{ℕ}
 use mathlib.Core.Bool.{Bool, cond}
 use mathlib.Core.List.{List, [], _∷_, _++_}
+use lib.Dec.{eqb}
 use lib.ListN.{length}
 use lib.Seq.{slice}
-use Rattle.base_lists.specs.Lists.{over}
+use Rattle.base_lists.specs.Lists.{isSome, over}
 use Rattle.base_bytes.specs.declared.Mode.the-variants.{Loose}
 use Rattle.base_refusals.specs.Numbers.{tooLong}
 use Rattle.base_refusals.specs.Orders.{Ground, met}
@@ -13,9 +14,11 @@ use Rattle.base_refusals.specs.declared.Refusal.the-variants.{TextTooLong, Noth
 use Rattle.block_chain.specs.Chain.{goodLine}
 use Rattle.block_chain.specs.Computed.{readBlocks}
 use Rattle.set_fill.specs.Fill.{readingOrder, chainAt}
-use Rattle.set_table.specs.Types.{one}
+use Rattle.set_table.specs.Types.{Texts, one, two}
+use Rattle.set_table.specs.declared.Attrs.{Attrs}
 use Rattle.set_table.specs.declared.Filled.{Filled}
 use Rattle.set_table.specs.Filled.{refusing}
+use Rattle.set_exchange.specs.Exchange.{exchanged}
 use Rattle.run_lines.specs.Runs.{Run, runAt, pastLines}
 use Rattle.base_refusals.specs.declared.Outcome as outcomes
 use Rattle.base_refusals.specs.declared.Outcome.the-variants as outcome
@@ -78,16 +81,19 @@ linesOf (Found.none q x n) = 0
 unfoldable pub joinHolds : List ℕ → Found → List ℕ
 joinHolds buf f = over (joinedIn f) buf
 
--- ---- reading: "A set has ranges of one text: the lent one or, for a wrapped run, the joined text"
+-- ---- reading: "Every range shall say which of two lent texts it belongs to"
 
-abbrev pub textIn : List ℕ → Found → List ℕ
-textIn t Found.line = t
-textIn t (Found.run r) = r .text
-textIn t (Found.none q x n) = t
+-- a block's texts: the lent one, and what was joined
+abbrev pub textsIn : List ℕ → Found → Texts
+textsIn t f = two t (joinedIn f)
+
+-- a wrapped run's set is of the second text
+abbrev pub inSecond : Filled → Filled
+inSecond f = record { outcome = f .outcome; set = exchanged (f .set) }
 
 abbrev pub filledFound : List ℕ → ℕ → Found → Filled
 filledFound t at Found.line = chainAt Loose t (frontOf t at .from) (frontOf t at .to)
-filledFound t at (Found.run r) = chainAt Loose (r .text) 0 (length (r .text))
+filledFound t at (Found.run r) = inSecond (chainAt Loose (r .text) 0 (length (r .text)))
 filledFound t at (Found.none q x n) = refusing q
 
 abbrev pub blockBy : Filled → ℕ → ℕ → ℕ → ℕ → Block
@@ -99,6 +105,19 @@ unread r look joined at = blockBy (refusing r) 0 look joined at
 
 unfoldable pub blockOf : List ℕ → ℕ → Found → Block
 blockOf t at f = blockBy (filledFound t at f) (linesOf f) (lookaheadOf f) (length (joinedIn f)) (pastLines (linesOf f) t at)
+
+-- ---- a block's set as one over a single text: what was joined or, where nothing was, the lent one
+
+abbrev pub textFound : List ℕ → Found → List ℕ
+textFound t f = cond (isSome (joinedIn f)) (joinedIn f) t
+
+-- as the first of two texts
+unfoldable pub asFirst : Block → Attrs
+asFirst b = cond (eqb (b .joined) 0) (b .set) (exchanged (b .set))
+
+-- as the second
+unfoldable pub asSecond : Block → Attrs
+asSecond b = cond (eqb (b .joined) 0) (exchanged (b .set)) (b .set)
 
 -- a text above the size is refused before anything is read (by `read_at` and `wrapped_at`, since a set's places are 16-bit numbers)
 unfoldable pub sized : List ℕ → Found → Found

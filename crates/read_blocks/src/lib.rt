@@ -8,11 +8,11 @@ ghost use Prim.Native.Nat.{_≤_};
 ghost use lib.ListN.{length};
 ghost use Rattle.base_refusals.specs.Numbers.{maxText, numberOf, outcomeNo};
 ghost use Rattle.base_refusals.specs.Orders.{orderNo};
-ghost use Rattle.read_blocks.specs.Blocks.{runFound, found, wrapped, joinHolds, blockBy, unread, blockOf, sized, sizedOrder, foundOrder, wrappedOrder, readOrder};
+ghost use Rattle.read_blocks.specs.Blocks.{runFound, found, wrapped, joinHolds, blockBy, unread, blockOf, sized, sizedOrder, foundOrder, wrappedOrder, readOrder, inSecond, asFirst, asSecond};
 ghost use Rattle.read_blocks.specs.Inner.{isUnread};
 ghost use Rattle.set_table.specs.Filled.{refusing};
 
-// What reading answers: a block that was joined has its set over the joined bytes, any other over the text.
+// What reading answers: the set of a block that was joined is of the second text, the joined bytes; that of any other is of the first, the lent one.
 pub struct Block {
     pub outcome: Outcome,
     pub set: Attrs,
@@ -57,6 +57,16 @@ fn block_of(filled: Filled, lines: usize, lookahead: usize, joined: usize, next:
     }
 }
 
+// A set of the joined bytes alone, as one of the second text.
+fn in_second(filled: Filled) -> Filled
+    ensures { λ r. ⌜ r ≡ inSecond filled ⌝ }
+{
+    let outcome = filled.outcome;
+    let over = filled.set;
+    let set = set_exchange::exchange(over);
+    Filled { outcome, set }
+}
+
 // The run from the line at the place on, its set over the joined bytes.
 fn read_run(text: &[u8], at: usize, base: usize, join: &mut [u8]) -> Block
     requires { ⌜ length (now text) ≤ maxText ⌝ }
@@ -73,9 +83,31 @@ fn read_run(text: &[u8], at: usize, base: usize, join: &mut [u8]) -> Block
             if is_unread(outcome) {
                 return no_block(Refusal::NoReading, j.lookahead, j.len, at);
             }
-            block_of(filled, j.lines, j.lookahead, j.len, j.next)
+            block_of(in_second(filled), j.lines, j.lookahead, j.len, j.next)
         }
     }
+}
+
+// The block's set as one of the first text, which is the joined bytes or, where nothing was joined, the lent text.
+pub fn as_first(block: Block) -> Attrs
+    ensures { λ r. ⌜ r ≡ asFirst block ⌝ }
+{
+    let set = block.set;
+    if block.joined == 0 {
+        return set;
+    }
+    set_exchange::exchange(set)
+}
+
+// The block's set as one of the second text, which is the joined bytes or, where nothing was joined, the lent text.
+pub fn as_second(block: Block) -> Attrs
+    ensures { λ r. ⌜ r ≡ asSecond block ⌝ }
+{
+    let set = block.set;
+    if block.joined == 0 {
+        return set_exchange::exchange(set);
+    }
+    set
 }
 
 // The block at the place, read: one good line over the text, or a run over the joined bytes. A good line ends in a close, so any other goes to the run

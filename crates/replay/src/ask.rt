@@ -15,27 +15,30 @@ pub(crate) struct Ask {
     pub(crate) cap: usize,
 }
 
-// The numbers of the first word that needs the join buffer, that needs one for canonical text too, that needs only this, of the one that asks for
-// a sheet, and of the first leaf, the first that counts or takes a part, the two behind those, and the first that has two fields.
+// The numbers of the first word that needs the join buffer, that needs one for canonical text too, that needs only this, that merges sets of two
+// texts, of the one that asks for a sheet, and of the first leaf, the first that counts or takes a part, the two behind those, and the first that
+// has two fields.
 pub(crate) const JOINS: usize = 5;
 
 pub(crate) const BLOCKS: usize = 10;
 
 pub(crate) const SETS: usize = 12;
 
-pub(crate) const SHEET: usize = 17;
+pub(crate) const PAIRS: usize = 17;
 
-pub(crate) const LEAF: usize = 18;
+pub(crate) const SHEET: usize = 19;
 
-pub(crate) const MEASURE: usize = 24;
+pub(crate) const LEAF: usize = 20;
 
-pub(crate) const TITLE: usize = 31;
+pub(crate) const MEASURE: usize = 26;
 
-pub(crate) const CLASS: usize = 32;
+pub(crate) const TITLE: usize = 33;
 
-pub(crate) const LEAF_AT: usize = 33;
+pub(crate) const CLASS: usize = 34;
+
+pub(crate) const LEAF_AT: usize = 35;
 // How many words there are, the number of a request that is none known.
-const UNKNOWN: usize = 38;
+const UNKNOWN: usize = 40;
 
 // How many fields a request has, and those that hold its numbers and its texts, 0 for none.
 struct Form {
@@ -46,19 +49,20 @@ struct Form {
     b: usize,
 }
 
-// Reads a request. Two texts that are merged are both laid into a.
+// Reads a request. Two lines of one text that are merged are both laid into a.
 pub(crate) fn read(line: &[u8], a: &mut [u8], b: &mut [u8]) -> Ask {
     let word = word_of(line);
-    let form = form_of(word);
+    let letter = letter_of(word);
+    let form = form_of(letter);
     let second = lay(line, form.b, b);
-    let first = lay_first(line, form, a, fields::part(b, 0, second.n));
+    let first = lay_first(line, form.a, letter, a, fields::part(b, 0, second.n));
     asked(line, word, form, first, second)
 }
 
 // The number of a request's word, which is two fields where the first is `leaf`.
 fn word_of(line: &[u8]) -> usize {
     fields::index_of(
-        b"parse_attrs/is_valid_attr_payload/valid_wrapped_attr_continuation/payload_at/attr_payload_provably_invalid/standalone_attrs_block_len/indented_wrapped_attrs_block_len/attrs_block_len_at/refused_brace_run/ends_in_refused_brace_run/parse_standalone_attrs_block/wrapped_attrs_run_at/parse_standalone_attrs/merge/merge_leading/read_attrs_at/rows/sheet/leaf is_utf8/leaf is_identifier/leaf is_css_identifier/leaf is_boolean_attr_name/leaf is_language_tag/leaf is_blank_line/leaf check_text/leaf char_count/leaf indent_columns/leaf columns/leaf trim_ascii/leaf trim_ascii_start/leaf trim_ascii_end/leaf unescape_title/leaf is_class/leaf is_char_boundary/leaf line/leaf line_from/leaf piece_at/leaf same_unescaped",
+        b"parse_attrs/is_valid_attr_payload/valid_wrapped_attr_continuation/payload_at/attr_payload_provably_invalid/standalone_attrs_block_len/indented_wrapped_attrs_block_len/attrs_block_len_at/refused_brace_run/ends_in_refused_brace_run/parse_standalone_attrs_block/wrapped_attrs_run_at/parse_standalone_attrs/merge/merge_leading/read_attrs_at/rows/merge2/merge2_block/sheet/leaf is_utf8/leaf is_identifier/leaf is_css_identifier/leaf is_boolean_attr_name/leaf is_language_tag/leaf is_blank_line/leaf check_text/leaf char_count/leaf indent_columns/leaf columns/leaf trim_ascii/leaf trim_ascii_start/leaf trim_ascii_end/leaf unescape_title/leaf is_class/leaf is_char_boundary/leaf line/leaf line_from/leaf piece_at/leaf same_unescaped",
         fields::part(line, 0, word_end(line)),
     )
 }
@@ -76,15 +80,21 @@ fn places(count: usize, x: usize, y: usize, a: usize, b: usize) -> Form {
     Form { count, x, y, a, b }
 }
 
-// The form of a word by its letter below: a text; a number and a text; two numbers and a text; a number, a mode and a text; two texts; and of
-// a leaf a text, a number, a number and a text, two texts.
-fn form_of(word: usize) -> Form {
-    match fields::byte_at(b"tttnnnnwntnwnmmrrtTTTTTTTTTTTTTTCNNNNM", word) {
+// The letter of a word's form.
+fn letter_of(word: usize) -> u8 {
+    fields::byte_at(b"tttnnnnwntnwnmmrrpptTTTTTTTTTTTTTTCNNNNM", word)
+}
+
+// The form by its letter: a text; a number and a text; two numbers and a text; a number, a mode and a text; two lines of one text; two texts; and
+// of a leaf a text, a number, a number and a text, two texts.
+fn form_of(letter: u8) -> Form {
+    match letter {
         b't' => places(2, 0, 0, 1, 0),
         b'n' => places(3, 1, 0, 2, 0),
         b'w' => places(4, 1, 2, 3, 0),
         b'r' => places(4, 1, 0, 3, 0),
         b'm' => places(3, 0, 0, 1, 2),
+        b'p' => places(3, 0, 0, 1, 2),
         b'T' => places(3, 0, 0, 2, 0),
         b'C' => places(3, 2, 0, 0, 0),
         b'N' => places(4, 2, 0, 3, 0),
@@ -101,10 +111,10 @@ fn lay(line: &[u8], k: usize, text: &mut [u8]) -> Said {
     fields::unhex(fields::field(line, b' ', k), text)
 }
 
-// Lays the first text, with the second behind it where they are merged: only then it is field 2.
-fn lay_first(line: &[u8], form: Form, a: &mut [u8], second: &[u8]) -> Said {
-    let first = lay(line, form.a, a);
-    if form.b != 2 {
+// Lays the first text, with the second behind it where they are lines of one.
+fn lay_first(line: &[u8], k: usize, letter: u8, a: &mut [u8], second: &[u8]) -> Said {
+    let first = lay(line, k, a);
+    if letter != b'm' {
         return first;
     }
     merging::behind(a, first, second)

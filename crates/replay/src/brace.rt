@@ -31,7 +31,13 @@ fn read(text: &[u8], place: usize, mode: Mode, canon: &mut [u8]) -> Reply {
     match answer {
         Answer::Refused(r) => reply::refused(reply::REFUSED, r),
         Answer::Next(n) => {
-            reply::with_set(reply::numbered(reply::OK_NEXT, n), text, read.set, canon)
+            reply::with_set(
+                reply::numbered(reply::OK_NEXT, n),
+                text,
+                b"",
+                read.set,
+                canon,
+            )
         }
     }
 }

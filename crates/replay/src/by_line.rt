@@ -51,7 +51,12 @@ fn read(q: Ask, text: &[u8], join: &mut [u8]) -> Block {
 pub(crate) fn answer_set(q: Ask, text: &[u8], canon: &mut [u8]) -> Reply {
     let word = q.word;
     match word {
-        12 => merging::filled(text, read_by_line::parse_standalone_attrs(text, q.x), canon),
+        12 => merging::filled(
+            text,
+            b"",
+            read_by_line::parse_standalone_attrs(text, q.x),
+            canon,
+        ),
         13 => merging::answer(text, false, canon),
         14 => merging::answer(text, true, canon),
         15 => brace::answer_read(text, q.x, q.mode, canon),
@@ -59,7 +64,7 @@ pub(crate) fn answer_set(q: Ask, text: &[u8], canon: &mut [u8]) -> Reply {
     }
 }
 
-// What a block reads. What was joined is what its set is over.
+// What a block reads. The second text of its set is what was joined.
 fn read_block<'a>(text: &'a [u8], block: Block, join: &'a [u8], canon: &mut [u8]) -> Reply {
     let outcome = block.outcome;
     match outcome {
@@ -69,17 +74,15 @@ fn read_block<'a>(text: &'a [u8], block: Block, join: &'a [u8], canon: &mut [u8]
         Outcome::Passed => {
             let head = reply::numbered(reply::OK_LINES, block.lines);
             let run = reply::with_run(head, block.lookahead, join);
-            reply::with_set(run, over(text, join, block.joined), block.set, canon)
+            reply::with_set(
+                run,
+                text,
+                fields::part(join, 0, block.joined),
+                block.set,
+                canon,
+            )
         }
     }
-}
-
-// What a block's set is over: the joined bytes if there are any, else the text.
-fn over<'a>(text: &'a [u8], join: &'a [u8], joined: usize) -> &'a [u8] {
-    if joined == 0 {
-        return text;
-    }
-    fields::part(join, 0, joined)
 }
 
 // What measuring answers.

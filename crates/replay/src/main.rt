@@ -12,6 +12,7 @@ mod refusing;
 mod reply;
 mod rows;
 mod sheets_at;
+mod two_texts;
 
 use crate::ask::Ask;
 use crate::reply::Reply;
@@ -19,9 +20,9 @@ use crate::reply::Reply;
 // A request line fits the input buffer with its LF: two texts in hex, and the words around them.
 const INPUT: usize = 263000;
 // The longest text of a request; a canonical text is no longer.
-const TEXT: usize = 65600;
+pub(crate) const TEXT: usize = 65600;
 // The join buffer.
-const JOIN: usize = 65535;
+pub(crate) const JOIN: usize = 65535;
 // The longest answer is a sheet's, six times its text and in hex, and stands behind those that wait to be written.
 const OUTPUT: usize = 1048576;
 
@@ -88,8 +89,11 @@ fn reply_by(q: Ask, text: &[u8], b: &mut [u8], join: &mut [u8]) -> Reply {
     if word < ask::SETS {
         return by_line::answer_block(q, text, join, b);
     }
-    if word < ask::LEAF {
+    if word < ask::PAIRS {
         return by_line::answer_set(q, text, b);
+    }
+    if word < ask::SHEET {
+        return two_texts::answer(q, text, b, join);
     }
     if word < ask::LEAF_AT {
         return leaves::answer(word, q.x, text, b);

@@ -43,23 +43,34 @@ fn answer_second(text: &[u8], first: Attrs, leading: bool, canon: &mut [u8]) -> 
     let outcome = second.outcome;
     match outcome {
         Outcome::Refused(r) => reply::refused(reply::SECOND, r),
-        Outcome::Passed => filled(text, merged(text, first, second.set, leading), canon),
+        Outcome::Passed => filled(text, b"", merged(text, first, second.set, leading), canon),
     }
 }
 
-// What a line alone reads, or two lines merged.
-pub(crate) fn filled(text: &[u8], filled: Filled, canon: &mut [u8]) -> Reply {
+// What a line alone reads, or a merge answers, over the texts.
+pub(crate) fn filled<'a>(
+    first: &'a [u8],
+    second: &'a [u8],
+    filled: Filled,
+    canon: &mut [u8],
+) -> Reply {
     let outcome = filled.outcome;
     match outcome {
         Outcome::Refused(r) => reply::refused(reply::REFUSED, r),
-        Outcome::Passed => reply::with_set(reply::alone(reply::OK), text, filled.set, canon),
+        Outcome::Passed => reply::with_set(
+            reply::alone(reply::OK),
+            first,
+            second,
+            filled.set,
+            canon,
+        ),
     }
 }
 
 // The two sets merged.
 fn merged(text: &[u8], first: Attrs, second: Attrs, leading: bool) -> Filled {
     if leading {
-        return set_merge::merge_leading_attrs(text, first, second);
+        return set_merge::merge_leading_attrs(text, b"", first, second);
     }
-    set_merge::merge_attrs(text, first, second)
+    set_merge::merge_attrs(text, b"", first, second)
 }

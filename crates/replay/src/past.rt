@@ -1,18 +1,23 @@
-// Whether the rows of a set past its counts are zero, as document 01 asks of every set that is handed out.
+// Whether the rows of a set past its counts are zero, as document 01 asks of every set that is handed out, and so an id that isn't given.
 use crate::fields;
 use set_table::Attrs;
 use set_table::Name;
+use set_table::Origin;
 use set_table::Row;
 use set_table::Slot;
 use set_table::SlotRecord;
 use set_table::Text;
 use set_table::Value;
 
-// Whether all classes, keys and slots past the counts are zero.
+// Whether all classes, keys and slots past the counts are zero, and an id that isn't given.
 pub(crate) fn is_zero(set: Attrs) -> bool {
+    let id = set.id;
     let classes = set.classes;
     let keys = set.keys;
     let order = set.order;
+    if !is_given_or_zero(set.given, id) {
+        return false;
+    }
     if !are_zero_values(classes, fields::wide(set.nclass)) {
         return false;
     }
@@ -20,6 +25,13 @@ pub(crate) fn is_zero(set: Attrs) -> bool {
         return false;
     }
     are_zero_slots(order, fields::wide(set.norder))
+}
+
+fn is_given_or_zero(given: bool, id: Value) -> bool {
+    if given {
+        return true;
+    }
+    is_zero_value(id)
 }
 
 fn are_zero_values(rows: [Value; Attrs::CLASSES], n: usize) -> bool {
@@ -58,22 +70,29 @@ fn are_zero_slots(rows: [SlotRecord; Attrs::SLOTS], n: usize) -> bool {
     true
 }
 
-// A zero value is plain, of no bytes at the text's front.
+// A zero value is plain, of no bytes at the first text's front.
 fn is_zero_value(value: Value) -> bool {
     let text = value.text;
     match text {
-        Text::Plain(from, to) => from | to == 0,
-        Text::Quoted(_, _) => false,
+        Text::Plain(origin, from, to) => is_zero_range(origin, from, to),
+        Text::Quoted(_, _, _) => false,
         Text::Empty => false,
     }
 }
 
-// A zero key's name is a range of no bytes at the text's front, and its value is zero.
+fn is_zero_range(origin: Origin, from: u16, to: u16) -> bool {
+    match origin {
+        Origin::First => from | to == 0,
+        Origin::Second => false,
+    }
+}
+
+// A zero key's name is a range of no bytes at the first text's front, and its value is zero.
 fn is_zero_row(row: Row) -> bool {
     let name = row.name;
     match name {
-        Name::Range(from, to) => {
-            if from | to != 0 {
+        Name::Range(origin, from, to) => {
+            if !is_zero_range(origin, from, to) {
                 return false;
             }
             is_zero_value(row.value)
@@ -82,12 +101,12 @@ fn is_zero_row(row: Row) -> bool {
     }
 }
 
-// A zero slot is the id's.
+// A zero slot is that of the first key.
 fn is_zero_slot(record: SlotRecord) -> bool {
     let slot = record.slot;
     match slot {
-        Slot::Id => true,
+        Slot::Key(k) => k == 0,
+        Slot::Id => false,
         Slot::Class => false,
-        Slot::Key(_) => false,
     }
 }

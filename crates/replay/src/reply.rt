@@ -185,9 +185,15 @@ fn least(s: &[u8]) -> u8 {
     all
 }
 
-// Adds the canonical text of a set over the text, laid into the buffer, or what the writer refuses it with.
-pub(crate) fn with_set(r: Reply, text: &[u8], set: Attrs, canon: &mut [u8]) -> Reply {
-    match set_writer::write_attrs(text, set, canon) {
+// Adds the canonical text of a set over the texts, laid into the buffer, or what the writer refuses it with.
+pub(crate) fn with_set<'a>(
+    r: Reply,
+    first: &'a [u8],
+    second: &'a [u8],
+    set: Attrs,
+    canon: &mut [u8],
+) -> Reply {
+    match set_writer::write_attrs(first, second, set, canon) {
         Wrote::Refused(why) => with_canon(
             r,
             CANON_REFUSED,

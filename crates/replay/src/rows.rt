@@ -8,9 +8,8 @@ use base_bytes::Mode;
 use read_brace::Answer;
 use read_brace::Read;
 use set_table::Attrs;
-use set_table::Id;
-use set_table::Ident;
 use set_table::Name;
+use set_table::Origin;
 use set_table::Row;
 use set_table::Slot;
 use set_table::SlotRecord;
@@ -41,7 +40,7 @@ fn put_set(b: &mut [u8], next: usize, set: Attrs) -> usize {
     let keys = set.keys;
     let order = set.order;
     let behind_next = put_counted(b, 0, b"ok ", next);
-    let behind_id = put_id(b, behind_next, id);
+    let behind_id = put_id(b, behind_next, set.given, id);
     let behind_classes = put_classes(b, behind_id, classes, fields::wide(set.nclass));
     let behind_keys = put_keys(b, behind_classes, keys, fields::wide(set.nkey));
     let behind_slots = put_slots(b, behind_keys, order, fields::wide(set.norder));
@@ -55,32 +54,40 @@ fn put_counted(b: &mut [u8], at: usize, words: &[u8], n: usize) -> usize {
 }
 
 // Adds words and the two places behind them.
-fn put_range(b: &mut [u8], at: usize, words: &[u8], from: u16, to: u16) -> usize {
-    let first = put_counted(b, at, words, from as usize);
+fn put_range(b: &mut [u8], at: usize, words: &[u8], origin: Origin, from: u16, to: u16) -> usize {
+    let behind = put_origin(b, at, origin);
+    let first = put_counted(b, behind, words, from as usize);
     put_counted(b, first, b" ", to as usize)
 }
 
-fn put_id(b: &mut [u8], at: usize, ident: Ident) -> usize {
-    let to = out::put(b, at, b" id");
-    let id = ident.id;
-    match id {
-        Id::Missing => out::put(b, to, b" none"),
-        Id::Given(value) => put_value(b, to, value),
+// Adds words for a range of the second text: a set that is read at a brace has none.
+fn put_origin(b: &mut [u8], at: usize, origin: Origin) -> usize {
+    match origin {
+        Origin::First => at,
+        Origin::Second => out::put(b, at, b" of the second text"),
     }
+}
+
+fn put_id(b: &mut [u8], at: usize, given: bool, id: Value) -> usize {
+    let to = out::put(b, at, b" id");
+    if given {
+        return put_value(b, to, id);
+    }
+    out::put(b, to, b" none")
 }
 
 fn put_value(b: &mut [u8], at: usize, value: Value) -> usize {
     let text = value.text;
     match text {
-        Text::Plain(from, to) => put_range(b, at, b" plain ", from, to),
-        Text::Quoted(from, to) => put_range(b, at, b" quoted ", from, to),
+        Text::Plain(origin, from, to) => put_range(b, at, b" plain ", origin, from, to),
+        Text::Quoted(origin, from, to) => put_range(b, at, b" quoted ", origin, from, to),
         Text::Empty => out::put(b, at, b" empty"),
     }
 }
 
 fn put_name(b: &mut [u8], at: usize, name: Name) -> usize {
     match name {
-        Name::Range(from, to) => put_range(b, at, b" at ", from, to),
+        Name::Range(origin, from, to) => put_range(b, at, b" at ", origin, from, to),
         Name::Lang => out::put(b, at, b" lang"),
     }
 }

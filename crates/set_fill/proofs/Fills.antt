@@ -2,14 +2,12 @@
 -- Assumes nothing.
 use mathlib.Core.Path.{_≡_, refl, sym, _∙_}
 use mathlib.Core.Logic.{inl, inr}
-use mathlib.Core.Bool.{true, false}
 use mathlib.Core.List.{List, [], _∷_}
 use Prim.Native.Nat.{ℕ, _+_, _≤_}
 use native.Mathlib.Omega.{arith}
 use lib.ListN.{length, take}
 use lib.Seq.{length-take-le}
 use borrow.Author.Tests.{le-ltb}
-use Rattle.base_lists.proofs.More.{contra}
 use Rattle.base_bytes.specs.declared.Mode.{Mode}
 use Rattle.base_refusals.specs.declared.Refusal.{Refusal}
 use Rattle.base_refusals.specs.declared.Refusal.the-variants.{NoReading}
@@ -27,9 +25,8 @@ use Rattle.set_fill.specs.declared.Push as pushes
 use Rattle.set_fill.specs.declared.Push.the-variants.{End, Bad}
 use Rattle.set_table.specs.declared.Filled.{Filled}
 use Rattle.set_table.specs.Filled.{refusing, limited}
-use Rattle.base_refusals.specs.declared.Outcome.{Outcome}
-use Rattle.base_refusals.specs.declared.Outcome.the-variants.{Passed, Refused}
-use Rattle.set_fill.specs.Inner.{Rest, before, restOf, chainRest, tokensAt, Opened, PutsNext, Yields, filledFrom, overOf, isRefused, unlessRefused}
+use Rattle.base_refusals.specs.declared.Outcome.the-variants.{Passed}
+use Rattle.set_fill.specs.Inner.{Rest, before, restOf, chainRest, tokensAt, Opened, PutsNext, Yields, filledFrom, overOf}
 use Rattle.set_fill.proofs.Chains as chains
 use Rattle.set_fill.proofs.Limits as limits
 
@@ -39,19 +36,6 @@ pub record Fills (t : Texts) (m : Mode) (w : List ℕ) (whole : Filled) (a : Att
   pub holds : Holds a rows
   pub stands : chains.Stands w e c
   pub rest : filledFrom t rows (chainRest m w e c) ≡ whole
-
--- a refusal with the empty set hands out no set
-pub none : {x : Refusal} {a : Attrs} {f : Filled} → a ≡ emptySet → f ≡ record { outcome = Refused x; set = a } → f ≡ refusing x
-none e p = p ∙ (rw e)
-
--- nothing is filled where it is refused already
-pub refused-first : (o : Outcome) (f : Filled) {a : Attrs} → isRefused o ≡ true → a ≡ emptySet → record { outcome = o; set = a } ≡ unlessRefused o f
-refused-first (Refused r) f p e = rw e
-refused-first Passed f p e = contra false p refl
-
-pub goes-on : (o : Outcome) {f : Filled} → isRefused o ≡ false → f ≡ unlessRefused o f
-goes-on (Refused r) p = contra true refl p
-goes-on Passed p = refl
 
 pub start : (t : Texts) (m : Mode) (w : List ℕ) (at e : ℕ) {a : Attrs} {c : Cursor} → at ≤ e → e ≤ length w → a ≡ emptySet → c ≡ tokensAt at → Fills t m w (filledFrom t noRows (chainRest m w e (tokensAt at))) a e c
 start t m w at e h l p q =

@@ -22,6 +22,7 @@ use Rattle.block_tokens.proofs.Steps as steps
 use Rattle.set_table.specs.declared.Value.{Value}
 use Rattle.set_table.specs.declared.Name.{Name}
 use Rattle.set_table.specs.declared.Name.the-variants as names
+use Rattle.set_table.specs.declared.Origin.the-variants.{First}
 use Rattle.set_table.specs.declared.Text.the-variants as text
 use Rattle.set_table.specs.Rows.{Put}
 use Rattle.set_table.specs.Puts.{valueOf, byName, valued, putsOf, putsIn}
@@ -130,7 +131,7 @@ module _ (m : Mode) {s : List ℕ} {c : Cursor} (inv : InText s c) {f k : ℕ} (
   named-class e g y = rw (slice-part f k s, e, g) (later f (omega arith) y)
 
   pub named-key : {v : Value} {d : Cursor} → same (take (k - f) (drop f s)) idName ≡ false → same (take (k - f) (drop f s)) className ≡ false
-      → v ≡ valueOf (kindOf (c .kind) (c .at) (c .to)) → d ≡ tokensAt (c .next) → Yields m s f (namedRest m s f k c) (Key (names.Range f k) v d)
+      → v ≡ valueOf (kindOf (c .kind) (c .at) (c .to)) → d ≡ tokensAt (c .next) → Yields m s f (namedRest m s f k c) (Key (names.Range First f k) v d)
   unfolding byName
   named-key e g p q =
       let z : f + length (take (k - f) (drop f s)) ≡ k = omega (arith, length-take (k - f) (drop f s), length-drop f s, inv .at, inv .to, inv .next) in
@@ -187,7 +188,7 @@ module _ (m : Mode) (s : List ℕ) {i a : ℕ} (fits : i ≤ length s) (is : a �
   lone : {j : Item} {e : ℕ} {p : Put} → steps.Stepped m s i a j e → putsOf a j ≡ p ∷ [] → PutsNext m s i (tokensFrom m s i) p (tokensAt e)
   lone st q = rw (puts-next st, q) (alone m s _ (omega (arith, steps.between m s fits is, st .ahead)) (st .within))
 
-  module _ {f e : ℕ} {v : Value} {d : Cursor} (p : v ≡ valueOf (text.Plain f e)) (q : d ≡ tokensAt e) where
+  module _ {f e : ℕ} {v : Value} {d : Cursor} (p : v ≡ valueOf (text.Plain First f e)) (q : d ≡ tokensAt e) where
     pub tag : token.Tag f e ≡ shown a (tokenOf m (drop a s)) → Yields m s i (tokensFrom m s i) (Key names.Lang v d)
     unfolding putsOf
     tag t =

@@ -7,6 +7,7 @@ use Prim.Native.Nat.{ℕ, _+_, _<_, _≤_}
 use native.Mathlib.Omega.{arith}
 use lib.Dec.{ltb}
 use lib.ListN.{length, drop, length-take}
+use lib.Seq.{slice}
 use borrow.Author.Tests.{ltb-false}
 use Rattle.base_lists.specs.Lists.{run}
 use Rattle.base_lists.proofs.More.{contra}
@@ -18,7 +19,7 @@ use Rattle.block_chain.specs.Computed.{blocksFrom, readBlocks}
 use Rattle.block_chain.proofs.Blocks.{some-read}
 use Rattle.base_refusals.specs.declared.Refusal.the-variants.{TextTooLong, NoReading}
 use Rattle.base_refusals.specs.Numbers.{maxText}
-use Rattle.set_table.specs.Types.{Texts, one, rangeBytes}
+use Rattle.set_table.specs.Types.{Texts, one}
 use Rattle.set_table.specs.Rows.{noRows}
 use Rattle.set_fill.specs.declared.Following as nexts
 use Rattle.set_fill.specs.declared.Following.the-variants.{Last, Unread, Closing}
@@ -39,13 +40,12 @@ module _ (m : Mode) (t : List ℕ) (at end : ℕ) where
   too-long h e q = q ∙ (rw (sym h ∙ e))
 
   -- s is the text's front
-  module _ {b : Bool} (h : b ≡ ltb maxText (length t)) (l : b ≡ false) {s : List ℕ} (q : s ≡ rangeBytes (one t) 0 end) where
+  module _ {b : Bool} (h : b ≡ ltb maxText (length t)) (l : b ≡ false) {s : List ℕ} (q : s ≡ slice 0 end t) where
     pub short : length s ≤ maxText
-    unfolding rangeBytes
     short = rw q (omega (arith, ltb-false maxText (length t) (sym h ∙ l), length-take end t))
 
     front : filledBy (one t) (oneOrMore (readFrom m (drop at s) 0 at)) ≡ fillAt m t at end
-    unfolding fillAt filledOf readPayload rangeBytes
+    unfolding fillAt filledOf readPayload
     front = rw (q, sym h ∙ l)
 
     module _ {a : ℕ} (is : a ≡ at + run (isBlank m) (drop at s)) {f : Filled} where
@@ -66,14 +66,13 @@ module _ (t : List ℕ) (from to : ℕ) where
   line-too-long m h e q = q ∙ (rw (sym h ∙ e))
 
   -- w is the text's front
-  module _ {b : Bool} (h : b ≡ ltb maxText (length t)) (l : b ≡ false) {w : List ℕ} (q : w ≡ rangeBytes (one t) 0 to) where
+  module _ {b : Bool} (h : b ≡ ltb maxText (length t)) (l : b ≡ false) {w : List ℕ} (q : w ≡ slice 0 to t) where
     pub line-short : length w ≤ maxText
-    unfolding rangeBytes
     line-short = rw q (omega (arith, ltb-false maxText (length t) (sym h ∙ l), length-take to t))
 
     module _ {m : Mode} {n : nexts.Following} (o : Opened m w from n) where
       line : filledBy (one t) (oneOrMore (blocksFrom m (drop from w) 0 from)) ≡ chainAt m t from to
-      unfolding chainAt readBlocks rangeBytes
+      unfolding chainAt readBlocks
       line = rw (q, sym h ∙ l)
 
       pub no-block : {f : Filled} → n ≡ Last → f ≡ refusing NoReading → f ≡ chainAt m t from to

@@ -1,7 +1,7 @@
 -- What private functions promise as they walk over a payload: nothing that a reader of the public promises has to believe.
 use Prim.Native.Nat.{ℕ, _+_, _≤_, _<_}
 use mathlib.Core.Path.{_≡_}
-use mathlib.Core.Bool.{Bool, true, false, not, cond}
+use mathlib.Core.Bool.{not, cond}
 use mathlib.Core.List.{List, [], _∷_, _++_, map}
 use lib.Dec.{ltb}
 use lib.ListN.{length, take, drop}
@@ -15,6 +15,7 @@ use Rattle.block_grammar.specs.Meaning.{pieceRanges, orWhole}
 use Rattle.block_chain.specs.Computed.{blocksFrom}
 use Rattle.base_refusals.specs.declared.Refusal.{Refusal}
 use Rattle.base_refusals.specs.declared.Refusal.the-variants.{NoReading, TooManyClasses, TooManyKeys}
+use Rattle.set_table.specs.declared.Origin.the-variants.{First}
 use Rattle.set_table.specs.declared.Text.{Text}
 use Rattle.set_table.specs.declared.Text.the-variants as text
 use Rattle.set_table.specs.Types.{Texts, maxClasses}
@@ -29,8 +30,6 @@ use Rattle.set_fill.specs.declared.Following as nexts
 use Rattle.set_fill.specs.declared.Following.the-variants.{Last, Unread, Closing}
 use Rattle.set_table.specs.declared.Filled.{Filled}
 use Rattle.set_table.specs.Filled.{refusing, limited}
-use Rattle.base_refusals.specs.declared.Outcome.{Outcome}
-use Rattle.base_refusals.specs.declared.Outcome.the-variants.{Passed, Refused}
 
 -- what is still to be put
 pub data Rest : Type 0 where
@@ -51,8 +50,8 @@ tokensFrom m s i = ofReading (readFrom m (drop i s) 0 i)
 
 -- a range by the kind of value that it is of
 abbrev pub kindOf : Kind → ℕ → ℕ → Text
-kindOf Plain f e = text.Plain f e
-kindOf Quoted f e = text.Quoted f e
+kindOf Plain f e = text.Plain First f e
+kindOf Quoted f e = text.Quoted First f e
 kindOf Empty f e = text.Empty
 
 -- ---- where a walk stands
@@ -160,13 +159,3 @@ countFrom n (p ∷ ps) = countFrom (countedPut p n) ps
 unfoldable pub overOf : ℕ → Rest → Refusal
 overOf n Rest.refused = NoReading
 overOf n (Rest.puts ps) = overBy (countFrom n ps)
-
--- it is refused already
-abbrev pub isRefused : Outcome → Bool
-isRefused (Refused r) = true
-isRefused Passed = false
-
--- then nothing is filled
-abbrev pub unlessRefused : Outcome → Filled → Filled
-unlessRefused (Refused r) f = refusing r
-unlessRefused Passed f = f

@@ -6,9 +6,8 @@ use block_grammar::Place;
 use block_tokens::Token;
 use set_table::Attrs;
 use set_table::Filled;
-use set_table::Id;
-use set_table::Ident;
 use set_table::Name;
+use set_table::Origin;
 use set_table::Row;
 use set_table::Slot;
 use set_table::SlotRecord;
@@ -25,13 +24,12 @@ ghost use Rattle.base_bytes.specs.declared.Mode.the-variants.{Loose};
 ghost use Rattle.base_letters.specs.Classes.{TellsBytes};
 ghost use Rattle.base_refusals.specs.Numbers.{maxText, tooLong, numberOf, outcomeNo};
 ghost use Rattle.base_refusals.specs.Orders.{orderNo};
-ghost use Rattle.set_table.specs.Types.{one, emptySet};
-ghost use Rattle.set_table.specs.Rows.{noRows, isThere};
+ghost use Rattle.set_table.specs.Types.{one};
+ghost use Rattle.set_table.specs.Rows.{noRows};
 ghost use Rattle.set_table.specs.Puts.{valueOf};
 ghost use Rattle.set_table.specs.Filled.{refusing};
 ghost use Rattle.set_fill.specs.Fill.{fillAt, chainAt, fillOrder, chainOrder};
-ghost use Rattle.base_refusals.specs.declared.Outcome.the-variants.{Refused};
-ghost use Rattle.set_fill.specs.Inner.{kindOf, tokensFrom, restOf, chainRest, cursorOf, tokensAt, InText, Opened, Yields, pieceFrom, classRest, namedRest, filledFrom, overBy, overOf, isRefused, unlessRefused};
+ghost use Rattle.set_fill.specs.Inner.{kindOf, tokensFrom, restOf, chainRest, cursorOf, tokensAt, InText, Opened, Yields, pieceFrom, classRest, namedRest, filledFrom, overBy, overOf};
 
 // What a value is: its bytes as they stand, bytes that were quoted, or nothing behind a bare name.
 enum Kind {
@@ -85,10 +83,10 @@ fn value_of(kind: Kind, from: usize, to: usize) -> Value
 {
     match kind {
         Kind::Plain => Value {
-            text: Text::Plain(from as u16, to as u16),
+            text: Text::Plain(Origin::First, from as u16, to as u16),
         },
         Kind::Quoted => Value {
-            text: Text::Quoted(from as u16, to as u16),
+            text: Text::Quoted(Origin::First, from as u16, to as u16),
         },
         Kind::Empty => Value { text: Text::Empty },
     }
@@ -161,7 +159,7 @@ fn named_push(s: &[u8], f: usize, k: usize, c: Cursor) -> Push
         return first_piece(s, c);
     }
     Push::Key(
-        Name::Range(f as u16, k as u16),
+        Name::Range(Origin::First, f as u16, k as u16),
         value_of(kind, c.at, c.to),
         before_tokens(c.next),
     )
@@ -283,29 +281,20 @@ fn passed_limit(
     }
 }
 
-// A refusal, with the set that goes with it.
-fn refused_by(r: Refusal, set: Attrs) -> Filled
-    ensures { λ f. ⌜ f ≡ record { outcome = Refused r; set = set } ⌝ }
+// A refusal hands out no set.
+pub fn refusing(r: Refusal) -> Filled
+    ensures { λ f. ⌜ f ≡ refusing r ⌝ }
+    ensures { λ f. ⌜ outcomeNo (f .outcome) ≡ numberOf r ⌝ }
 {
+    let set = Attrs::empty();
     Filled {
         outcome: Outcome::Refused(r),
         set,
     }
 }
 
-// Whether there is an id.
-fn is_given(i: Ident) -> bool
-    ensures { λ r. ⌜ r ≡ isThere (i .id) ⌝ }
-{
-    let id = i.id;
-    match id {
-        Id::Missing => false,
-        Id::Given(_) => true,
-    }
-}
-
 // The tokens from `at` on of the block of w that closes at `close`, and then the blocks behind it; w is the text's front.
-// The set is changed where it stands, and a refusal hands out the empty one that it began with; there is a slot for each key, the id and the classes.
+// The set is changed where it stands, and a refusal hands out an empty one; there is a slot for each key, the id and the classes.
 fn fill_part(
     table: &[u64; 16],
     text: &[u8],
@@ -313,12 +302,11 @@ fn fill_part(
     at: usize,
     close: usize,
     mode: Mode,
-    start: Attrs,
 ) -> Filled
-    requires { ⌜ (at ≤ close) × (close ≤ length (now w)) × (length (now w) ≤ maxText) × (start ≡ emptySet) × TellsBytes (now table) ⌝ }
+    requires { ⌜ (at ≤ close) × (close ≤ length (now w)) × (length (now w) ≤ maxText) × TellsBytes (now table) ⌝ }
     ensures { λ r. ⌜ r ≡ filledFrom (one (now (text .entry))) noRows (chainRest mode (now (w .entry)) close (tokensAt at)) ⌝ }
 {
-    let mut set = start;
+    let mut set = Attrs::empty();
     let mut end = close;
     let mut cur = before_tokens(at);
     'pushes: loop {
@@ -328,19 +316,19 @@ fn fill_part(
                     outcome: Outcome::Passed,
                     set,
                 },
-                Following::Unread => return refused_by(Refusal::NoReading, start),
+                Following::Unread => return refusing(Refusal::NoReading),
                 Following::Closing(e) => {
                     cur = before_tokens(end + 2);
                     end = e;
                     continue 'pushes;
                 }
             },
-            Push::Bad => return refused_by(Refusal::NoReading, start),
+            Push::Bad => return refusing(Refusal::NoReading),
             Push::Id(v, next) => {
                 cur = next;
-                let there = is_given(set.id);
-                let new = Ident { id: Id::Given(v) };
-                set.id = new;
+                let there = set.given;
+                set.id = v;
+                set.given = true;
                 if there {
                     continue 'pushes;
                 }
@@ -353,7 +341,7 @@ fn fill_part(
                 cur = next;
                 let n = set.nclass as usize;
                 if Attrs::CLASSES <= n {
-                    return refused_by(passed_limit(table, w, end, next, mode, n + 1), start);
+                    return refusing(passed_limit(table, w, end, next, mode, n + 1));
                 }
                 set.classes[n] = v;
                 set.nclass = set.nclass + 1;
@@ -369,7 +357,7 @@ fn fill_part(
                 cur = next;
                 let n = set.nkey as usize;
                 let keys = set.keys;
-                let k = set_table::find_key(text, keys, n, name);
+                let k = set_table::find_key(text, b"", keys, n, name);
                 if k < n {
                     let mut row = set.keys[k];
                     row.value = v;
@@ -377,10 +365,7 @@ fn fill_part(
                     continue 'pushes;
                 }
                 if Attrs::KEYS <= n {
-                    return refused_by(
-                        passed_limit(table, w, end, next, mode, set.nclass as usize),
-                        start,
-                    );
+                    return refusing(passed_limit(table, w, end, next, mode, set.nclass as usize));
                 }
                 let p = set.norder as usize;
                 set.keys[n] = Row { name, value: v };
@@ -393,56 +378,6 @@ fn fill_part(
             }
         }
     }
-}
-
-// Whether nothing is to be filled.
-fn is_refused(outcome: Outcome) -> bool
-    ensures { λ r. ⌜ r ≡ isRefused outcome ⌝ }
-{
-    match outcome {
-        Outcome::Refused(_) => true,
-        Outcome::Passed => false,
-    }
-}
-
-// What `fill_part` gives, unless it is refused already. Every set begins here, so that the compiler moves sets as a whole;
-// and here the table of classes is taken, once for all tokens.
-fn fill_unless(
-    no: Outcome,
-    text: &[u8],
-    w: &[u8],
-    at: usize,
-    close: usize,
-    mode: Mode,
-    start: Attrs,
-) -> Filled
-    requires { ⌜ (at ≤ close) × (close ≤ length (now w)) × (length (now w) ≤ maxText) × (start ≡ emptySet) ⌝ }
-    ensures { λ r. ⌜ r ≡ unlessRefused no (filledFrom (one (now (text .entry))) noRows (chainRest mode (now (w .entry)) close (tokensAt at))) ⌝ }
-{
-    if is_refused(no) {
-        return Filled {
-            outcome: no,
-            set: start,
-        };
-    }
-    let table = base_letters::CLASS;
-    fill_part(&table, text, w, at, close, mode, start)
-}
-
-// A refusal hands out no set.
-pub fn refusing(r: Refusal) -> Filled
-    ensures { λ f. ⌜ f ≡ refusing r ⌝ }
-    ensures { λ f. ⌜ outcomeNo (f .outcome) ≡ numberOf r ⌝ }
-{
-    fill_unless(
-        Outcome::Refused(r),
-        b"",
-        b"",
-        0,
-        0,
-        Mode::Strict,
-        Attrs::empty(),
-    )
 }
 
 // Whether places of the text don't fit a range.
@@ -464,7 +399,8 @@ pub fn fill(text: &[u8], at: usize, end: usize, mode: Mode) -> Filled
     if s.len() <= block_tokens::blank_end(s, at, mode) {
         return refusing(Refusal::NoReading);
     }
-    fill_unless(Outcome::Passed, text, s, at, s.len(), mode, Attrs::empty())
+    let table = base_letters::CLASS;
+    fill_part(&table, text, s, at, s.len(), mode)
 }
 
 // The line of blocks that stands from `from` up to `to` of the text.
@@ -479,14 +415,9 @@ pub fn fill_chain(text: &[u8], from: usize, to: usize) -> Filled
     match next_block(w, from, Mode::Loose) {
         Following::Last => refusing(Refusal::NoReading),
         Following::Unread => refusing(Refusal::NoReading),
-        Following::Closing(e) => fill_unless(
-            Outcome::Passed,
-            text,
-            w,
-            from + 1,
-            e,
-            Mode::Loose,
-            Attrs::empty(),
-        ),
+        Following::Closing(e) => {
+            let table = base_letters::CLASS;
+            fill_part(&table, text, w, from + 1, e, Mode::Loose)
+        }
     }
 }

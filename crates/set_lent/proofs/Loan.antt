@@ -20,9 +20,8 @@ use types.Tokens.{lft-new, lft-end}
 use sound.WpLaws.{FmC}
 use denote.Laws.{Is, shows}
 use denote.Memory.{cellAt}
-use denote.Builtin.{u8}
 use denote.Ref.{RefT, now}
-use denote.Slice.{slice-vals, shr-slice-copy}
+use denote.Slice.{slice-vals}
 use denote.Steps.{owned, peeks, heard, nothing}
 use denote.Struct.Laws as LL
 use denote.Triple.Statement.{Triple}
@@ -30,6 +29,7 @@ use denote.Triple.Call.{calls-at}
 use denote.Triple.Entry.{onEntry}
 use denote.Triple.Clauses.{ensured, lasts}
 use Rattle.base_loans.proofs.Local.{Ref, Lender, lent-out, taken-back}
+use Rattle.set_table.specs.Types.{two}
 use Rattle.set_table.specs.declared.Attrs.{Attrs}
 use Rattle.set_table.proofs.Attrs as T
 use Rattle.set_table.proofs.Attrs.Laws as T′
@@ -38,24 +38,25 @@ use Rattle.base_refusals.specs.Numbers.{outcomeNo}
 use Rattle.base_refusals.specs.Orders.{orderNo}
 use Rattle.base_refusals.proofs.Outcome as O
 use Rattle.set_lent.specs.Lent.{endOf}
-use Rattle.set_lent.proofs.Taken.{setVal, Text}
+use Rattle.set_lent.proofs.Taken.{setVal, Lends, had-twice}
 use Rattle.set_lent.proofs.Walk.{Way, lent, Lent}
 use Rattle.set_lent.proofs.merge_into as into
 
 -- ---- the set z is merged into the set y, which stands in the local d: what is said of the outcome r and of the set y′ that is left
-abbrev pub Said : Way → RefT (List ℕ) → Attrs → Attrs → Outcome → Attrs → Type 0
-Said F t y z r y′ = (r ≡ F .comes (now t) y z .outcome) × (y′ ≡ endOf y (F .comes (now t) y z)) × (outcomeNo r ≡ orderNo (F .order (now t) y z))
+abbrev pub Said : Way → RefT (List ℕ) → RefT (List ℕ) → Attrs → Attrs → Outcome → Attrs → Type 0
+Said F t t′ y z r y′ =
+    (r ≡ F .comes (two (now t) (now t′)) y z .outcome) × (y′ ≡ endOf y (F .comes (two (now t) (now t′)) y z)) × (outcomeNo r ≡ orderNo (F .order (two (now t) (now t′)) y z))
 
-module _ {M : Type 1} (𝓤 : URA M) (H : Heap 𝓤) (A : Atoms 𝓤) (W : Given 𝓤 H A) (F : Way) (κ : Lft) (q : Share) (t : RefT (List ℕ)) (d : ℕ) (y z : Attrs) where
+module _ {M : Type 1} (𝓤 : URA M) (H : Heap 𝓤) (A : Atoms 𝓤) (W : Given 𝓤 H A) (F : Way) (κ : Lft) (q : Share) (t t′ : RefT (List ℕ)) (d : ℕ) (y z : Attrs) where
   -- the lifetimes of the call, where a is the loan's; its arguments, where δ is the loan's name
   abbrev κs : ℕ → Lfts 2
   κs a = (κ, (a ∷ [], tt))
 
-  abbrev args : GName → RefT (List ℕ) × (RefT Attrs × (Attrs × Unit {0}))
-  args δ = (t, (record { ptr = (d, 0); name = δ; now = y }, (z, tt)))
+  abbrev args : GName → RefT (List ℕ) × (RefT (List ℕ) × (RefT Attrs × (Attrs × Unit {0})))
+  args δ = (t, (t′, (record { ptr = (d, 0); name = δ; now = y }, (z, tt))))
 
   abbrev pub to : ℕ → GName → Lent F 𝓤 H A .Ghost
-  to a δ = ((κs a, (q, (fullShare, tt)), tt, args δ, (slice-vals t, (vptr d 0 ∷ [], (setVal z ∷ [], tt)))), tt)
+  to a δ = ((κs a, (q, (fullShare, tt)), tt, args δ, (slice-vals t, (slice-vals t′, (vptr d 0 ∷ [], (setVal z ∷ [], tt))))), tt)
 
   -- the local lent out, and the lender's part
   abbrev RefTo : ℕ → GName → Fml
@@ -71,36 +72,36 @@ module _ {M : Type 1} (𝓤 : URA M) (H : Heap 𝓤) (A : Atoms 𝓤) (W : Given
   abbrev pub Owned : Attrs → Fml
   Owned x = T.the-row .own x (setVal x ∷ [])
 
-  -- what the merge is passed, with the text had twice; and no more is asked
+  -- what the merge is passed, with the texts had twice; and no more is asked
   abbrev Entry : ℕ → GName → SProp 𝓤
-  Entry a δ = onEntry 𝓤 H A into.signature (κs a) (q, (fullShare, tt)) (args δ) (slice-vals t, (vptr d 0 ∷ [], (setVal z ∷ [], tt)))
+  Entry a δ = onEntry 𝓤 H A into.signature (κs a) (q, (fullShare, tt)) (args δ) (slice-vals t, (slice-vals t′, (vptr d 0 ∷ [], (setVal z ∷ [], tt))))
 
-  asked : (a : ℕ) (δ : GName) → Is T.the-row z (setVal z ∷ []) → ent 𝓤 (⋆ 𝓤 H A (((‵ (flft κ q) ⊛ ‵ ftrue) ⊛ ‵ (flft (a ∷ []) fullShare)) ∷ ‵ (Text κ t) ∷ ‵ (RefTo a δ) ∷ [])) (sep 𝓤 (Entry a δ) (sem 𝓤 H A (Text κ t)))
+  asked : (a : ℕ) (δ : GName) → Is T.the-row z (setVal z ∷ []) → ent 𝓤 (⋆ 𝓤 H A (((‵ (flft κ q) ⊛ ‵ ftrue) ⊛ ‵ (flft (a ∷ []) fullShare)) ∷ ‵ (Lends κ t t′) ∷ ‵ (RefTo a δ) ∷ [])) (sep 𝓤 (Entry a δ) (sem 𝓤 H A (Lends κ t t′)))
   asked a δ gz =
-      qed W (((‵ (flft κ q) ⊛ ‵ ftrue) ⊛ ‵ (flft (a ∷ []) fullShare)) ∷ ‵ (Text κ t) ∷ ‵ (RefTo a δ) ∷ []) ∵
+      qed W (((‵ (flft κ q) ⊛ ‵ ftrue) ⊛ ‵ (flft (a ∷ []) fullShare)) ∷ ‵ (Lends κ t t′) ∷ ‵ (RefTo a δ) ∷ []) ∵
       split ! $ split ! $ move ! (2 ∷ 1 ∷ []) $ join ! $ move ! (1 ∷ 0 ∷ []) $ join ! $
-      move ! (1 ∷ []) $ use1 W (‵ (Text κ t) ⊛ ‵ (Text κ t)) (shr-slice-copy 𝓤 H A W (named 0) κ u8 .twice t (slice-vals t)) $ split ! $
-      -- [the text; the text; the tokens; the reference]
-      nothing ! $ owned ! T.the-row (Is T.the-row) (LL.makes T.the-type T′.the-plain 𝓤 H A) z _ gz $ fjoin ! $ move ! (4 ∷ 0 ∷ []) $ fjoin ! $ move ! (1 ∷ 0 ∷ []) $ fjoin ! $ move ! (2 ∷ 0 ∷ []) $ join ! $ frame ! $ done !
+      move ! (1 ∷ []) $ use1 W (‵ (Lends κ t t′) ⊛ ‵ (Lends κ t t′)) (had-twice 𝓤 H A W κ t t′) $ split ! $
+      -- [the texts; the texts; the tokens; the reference]
+      fsplit ! $ nothing ! $ owned ! T.the-row (Is T.the-row) (LL.makes T.the-type T′.the-plain 𝓤 H A) z _ gz $ fjoin ! $ move ! (5 ∷ 0 ∷ []) $ fjoin ! $ move ! (2 ∷ 0 ∷ []) $ fjoin ! $ move ! (1 ∷ 0 ∷ []) $ fjoin ! $ move ! (2 ∷ 0 ∷ []) $ join ! $ frame ! $ done !
 
   enters : (a : ℕ) (δ : GName) → ent 𝓤 (Entry a δ) (Lent F 𝓤 H A .pre (to a δ))
   enters a δ = qed W (raw (Entry a δ) ∷ []) ∵ frame ! $ done !
 
 module _ {M : Type 1} {𝓤 : URA M} {H : Heap 𝓤} {A : Atoms 𝓤} {K : Type 0} {W : Given 𝓤 H A} {Γ : List (Item 𝓤)} {E : Env 𝓤 H} {C : Calls 𝓤 H} {f : Name} {xs : List Operand} {Λ : Loops 𝓤 H} {p : Post 𝓤 H} {r₀ : Place} {rest : Body} where
-  pub merges-into : K → FmC 𝓤 H (W .laws) C → (F : Way) → Triple 𝓤 (C f) (Lent F 𝓤 H A) → (κ : Lft) (q : Share) (t : RefT (List ℕ)) (d : ℕ) (y z : Attrs) → Is T.the-row z (setVal z ∷ [])
-      → ((a : ℕ) (δ : GName) → Opds K W (raw (Lent F 𝓤 H A .pre (to 𝓤 H A W F κ q t d y z a δ)) ∷ ‵ (Text κ t) ∷ ‵ (Back 𝓤 H A W F κ q t d y z a δ) ∷ Γ) E xs (Lent F 𝓤 H A .args (to 𝓤 H A W F κ q t d y z a δ)))
-      → ((u : Val) (r : Outcome) (y′ : Attrs) → Said F t y z r y′ → Is O.the-row r (u ∷ [])
-      → Seq K W (‵ (O.the-row .own r (u ∷ [])) ∷ (‵ (flft κ q) ⊛ ‵ ftrue) ∷ ‵ (Cell 𝓤 H A W F κ q t d y z y′) ∷ ‵ (Owned 𝓤 H A W F κ q t d y z y′) ∷ ‵ (Text κ t) ∷ Γ) (lands C Λ E r₀ u rest p))
-      → Seq K W ((‵ (flft κ q) ⊛ ‵ ftrue) ∷ ‵ (Cell 𝓤 H A W F κ q t d y z y) ∷ ‵ (Owned 𝓤 H A W F κ q t d y z y) ∷ ‵ (Text κ t) ∷ Γ) (runs C Λ E (seq (call f xs r₀) rest) p)
-  merges-into k fm F known κ q t d y z gz operands then =
-      lft-new k tt (λ a. move k (2 ∷ 3 ∷ []) $ use2 W (later (some (λ (δ : GName). ‵ (RefTo 𝓤 H A W F κ q t d y z a δ) ⊛ ‵ (Back 𝓤 H A W F κ q t d y z a δ)))) (lent-out 𝓤 H A W T.the-row (a ∷ []) d 0 (named 1) y (setVal y ∷ [])) $ await k tt $ pick k (λ δ. split k $
-      -- [the reference; the lender's part; the loan's token; the token; the text; …]
-      move k (3 ∷ 2 ∷ []) $ join k $ move k (0 ∷ 3 ∷ 1 ∷ []) $ use3 W (raw (Entry 𝓤 H A W F κ q t d y z a δ) ⊛ ‵ (Text κ t)) (asked 𝓤 H A W F κ q t d y z a δ gz) $ split k $ use1 W (raw (Lent F 𝓤 H A .pre (to 𝓤 H A W F κ q t d y z a δ))) (enters 𝓤 H A W F κ q t d y z a δ) $
-      calls-at k fm (Lent F 𝓤 H A) known (to 𝓤 H A W F κ q t d y z a δ) (operands a δ) (λ u.
-      use1 W (later (some (λ (o : Outcome). ((‵ (flft κ q) ⊛ (‵ (flft (a ∷ []) fullShare) ⊛ ‵ ftrue)) ⊛ ‵ (O.the-row .own o (u ∷ []))) ⊛ raw (ensured 𝓤 H A into.ended (lent F 𝓤) (κs 𝓤 H A W F κ q t d y z a) (args 𝓤 H A W F κ q t d y z δ) tt o)))) (id⊢ 𝓤 _) $ await k tt $ pick k (λ r.
-      split k $ move k (1 ∷ []) $ use1 W (some (λ (vs : Unit {0} × (Attrs × (Unit {0} × Unit {0}))). ‵ (lasts into.ended (κs 𝓤 H A W F κ q t d y z a) (args 𝓤 H A W F κ q t d y z δ) vs) ⊛ raw (fact 𝓤 (Said F t y z r (vs .1 .0))))) (id⊢ 𝓤 _) $ pick k (λ ws.
-      split k $ move k (1 ∷ []) $ heard k (Said F t y z r (ws .1 .0)) (λ e. fsplit k $ move k (1 ∷ []) $ fsplit k $ move k (3 ∷ []) $ split k $
-      -- [the tokens; the outcome; the set's last value; …; …; the text; the lender's part; …]
-      split k $ move k (1 ∷ []) $ split k $ lft-end k tt $ move k (0 ∷ 8 ∷ 4 ∷ []) $ use3 W (later (‵ (Cell 𝓤 H A W F κ q t d y z (ws .1 .0)) ⊛ ‵ (Owned 𝓤 H A W F κ q t d y z (ws .1 .0)))) (taken-back 𝓤 H A W T.the-row (a ∷ []) d 0 (LL.vals T.the-type T′.the-laws) (LL.tells T.the-type T′.the-laws) δ (ws .1 .0)) $ await k tt $ split k $
-      -- [the local's cell; what its set owns; …; the token; the outcome; …; …; the text; …]
-      move k (3 ∷ 2 ∷ []) $ join k $ move k (4 ∷ []) $ drop k $ move k (4 ∷ []) $ drop k $ move k (3 ∷ []) $ peeks k O.the-row (Is O.the-row) (shows 𝓤 H A O.the-row) r (u ∷ []) (λ is. then u r (ws .1 .0) e is)))))))
+  pub merges-into : K → FmC 𝓤 H (W .laws) C → (F : Way) → Triple 𝓤 (C f) (Lent F 𝓤 H A) → (κ : Lft) (q : Share) (t t′ : RefT (List ℕ)) (d : ℕ) (y z : Attrs) → Is T.the-row z (setVal z ∷ [])
+      → ((a : ℕ) (δ : GName) → Opds K W (raw (Lent F 𝓤 H A .pre (to 𝓤 H A W F κ q t t′ d y z a δ)) ∷ ‵ (Lends κ t t′) ∷ ‵ (Back 𝓤 H A W F κ q t t′ d y z a δ) ∷ Γ) E xs (Lent F 𝓤 H A .args (to 𝓤 H A W F κ q t t′ d y z a δ)))
+      → ((u : Val) (r : Outcome) (y′ : Attrs) → Said F t t′ y z r y′ → Is O.the-row r (u ∷ [])
+      → Seq K W (‵ (O.the-row .own r (u ∷ [])) ∷ (‵ (flft κ q) ⊛ ‵ ftrue) ∷ ‵ (Cell 𝓤 H A W F κ q t t′ d y z y′) ∷ ‵ (Owned 𝓤 H A W F κ q t t′ d y z y′) ∷ ‵ (Lends κ t t′) ∷ Γ) (lands C Λ E r₀ u rest p))
+      → Seq K W ((‵ (flft κ q) ⊛ ‵ ftrue) ∷ ‵ (Cell 𝓤 H A W F κ q t t′ d y z y) ∷ ‵ (Owned 𝓤 H A W F κ q t t′ d y z y) ∷ ‵ (Lends κ t t′) ∷ Γ) (runs C Λ E (seq (call f xs r₀) rest) p)
+  merges-into k fm F known κ q t t′ d y z gz operands then =
+      lft-new k tt (λ a. move k (2 ∷ 3 ∷ []) $ use2 W (later (some (λ (δ : GName). ‵ (RefTo 𝓤 H A W F κ q t t′ d y z a δ) ⊛ ‵ (Back 𝓤 H A W F κ q t t′ d y z a δ)))) (lent-out 𝓤 H A W T.the-row (a ∷ []) d 0 (named 1) y (setVal y ∷ [])) $ await k tt $ pick k (λ δ. split k $
+      -- [the reference; the lender's part; the loan's token; the token; the texts; …]
+      move k (3 ∷ 2 ∷ []) $ join k $ move k (0 ∷ 3 ∷ 1 ∷ []) $ use3 W (raw (Entry 𝓤 H A W F κ q t t′ d y z a δ) ⊛ ‵ (Lends κ t t′)) (asked 𝓤 H A W F κ q t t′ d y z a δ gz) $ split k $ use1 W (raw (Lent F 𝓤 H A .pre (to 𝓤 H A W F κ q t t′ d y z a δ))) (enters 𝓤 H A W F κ q t t′ d y z a δ) $
+      calls-at k fm (Lent F 𝓤 H A) known (to 𝓤 H A W F κ q t t′ d y z a δ) (operands a δ) (λ u.
+      use1 W (later (some (λ (o : Outcome). ((‵ (flft κ q) ⊛ (‵ (flft (a ∷ []) fullShare) ⊛ ‵ ftrue)) ⊛ ‵ (O.the-row .own o (u ∷ []))) ⊛ raw (ensured 𝓤 H A into.ended (lent F 𝓤) (κs 𝓤 H A W F κ q t t′ d y z a) (args 𝓤 H A W F κ q t t′ d y z δ) tt o)))) (id⊢ 𝓤 _) $ await k tt $ pick k (λ r.
+      split k $ move k (1 ∷ []) $ use1 W (some (λ (vs : Unit {0} × (Unit {0} × (Attrs × (Unit {0} × Unit {0})))). ‵ (lasts into.ended (κs 𝓤 H A W F κ q t t′ d y z a) (args 𝓤 H A W F κ q t t′ d y z δ) vs) ⊛ raw (fact 𝓤 (Said F t t′ y z r (vs .1 .1 .0))))) (id⊢ 𝓤 _) $ pick k (λ ws.
+      split k $ move k (1 ∷ []) $ heard k (Said F t t′ y z r (ws .1 .1 .0)) (λ e. fsplit k $ drop k $ fsplit k $ drop k $ fsplit k $ move k (2 ∷ []) $ split k $
+      -- [the tokens; the outcome; the set's last value; …; the texts; the lender's part; …]
+      split k $ move k (1 ∷ []) $ split k $ lft-end k tt $ move k (0 ∷ 7 ∷ 4 ∷ []) $ use3 W (later (‵ (Cell 𝓤 H A W F κ q t t′ d y z (ws .1 .1 .0)) ⊛ ‵ (Owned 𝓤 H A W F κ q t t′ d y z (ws .1 .1 .0)))) (taken-back 𝓤 H A W T.the-row (a ∷ []) d 0 (LL.vals T.the-type T′.the-laws) (LL.tells T.the-type T′.the-laws) δ (ws .1 .1 .0)) $ await k tt $ split k $
+      -- [the local's cell; what its set owns; …; the token; the outcome; …; the texts; …]
+      move k (3 ∷ 2 ∷ []) $ join k $ move k (4 ∷ []) $ drop k $ move k (3 ∷ []) $ peeks k O.the-row (Is O.the-row) (shows 𝓤 H A O.the-row) r (u ∷ []) (λ is. then u r (ws .1 .1 .0) e is)))))))

@@ -1,17 +1,16 @@
 -- A lent set after a merge: it stands as it was where the merge is refused, and else holds the merged set.
 -- Assumes nothing.
 use mathlib.Core.Path.{_≡_, _∙_, ap}
-use mathlib.Core.List.{List}
-use Prim.Native.Nat.{ℕ}
 use Rattle.base_refusals.specs.Numbers.{outcomeNo}
 use Rattle.base_refusals.specs.Orders.{orderNo}
 use Rattle.base_refusals.specs.declared.Refusal.{Refusal}
+use Rattle.set_table.specs.Types.{Texts}
 use Rattle.set_table.specs.declared.Attrs.{Attrs}
 use Rattle.base_refusals.specs.declared.Outcome.{Outcome}
 use Rattle.base_refusals.specs.declared.Outcome.the-variants.{Passed, Refused}
 use Rattle.set_table.specs.declared.Filled.{Filled}
 use Rattle.set_merge.specs.Merge.{mergeOf, mergeOrder}
-use Rattle.set_lent.specs.Lent.{endOf, bothOf}
+use Rattle.set_lent.specs.Lent.{endOf, lentBoth}
 
 module _ (was : Attrs) (f : Filled) where
   pub refused-stands : {r : Refusal} → f .outcome ≡ Refused r → was ≡ endOf was f
@@ -23,11 +22,11 @@ module _ (was : Attrs) (f : Filled) where
   done-goes e = rw e
 
 -- one lent set, merged into twice: y stands there between the two, and z behind them
-module _ (t : List ℕ) (a leading incoming : Attrs) {led merged : Outcome} {y z : Attrs}
+module _ (t : Texts) (a leading incoming : Attrs) {led merged : Outcome} {y z : Attrs}
     (e : (led ≡ mergeOf t leading a .outcome) × (y ≡ endOf a (mergeOf t leading a)) × (outcomeNo led ≡ orderNo (mergeOrder t leading a)))
     (f : (merged ≡ mergeOf t y incoming .outcome) × (z ≡ endOf y (mergeOf t y incoming)) × (outcomeNo merged ≡ orderNo (mergeOrder t y incoming))) where
-  both-is : record { led = led; merged = merged; set = z } ≡ bothOf t a leading incoming
-  unfolding bothOf
+  both-is : record { led = led; merged = merged; set = z } ≡ lentBoth t a leading incoming
+  unfolding lentBoth
   both-is =
       λ i. record {
         led = e .0 i;
@@ -35,5 +34,5 @@ module _ (t : List ℕ) (a leading incoming : Attrs) {led merged : Outcome} {y z
         set = (f .1 ∙ ap (λ (x : Attrs). endOf x (mergeOf t x incoming)) (e .1)) i;
       }
 
-  pub both-said : (record { led = led; merged = merged; set = z } ≡ bothOf t a leading incoming) × (outcomeNo led ≡ orderNo (mergeOrder t leading a)) × (outcomeNo merged ≡ orderNo (mergeOrder t (endOf a (mergeOf t leading a)) incoming))
+  pub both-said : (record { led = led; merged = merged; set = z } ≡ lentBoth t a leading incoming) × (outcomeNo led ≡ orderNo (mergeOrder t leading a)) × (outcomeNo merged ≡ orderNo (mergeOrder t (endOf a (mergeOf t leading a)) incoming))
   both-said = (both-is, e .2, f .2 ∙ ap (λ (x : Attrs). orderNo (mergeOrder t x incoming)) (e .1))

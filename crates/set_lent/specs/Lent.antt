@@ -1,6 +1,5 @@
 -- "on a set lent by the caller and added to where it stands": what the set is after a merge.
-use Prim.Native.Nat.{ℕ}
-use mathlib.Core.List.{List}
+use Rattle.set_table.specs.Types.{Texts}
 use Rattle.set_table.specs.declared.Attrs.{Attrs}
 use Rattle.base_refusals.specs.declared.Outcome as outcomes
 use Rattle.base_refusals.specs.declared.Outcome.the-variants.{Passed, Refused}
@@ -18,8 +17,8 @@ unfoldable pub endOf : Attrs → Filled → Attrs
 endOf was f = standing (f .outcome) was (f .set)
 
 -- a leading set merged into a, and then an incoming one
-abbrev pub bothFrom : List ℕ → Attrs → Filled → Attrs → Both
-bothFrom t a f incoming = record { led = f .outcome; merged = mergeOf t (endOf a f) incoming .outcome; set = endOf (endOf a f) (mergeOf t (endOf a f) incoming) }
+abbrev pub lentFrom : Texts → Attrs → Filled → Attrs → Both
+lentFrom t a f incoming = record { led = f .outcome; merged = mergeOf t (endOf a f) incoming .outcome; set = endOf (endOf a f) (mergeOf t (endOf a f) incoming) }
 
-unfoldable pub bothOf : List ℕ → Attrs → Attrs → Attrs → Both
-bothOf t a leading incoming = bothFrom t a (mergeOf t leading a) incoming
+unfoldable pub lentBoth : Texts → Attrs → Attrs → Attrs → Both
+lentBoth t a leading incoming = lentFrom t a (mergeOf t leading a) incoming

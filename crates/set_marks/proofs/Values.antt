@@ -19,7 +19,8 @@ use Rattle.text_escapes.specs.Unescape.{unescape}
 use Rattle.text_escapes.proofs.Pieces.{byte-at, end-at, unescape-le}
 use Rattle.set_canon.specs.Canon.{marked, escape}
 use Rattle.base_refusals.specs.Numbers.{maxText}
-use Rattle.set_table.specs.Types.{Texts, rangeBytes, textBytes, valueBytes}
+use Rattle.set_table.specs.Types.{Texts, textAt, rangeBytes, textBytes, valueBytes}
+use Rattle.set_table.specs.declared.Origin.{Origin}
 use Rattle.set_table.specs.declared.Value.{Value}
 use Rattle.set_table.specs.declared.Text.{Text}
 use Rattle.set_table.specs.declared.Text.the-variants.{Plain, Quoted, Empty}
@@ -122,14 +123,14 @@ unfolding isQuoted rawBytes valueBytes
 raw-value t v = go (v .text)
   where
     go : (x : Text) → bytesIn (isQuotedText x) (rawText t x) ≡ textBytes t x
-    go (Plain from to) = refl
-    go (Quoted from to) = refl
+    go (Plain o from to) = refl
+    go (Quoted o from to) = refl
     go Empty = refl
 
 -- a range isn't longer than the place where it ends
-pub range-short : (t : Texts) (from to : ℕ) → length (rangeBytes t from to) ≤ to
+pub range-short : (t : Texts) (o : Origin) (from to : ℕ) → length (rangeBytes t o from to) ≤ to
 unfolding rangeBytes
-range-short t from to = rw (slice-part from to (t .text)) (omega (arith, length-take (to - from) (drop from (t .text))))
+range-short t o from to = rw (slice-part from to (textAt t o)) (omega (arith, length-take (to - from) (drop from (textAt t o))))
 
-pub range-fits : (t : Texts) (from to : ℕ) {s : List ℕ} → s ≡ rangeBytes t from to → to ≤ maxText → length s ≤ maxText
-range-fits t from to e h = rw e (omega (arith, range-short t from to))
+pub range-fits : (t : Texts) (o : Origin) (from to : ℕ) {s : List ℕ} → s ≡ rangeBytes t o from to → to ≤ maxText → length s ≤ maxText
+range-fits t o from to e h = rw e (omega (arith, range-short t o from to))

@@ -14,16 +14,16 @@ use Rattle.set_table.specs.declared.Text.the-variants as text
 
 -- the raw text of a value, and whether it is to be unescaped
 abbrev pub rawText : Texts → texts.Text → List ℕ
-rawText t (text.Plain from to) = rangeBytes t from to
-rawText t (text.Quoted from to) = rangeBytes t from to
+rawText t (text.Plain o from to) = rangeBytes t o from to
+rawText t (text.Quoted o from to) = rangeBytes t o from to
 rawText t text.Empty = []
 
 unfoldable pub rawBytes : Texts → Value → List ℕ
 rawBytes t v = rawText t (v .text)
 
 abbrev pub isQuotedText : texts.Text → Bool
-isQuotedText (text.Plain from to) = false
-isQuotedText (text.Quoted from to) = true
+isQuotedText (text.Plain o from to) = false
+isQuotedText (text.Quoted o from to) = true
 isQuotedText text.Empty = false
 
 unfoldable pub isQuoted : Value → Bool

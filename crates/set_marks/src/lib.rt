@@ -8,7 +8,7 @@ ghost use lib.ListN.{length};
 ghost use Rattle.base_refusals.specs.Numbers.{maxText};
 ghost use Rattle.text_escapes.specs.Unescape.{piecePaper};
 ghost use Rattle.set_canon.specs.Canon.{marked, escape};
-ghost use Rattle.set_table.specs.Types.{one};
+ghost use Rattle.set_table.specs.Types.{two};
 ghost use Rattle.set_marks.specs.Marks.{bytesIn, pieceIn, rawBytes, isQuoted};
 ghost use Rattle.base_bytes.specs.Bytes.{isMarked};
 
@@ -65,14 +65,14 @@ pub fn escaped_len(s: &[u8], quoted: bool) -> usize
 }
 
 // The raw bytes of a value.
-pub fn raw_bytes(text: &[u8], value: Value) -> &[u8]
-    ensures { λ r. ⌜ (now r ≡ rawBytes (one (now (text .entry))) value) × (length (now r) ≤ maxText) ⌝ }
+pub fn raw_bytes<'a>(first: &'a [u8], second: &'a [u8], value: Value) -> &'a [u8]
+    ensures { λ r. ⌜ (now r ≡ rawBytes (two (now (first .entry)) (now (second .entry))) value) × (length (now r) ≤ maxText) ⌝ }
 {
     let v = value.text;
     match v {
-        Text::Plain(f, t) => set_table::bytes_of(text, f as usize, t as usize),
-        Text::Quoted(f, t) => set_table::bytes_of(text, f as usize, t as usize),
-        Text::Empty => &text[0..0],
+        Text::Plain(o, f, t) => set_table::range_of(first, second, o, f as usize, t as usize),
+        Text::Quoted(o, f, t) => set_table::range_of(first, second, o, f as usize, t as usize),
+        Text::Empty => &first[0..0],
     }
 }
 
@@ -82,8 +82,8 @@ pub fn is_quoted(value: Value) -> bool
 {
     let v = value.text;
     match v {
-        Text::Plain(_, _) => false,
-        Text::Quoted(_, _) => true,
+        Text::Plain(_, _, _) => false,
+        Text::Quoted(_, _, _) => true,
         Text::Empty => false,
     }
 }

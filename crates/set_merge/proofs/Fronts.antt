@@ -1,6 +1,7 @@
 -- The first rows of an array with zero behind them, as a loop copies them, and the table that is so cleaned.
 -- Assumes nothing.
-use mathlib.Core.Path.{_≡_}
+use mathlib.Core.Path.{_≡_, refl}
+use mathlib.Core.Bool.{Bool, true, false, cond}
 use mathlib.Core.List.{List, map, map-map, map-id}
 use Prim.Native.Nat.{ℕ, _+_, _-_, _<_, _≤_}
 use native.Mathlib.Numerals.{add-one}
@@ -8,8 +9,9 @@ use native.Mathlib.Omega.{arith}
 use lib.ListN.{length, getD, set, take, replicate, length-map}
 use lib.Seq.{take-suc, length-take-le}
 use Rattle.set_table.specs.Types.{maxClasses, maxKeys, maxSlots, zeroValue, zeroRow, zeroSlot}
-use Rattle.set_table.specs.Rows.{padded, held, slotIn, tableOf, rowsIn}
+use Rattle.set_table.specs.Rows.{Ident, isThere, idOr, padded, held, slotIn, tableOf, rowsIn}
 use Rattle.set_table.specs.declared.SlotRecord.{SlotRecord}
+use Rattle.set_table.specs.declared.Value.{Value}
 use Rattle.set_table.specs.declared.Attrs.{Attrs}
 use Rattle.set_table.proofs.Table.{padded-more}
 use Rattle.set_merge.specs.Inner.{firsts}
@@ -37,10 +39,15 @@ module _ {A : Type 0} {max : ℕ} {zero : A} {from : List A} {n : ℕ} {out : Li
 order-again : (o : List SlotRecord) → map held (map slotIn o) ≡ o
 order-again o = rw (map-map held slotIn o) (map-id o)
 
+there : (b : Bool) (v : Value) → isThere (cond b (Ident.given v) Ident.missing) ≡ b
+there true v = refl
+there false v = refl
+
 module _ (a : Attrs) (c : length (a .classes) ≡ maxClasses) (k : length (a .keys) ≡ maxKeys) (o : length (a .order) ≡ maxSlots)
     (few : (a .nclass ≤ maxClasses) × (a .nkey ≤ maxKeys) × (a .norder ≤ maxSlots)) where
   pub cleaned-is : record {
-    id = a .id;
+    id = idOr (cond (a .given) (Ident.given (a .id)) Ident.missing);
+    given = a .given;
     classes = firsts maxClasses zeroValue (a .nclass) (a .classes);
     nclass = a .nclass;
     keys = firsts maxKeys zeroRow (a .nkey) (a .keys);
@@ -54,4 +61,4 @@ module _ (a : Attrs) (c : length (a .classes) ≡ maxClasses) (k : length (a .ke
       let x : length (take (a .nclass) (a .classes)) ≡ a .nclass = length-take-le (a .nclass) (a .classes) (omega arith) in
       let y : length (take (a .nkey) (a .keys)) ≡ a .nkey = length-take-le (a .nkey) (a .keys) (omega arith) in
       let z : length (take (a .norder) (a .order)) ≡ a .norder = length-take-le (a .norder) (a .order) (omega arith) in
-      rw (length-map, order-again (take (a .norder) (a .order)), x, y, z)
+      rw (there (a .given) (a .id), length-map, order-again (take (a .norder) (a .order)), x, y, z)

@@ -15,11 +15,9 @@ use Rattle.base_lists.proofs.More.{contra, all-parts}
 use Rattle.base_lists.proofs.Each.{get-map}
 use Rattle.base_refusals.specs.declared.Refusal.the-variants.{TooManyClasses, TooManyKeys}
 use Rattle.set_table.specs.Types.{Texts, maxClasses, maxKeys, maxSlots, zeroSlot}
-use Rattle.set_table.specs.Rows.{Rows, Put, withPut, withPuts, slotIn, rowsIn}
+use Rattle.set_table.specs.Rows.{Ident, Rows, Put, withPut, withPuts, slotIn, rowsIn}
 use Rattle.set_table.specs.Shape.{isSlot, times, isPresent}
 use Rattle.set_table.specs.declared.Attrs.{Attrs}
-use Rattle.set_table.specs.declared.Id as ids
-use Rattle.set_table.specs.declared.Id.the-variants as id
 use Rattle.set_table.specs.declared.Slot.{Slot}
 use Rattle.set_table.specs.declared.Slot.the-variants.{Id, Class, Key}
 use Rattle.set_table.specs.declared.Value.{Value}
@@ -48,9 +46,9 @@ module _ (t : Texts) where
     unfolding putsAt withPuts withPut
     none-at s Id q = go (b .ident)
       where
-        go : (i : ids.Id) → length (withPuts t s (putsOfId i) .classes) ≡ length (s .classes)
-        go id.Missing = refl
-        go (id.Given v) = refl
+        go : (i : Ident) → length (withPuts t s (putsOfId i) .classes) ≡ length (s .classes)
+        go Ident.missing = refl
+        go (Ident.given v) = refl
     none-at s Class q = contra true refl q
     none-at s (Key k) q = refl
 
@@ -101,7 +99,7 @@ module _ (b : Attrs) where
   unfolding rowsIn
   slot-rows e l = length-map (take (b .norder) (b .order)) slotIn ∙ length-take-le (b .norder) (b .order) (omega arith)
 
-  slot-at : (i : ℕ) → i < b .norder → getD (rowsIn b .order) i Id ≡ getD (b .order) i zeroSlot .slot
+  slot-at : (i : ℕ) → i < b .norder → getD (rowsIn b .order) i (Key 0) ≡ getD (b .order) i zeroSlot .slot
   unfolding rowsIn
   slot-at i l = get-map slotIn zeroSlot (take (b .norder) (b .order)) i ∙ (rw (getD-take (b .norder) (b .order) i zeroSlot l))
 
@@ -143,7 +141,7 @@ module _ {t : Texts} {a b set : Attrs} {i : ℕ} (inv : Merges t a b set i) wher
   -- a slot more
   module _ (g : Sound b) (o : length (b .order) ≡ maxSlots) (l : i < b .norder) where
     cut : drop i (rowsIn b .order) ≡ getD (b .order) i zeroSlot .slot ∷ drop (suc i) (rowsIn b .order)
-    cut = drop-cons (rowsIn b .order) i Id (omega (arith, slot-rows b o (g .norder))) ∙ (rw (slot-at b i l))
+    cut = drop-cons (rowsIn b .order) i (Key 0) (omega (arith, slot-rows b o (g .norder))) ∙ (rw (slot-at b i l))
 
     parted : withPuts t (withPuts t (rowsIn set) (putsAt (rowsIn b) (getD (b .order) i zeroSlot .slot))) (flatMap (putsAt (rowsIn b)) (drop (suc i) (rowsIn b .order))) ≡ withPuts t (rowsIn a) (putsBy (rowsIn b))
     unfolding flatMap

@@ -13,7 +13,6 @@ use Rattle.set_table.specs.Types.{Texts, maxClasses, maxKeys, zeroValue, zeroRo
 use Rattle.set_table.specs.Rows.{Put, keyAt, withPut, withPuts, rowsIn}
 use Rattle.set_table.specs.Inner.{Holds}
 use Rattle.set_table.specs.declared.Attrs.{Attrs}
-use Rattle.set_table.specs.declared.Id.the-variants as ids
 use Rattle.set_table.specs.declared.Name.{Name}
 use Rattle.set_table.specs.declared.Slot.{Slot}
 use Rattle.set_table.specs.declared.Slot.the-variants.{Id, Class, Key}
@@ -74,11 +73,11 @@ module _ {s b : Attrs} {x : Slot} (p : Present s b x) where
   key-there e = rw e at (p .fits)
 
 module _ (b : Attrs) {x : Slot} where
-  pub puts-none : x ≡ Id → b .id .id ≡ ids.Missing → putsAt (rowsIn b) x ≡ []
+  pub puts-none : x ≡ Id → b .given ≡ false → putsAt (rowsIn b) x ≡ []
   unfolding putsAt rowsIn
   puts-none e i = rw (e, i)
 
-  pub puts-id : {v : Value} → x ≡ Id → b .id .id ≡ ids.Given v → putsAt (rowsIn b) x ≡ Put.ident v ∷ []
+  pub puts-id : x ≡ Id → b .given ≡ true → putsAt (rowsIn b) x ≡ Put.ident (b .id) ∷ []
   unfolding putsAt rowsIn
   puts-id e i = rw (e, i)
 

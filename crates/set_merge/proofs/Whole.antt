@@ -2,8 +2,7 @@
 -- Assumes nothing.
 use mathlib.Core.Path.{_≡_, refl, _∙_}
 use mathlib.Core.Bool.{Bool, true, false, cond, _&&_}
-use mathlib.Core.List.{List}
-use Prim.Native.Nat.{ℕ, _≤_}
+use Prim.Native.Nat.{_≤_}
 use native.Mathlib.Omega.{arith}
 use lib.Dec.{leb}
 use lib.ListN.{length, length-take}
@@ -11,10 +10,10 @@ use borrow.Author.Tests.{leb-true}
 use Rattle.base_lists.proofs.Scan.{both}
 use Rattle.base_refusals.specs.declared.Refusal.{Refusal}
 use Rattle.base_refusals.specs.declared.Refusal.the-variants.{NotWellFormed}
-use Rattle.text_checks.specs.Check.{checkOf}
+use Rattle.text_checks.specs.Check.{bothOf}
 use Rattle.base_refusals.specs.declared.Outcome.{Outcome}
 use Rattle.base_refusals.specs.declared.Outcome.the-variants.{Passed, Refused}
-use Rattle.set_table.specs.Types.{Texts, one, maxClasses, maxKeys, maxSlots}
+use Rattle.set_table.specs.Types.{Texts, maxClasses, maxKeys, maxSlots}
 use Rattle.set_table.specs.Rows.{withPuts, tableOf, rowsIn}
 use Rattle.set_table.specs.declared.Attrs.{Attrs}
 use Rattle.set_table.specs.declared.Slot.the-variants.{Class}
@@ -57,22 +56,22 @@ module _ (t : Texts) (a : Attrs) (h : tableOk t a ≡ true) where
       }
 
 -- ---- the entry
-module _ (t : List ℕ) (a b : Attrs) {f : Filled} {c : Outcome} (e : c ≡ checkOf t) where
+module _ (t : Texts) (a b : Attrs) {f : Filled} {c : Outcome} (e : c ≡ bothOf (t .first) (t .second)) where
   pub by-check : {r : Refusal} → c ≡ Refused r → f ≡ refusing r → f ≡ mergeOf t a b
   unfolding mergeOf
   by-check q g = g ∙ (rw (← e, q))
 
   module _ (p : c ≡ Passed) where
-    by-tables : {x y : Bool} → tableOk (one t) a ≡ x → tableOk (one t) b ≡ y → f ≡ cond (x && y) (limited (withPuts (one t) (rowsIn a) (putsBy (rowsIn b)))) (refusing NotWellFormed) → f ≡ mergeOf t a b
+    by-tables : {x y : Bool} → tableOk t a ≡ x → tableOk t b ≡ y → f ≡ cond (x && y) (limited (withPuts t (rowsIn a) (putsBy (rowsIn b)))) (refusing NotWellFormed) → f ≡ mergeOf t a b
     unfolding mergeOf
     by-tables x y g = rw (← e, p, x, y) g
 
-    pub first-bad : tableOk (one t) a ≡ false → f ≡ refusing NotWellFormed → f ≡ mergeOf t a b
+    pub first-bad : tableOk t a ≡ false → f ≡ refusing NotWellFormed → f ≡ mergeOf t a b
     first-bad x g = by-tables x refl g
 
-    pub second-bad : tableOk (one t) a ≡ true → tableOk (one t) b ≡ false → f ≡ refusing NotWellFormed → f ≡ mergeOf t a b
+    pub second-bad : tableOk t a ≡ true → tableOk t b ≡ false → f ≡ refusing NotWellFormed → f ≡ mergeOf t a b
     second-bad x y g = by-tables x y g
 
     -- the rows of the cleaned set are those of a
-    pub both-good : {r : Attrs} → tableOk (one t) a ≡ true → tableOk (one t) b ≡ true → r ≡ tableOf (rowsIn a) → f ≡ limited (withPuts (one t) (rowsIn r) (putsBy (rowsIn b))) → f ≡ mergeOf t a b
+    pub both-good : {r : Attrs} → tableOk t a ≡ true → tableOk t b ≡ true → r ≡ tableOf (rowsIn a) → f ≡ limited (withPuts t (rowsIn r) (putsBy (rowsIn b))) → f ≡ mergeOf t a b
     both-good x y q g = by-tables x y (rw (q, rows-table (rowsIn a)) at g)

@@ -1,24 +1,24 @@
-// Two sets over one text made into one.
+// Two sets over two texts made into one.
 use base_refusals::Outcome;
 use base_refusals::Refusal;
 use set_table::Attrs;
 use set_table::Filled;
-use set_table::Id;
-use set_table::Ident;
 use set_table::Name;
+use set_table::Origin;
 use set_table::Row;
 use set_table::Slot;
 use set_table::SlotRecord;
 use set_table::Text;
 use set_table::Value;
 ghost use mathlib.Core.Path.{_≡_};
+ghost use mathlib.Core.Bool.{cond};
 ghost use mathlib.Core.List.{[], _∷_, map};
 ghost use Prim.Native.Nat.{_+_, _≤_};
 ghost use lib.ListN.{take};
 ghost use Rattle.base_refusals.specs.Numbers.{outcomeNo};
 ghost use Rattle.base_refusals.specs.Orders.{orderNo};
-ghost use Rattle.set_table.specs.Types.{Texts, one, zeroValue, zeroRow, zeroSlot, maxClasses, maxKeys, maxSlots};
-ghost use Rattle.set_table.specs.Rows.{Put, withPut, withPuts, rowsIn, tableOf};
+ghost use Rattle.set_table.specs.Types.{Texts, two, zeroValue, zeroRow, zeroSlot, maxClasses, maxKeys, maxSlots};
+ghost use Rattle.set_table.specs.Rows.{Ident, Put, idOr, withPut, withPuts, rowsIn, tableOf};
 ghost use Rattle.set_table.specs.Filled.{limited};
 ghost use Rattle.set_table.specs.Inner.{Holds};
 ghost use Rattle.set_merge.specs.Merge.{putsAt, putsBy, mergeOf, mergeOrder};
@@ -36,7 +36,7 @@ fn first_classes(from: [Value; Attrs::CLASSES], n: usize) -> [Value; Attrs::CLAS
     ensures { λ r. ⌜ r ≡ firsts maxClasses zeroValue n from ⌝ }
 {
     let none = Value {
-        text: Text::Plain(0, 0),
+        text: Text::Plain(Origin::First, 0, 0),
     };
     let mut out = [none; Attrs::CLASSES];
     let mut i: usize = 0;
@@ -53,9 +53,9 @@ fn first_keys(from: [Row; Attrs::KEYS], n: usize) -> [Row; Attrs::KEYS]
     ensures { λ r. ⌜ r ≡ firsts maxKeys zeroRow n from ⌝ }
 {
     let none = Row {
-        name: Name::Range(0, 0),
+        name: Name::Range(Origin::First, 0, 0),
         value: Value {
-            text: Text::Plain(0, 0),
+            text: Text::Plain(Origin::First, 0, 0),
         },
     };
     let mut out = [none; Attrs::KEYS];
@@ -72,7 +72,7 @@ fn first_slots(from: [SlotRecord; Attrs::SLOTS], n: usize) -> [SlotRecord; Attrs
     requires { ⌜ n ≤ maxSlots ⌝ }
     ensures { λ r. ⌜ r ≡ firsts maxSlots zeroSlot n from ⌝ }
 {
-    let none = SlotRecord { slot: Slot::Id };
+    let none = SlotRecord { slot: Slot::Key(0) };
     let mut out = [none; Attrs::SLOTS];
     let mut i: usize = 0;
     while i < n {
@@ -82,26 +82,40 @@ fn first_slots(from: [SlotRecord; Attrs::SLOTS], n: usize) -> [SlotRecord; Attrs
     out
 }
 
+// The id's value, zero where there is none.
+fn first_id(given: bool, v: Value) -> Value
+    ensures { λ r. ⌜ r ≡ idOr (cond given (Ident.given v) Ident.missing) ⌝ }
+{
+    if given {
+        return v;
+    }
+    Value {
+        text: Text::Plain(Origin::First, 0, 0),
+    }
+}
+
 // The set with zero rows past its counts.
 fn cleaned(a: Attrs) -> Attrs
     requires { ⌜ (a .nclass ≤ maxClasses) × (a .nkey ≤ maxKeys) × (a .norder ≤ maxSlots) ⌝ }
     ensures { λ r. ⌜ r ≡ tableOf (rowsIn a) ⌝ }
 {
-    let id = a.id;
+    let v = a.id;
     let cs = a.classes;
     let ks = a.keys;
     let os = a.order;
     let classes = first_classes(cs, a.nclass as usize);
     let keys = first_keys(ks, a.nkey as usize);
     let order = first_slots(os, a.norder as usize);
+    let id = first_id(a.given, v);
     Attrs {
         id: id,
-        classes: classes,
+        given: a.given,
         nclass: a.nclass,
-        keys: keys,
         nkey: a.nkey,
-        order: order,
         norder: a.norder,
+        classes: classes,
+        keys: keys,
+        order: order,
     }
 }
 
@@ -111,19 +125,16 @@ fn put_id(s: Attrs, v: Value) -> Attrs
     ensures { λ r. ⌜ ((t : Texts) → Holds r (withPut t (rowsIn s) (Put.ident v))) ⌝ }
 {
     let mut set = s;
-    let was = set.id;
-    let new = Ident { id: Id::Given(v) };
-    set.id = new;
-    let id = was.id;
-    match id {
-        Id::Given(_) => set,
-        Id::Missing => {
-            let p = set.norder as usize;
-            set.order[p] = SlotRecord { slot: Slot::Id };
-            set.norder = set.norder + 1;
-            set
-        }
+    let was = set.given;
+    set.id = v;
+    set.given = true;
+    if was {
+        return set;
     }
+    let p = set.norder as usize;
+    set.order[p] = SlotRecord { slot: Slot::Id };
+    set.norder = set.norder + 1;
+    set
 }
 
 // The first m of the classes, joined to those that are there.
@@ -149,14 +160,14 @@ fn put_classes(s: Attrs, from: [Value; Attrs::CLASSES], m: usize) -> Attrs
 }
 
 // A key with its value: the value alone where the key is there already, else a new row whose slot goes behind.
-fn put_key(text: &[u8], s: Attrs, name: Name, value: Value) -> Merging
+fn put_key<'a>(first: &'a [u8], second: &'a [u8], s: Attrs, name: Name, value: Value) -> Merging
     requires { ⌜ Holds s (rowsIn s) ⌝ }
-    ensures { λ r. ⌜ Steps (one (now (text .entry))) s (Put.key name value ∷ []) r ⌝ }
+    ensures { λ r. ⌜ Steps (two (now (first .entry)) (now (second .entry))) s (Put.key name value ∷ []) r ⌝ }
 {
     let mut set = s;
     let n = set.nkey as usize;
     let keys = set.keys;
-    let k = set_table::find_key(text, keys, n, name);
+    let k = set_table::find_key(first, second, keys, n, name);
     if k < n {
         let mut row = set.keys[k];
         row.value = value;
@@ -177,21 +188,19 @@ fn put_key(text: &[u8], s: Attrs, name: Name, value: Value) -> Merging
 }
 
 // What stands at one slot of b.
-fn put_slot(text: &[u8], s: Attrs, b: Attrs, slot: Slot) -> Merging
+fn put_slot<'a>(first: &'a [u8], second: &'a [u8], s: Attrs, b: Attrs, slot: Slot) -> Merging
     requires { ⌜ (Holds s (rowsIn s)) × (Present s b slot) ⌝ }
-    ensures { λ r. ⌜ Steps (one (now (text .entry))) s (putsAt (rowsIn b) slot) r ⌝ }
+    ensures { λ r. ⌜ Steps (two (now (first .entry)) (now (second .entry))) s (putsAt (rowsIn b) slot) r ⌝ }
 {
     match slot {
         Slot::Id => {
-            let given = b.id;
-            let id = given.id;
-            match id {
-                Id::Missing => Merging { fits: true, set: s },
-                Id::Given(v) => Merging {
+            if b.given {
+                return Merging {
                     fits: true,
-                    set: put_id(s, v),
-                },
+                    set: put_id(s, b.id),
+                };
             }
+            Merging { fits: true, set: s }
         }
         Slot::Class => {
             let classes = b.classes;
@@ -203,15 +212,15 @@ fn put_slot(text: &[u8], s: Attrs, b: Attrs, slot: Slot) -> Merging
         Slot::Key(k) => {
             let row = b.keys[k as usize];
             let name = row.name;
-            put_key(text, s, name, row.value)
+            put_key(first, second, s, name, row.value)
         }
     }
 }
 
 // The slots of b in their order, each put into a. Its classes are counted first: a merge with too many of both is refused for its classes.
-fn merge_rows(text: &[u8], a: Attrs, b: Attrs) -> Filled
+fn merge_rows<'a>(first: &'a [u8], second: &'a [u8], a: Attrs, b: Attrs) -> Filled
     requires { ⌜ (Holds a (rowsIn a)) × (Sound b) ⌝ }
-    ensures { λ r. ⌜ r ≡ limited (withPuts (one (now (text .entry))) (rowsIn a) (putsBy (rowsIn b))) ⌝ }
+    ensures { λ r. ⌜ r ≡ limited (withPuts (two (now (first .entry)) (now (second .entry))) (rowsIn a) (putsBy (rowsIn b))) ⌝ }
 {
     if Attrs::CLASSES < a.nclass as usize + b.nclass as usize {
         return set_fill::refusing(Refusal::TooManyClasses);
@@ -222,7 +231,7 @@ fn merge_rows(text: &[u8], a: Attrs, b: Attrs) -> Filled
     while i < n {
         let place = b.order[i];
         let slot = place.slot;
-        let step = put_slot(text, set, b, slot);
+        let step = put_slot(first, second, set, b, slot);
         if !step.fits {
             return set_fill::refusing(Refusal::TooManyKeys);
         }
@@ -235,29 +244,34 @@ fn merge_rows(text: &[u8], a: Attrs, b: Attrs) -> Filled
     }
 }
 
-// The set `incoming` merged into the set `target`, both over the text.
-pub fn merge_attrs(text: &[u8], target: Attrs, incoming: Attrs) -> Filled
-    ensures { λ r. ⌜ r ≡ mergeOf (now (text .entry)) target incoming ⌝ }
-    ensures { λ r. ⌜ outcomeNo (r .outcome) ≡ orderNo (mergeOrder (now (text .entry)) target incoming) ⌝ }
+// The set `incoming` merged into the set `target`, both over the texts.
+pub fn merge_attrs<'a>(first: &'a [u8], second: &'a [u8], target: Attrs, incoming: Attrs) -> Filled
+    ensures { λ r. ⌜ r ≡ mergeOf (two (now (first .entry)) (now (second .entry))) target incoming ⌝ }
+    ensures { λ r. ⌜ outcomeNo (r .outcome) ≡ orderNo (mergeOrder (two (now (first .entry)) (now (second .entry))) target incoming) ⌝ }
 {
-    match text_checks::check_text(text) {
+    match text_checks::check_both(first, second) {
         Outcome::Refused(r) => set_fill::refusing(r),
         Outcome::Passed => {
-            if !set_wellformed::table_ok(text, target) {
+            if !set_wellformed::table_ok(first, second, target) {
                 return set_fill::refusing(Refusal::NotWellFormed);
             }
-            if !set_wellformed::table_ok(text, incoming) {
+            if !set_wellformed::table_ok(first, second, incoming) {
                 return set_fill::refusing(Refusal::NotWellFormed);
             }
-            merge_rows(text, cleaned(target), incoming)
+            merge_rows(first, second, cleaned(target), incoming)
         }
     }
 }
 
 // The set `leading` comes first, and what `target` has wins.
-pub fn merge_leading_attrs(text: &[u8], target: Attrs, leading: Attrs) -> Filled
-    ensures { λ r. ⌜ r ≡ mergeOf (now (text .entry)) leading target ⌝ }
-    ensures { λ r. ⌜ outcomeNo (r .outcome) ≡ orderNo (mergeOrder (now (text .entry)) leading target) ⌝ }
+pub fn merge_leading_attrs<'a>(
+    first: &'a [u8],
+    second: &'a [u8],
+    target: Attrs,
+    leading: Attrs,
+) -> Filled
+    ensures { λ r. ⌜ r ≡ mergeOf (two (now (first .entry)) (now (second .entry))) leading target ⌝ }
+    ensures { λ r. ⌜ outcomeNo (r .outcome) ≡ orderNo (mergeOrder (two (now (first .entry)) (now (second .entry))) leading target) ⌝ }
 {
-    merge_attrs(text, leading, target)
+    merge_attrs(first, second, leading, target)
 }

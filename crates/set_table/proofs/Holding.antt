@@ -11,7 +11,6 @@ use Rattle.base_lists.proofs.Each.{is-some, is-none}
 use Rattle.set_table.specs.declared.Value.{Value}
 use Rattle.set_table.specs.declared.Name.{Name}
 use Rattle.set_table.specs.declared.Row.{Row}
-use Rattle.set_table.specs.declared.Id.the-variants as ids
 use Rattle.set_table.specs.declared.Slot.{Slot}
 use Rattle.set_table.specs.declared.Slot.the-variants as slot
 use Rattle.set_table.specs.declared.Attrs.{Attrs}
@@ -25,19 +24,19 @@ use Rattle.set_table.proofs.Whole.{rows-table}
 
 -- ---- the stores that the code makes
 abbrev withId : Attrs → Value → Attrs
-withId a v = record { id = record { id = ids.Given v }; classes = a .classes; nclass = a .nclass; keys = a .keys; nkey = a .nkey; order = a .order; norder = a .norder }
+withId a v = record { id = v; given = true; nclass = a .nclass; nkey = a .nkey; norder = a .norder; classes = a .classes; keys = a .keys; order = a .order }
 
 abbrev withSlot : Attrs → Slot → Attrs
-withSlot a k = record { id = a .id; classes = a .classes; nclass = a .nclass; keys = a .keys; nkey = a .nkey; order = set (a .order) (a .norder) (held k); norder = a .norder + 1 }
+withSlot a k = record { id = a .id; given = a .given; nclass = a .nclass; nkey = a .nkey; norder = a .norder + 1; classes = a .classes; keys = a .keys; order = set (a .order) (a .norder) (held k) }
 
 abbrev withClass : Attrs → Value → Attrs
-withClass a v = record { id = a .id; classes = set (a .classes) (a .nclass) v; nclass = a .nclass + 1; keys = a .keys; nkey = a .nkey; order = a .order; norder = a .norder }
+withClass a v = record { id = a .id; given = a .given; nclass = a .nclass + 1; nkey = a .nkey; norder = a .norder; classes = set (a .classes) (a .nclass) v; keys = a .keys; order = a .order }
 
 abbrev withRow : Attrs → ℕ → Row → Attrs
-withRow a k r = record { id = a .id; classes = a .classes; nclass = a .nclass; keys = set (a .keys) k r; nkey = a .nkey; order = a .order; norder = a .norder }
+withRow a k r = record { id = a .id; given = a .given; nclass = a .nclass; nkey = a .nkey; norder = a .norder; classes = a .classes; keys = set (a .keys) k r; order = a .order }
 
 abbrev withKey : Attrs → Row → Attrs
-withKey a r = record { id = a .id; classes = a .classes; nclass = a .nclass; keys = set (a .keys) (a .nkey) r; nkey = a .nkey + 1; order = a .order; norder = a .norder }
+withKey a r = record { id = a .id; given = a .given; nclass = a .nclass; nkey = a .nkey + 1; norder = a .norder; classes = a .classes; keys = set (a .keys) (a .nkey) r; order = a .order }
 
 -- ---- each is what a put does to the rows
 slot-more : (o : List Slot) (k : Slot) → length o < maxSlots → set (padded maxSlots zeroSlot (map held o)) (length o) (held k) ≡ padded maxSlots zeroSlot (map held (o ++ (k ∷ [])))
@@ -48,7 +47,7 @@ unfolding tableOf padded
 holds-none = record { is = refl; classes = omega arith; keys = omega arith; each = shaped-none }
 
 module _ {a : Attrs} {r : Rows} (h : Holds a r) where
-  there : isThere (a .id .id) ≡ isThere (r .ident)
+  there : a .given ≡ isThere (r .ident)
   unfolding tableOf
   there = rw (h .is)
 
@@ -79,7 +78,7 @@ module _ {a : Attrs} {r : Rows} (h : Holds a r) where
   pub few : (a .nclass ≤ maxClasses) × (a .nkey ≤ maxKeys) × (a .norder ≤ maxSlots)
   few = omega (arith, nclass, nkey, norder, h .classes, h .keys, slots (h .each) (h .keys))
 
-  pub room-id : isThere (a .id .id) ≡ false → a .norder < maxSlots
+  pub room-id : a .given ≡ false → a .norder < maxSlots
   room-id e = omega (arith, norder, id-room (h .each) (sym there ∙ e) (h .keys))
 
   pub room-class : a .nclass ≤ 0 → a .norder < maxSlots
@@ -98,11 +97,11 @@ module _ {a : Attrs} {r : Rows} (h : Holds a r) where
 
   -- ---- what a put does
   module _ (t : Texts) (v : Value) where
-    pub id-again : isThere (a .id .id) ≡ true → Holds (withId a v) (withPut t r (Put.ident v))
+    pub id-again : a .given ≡ true → Holds (withId a v) (withPut t r (Put.ident v))
     unfolding tableOf withPut
     id-again e = record { is = rw (h .is, sym there ∙ e); classes = h .classes; keys = h .keys; each = shaped-put t (Put.ident v) (h .each) }
 
-    pub id-first : isThere (a .id .id) ≡ false → Holds (withSlot (withId a v) slot.Id) (withPut t r (Put.ident v))
+    pub id-first : a .given ≡ false → Holds (withSlot (withId a v) slot.Id) (withPut t r (Put.ident v))
     unfolding tableOf withPut
     id-first e =
         let z : length (r .order) < maxSlots = omega (arith, norder, room-id e) in

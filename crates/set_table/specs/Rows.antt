@@ -12,18 +12,21 @@ use Rattle.set_table.specs.declared.Row.{Row}
 use Rattle.set_table.specs.declared.Slot as slots
 use Rattle.set_table.specs.declared.Slot.the-variants as slot
 use Rattle.set_table.specs.declared.SlotRecord.{SlotRecord}
-use Rattle.set_table.specs.declared.Id as ids
-use Rattle.set_table.specs.declared.Id.the-variants as id
 use Rattle.set_table.specs.declared.Attrs.{Attrs}
 
+-- an id, or none
+pub data Ident : Type 0 where
+  missing : Ident
+  given : Value → Ident
+
 pub record Rows : Type 0 where
-  pub ident : ids.Id
+  pub ident : Ident
   pub classes : List Value
   pub keys : List Row
   pub order : List slots.Slot
 
 abbrev pub noRows : Rows
-noRows = record { ident = id.Missing; classes = []; keys = []; order = [] }
+noRows = record { ident = Ident.missing; classes = []; keys = []; order = [] }
 
 -- ---- putting one thing into a set: "Slots: Id, Class and each key stand once, where first met."
 
@@ -32,9 +35,9 @@ pub data Put : Type 0 where
   class : Value → Put
   key : Name → Value → Put
 
-abbrev pub isThere : ids.Id → Bool
-isThere id.Missing = false
-isThere (id.Given v) = true
+abbrev pub isThere : Ident → Bool
+isThere Ident.missing = false
+isThere (Ident.given v) = true
 
 -- a slot goes behind, where it isn't there yet
 abbrev pub slotUnless : Bool → List slots.Slot → slots.Slot → List slots.Slot
@@ -61,7 +64,7 @@ putRow t n v (r ∷ rs) = cond (isNamed t n r) (record { name = r .name; value =
 
 -- "The last id and the last value of a key win."
 unfoldable pub withPut : Texts → Rows → Put → Rows
-withPut t s (Put.ident v) = record { ident = id.Given v; classes = s .classes; keys = s .keys; order = slotUnless (isThere (s .ident)) (s .order) slot.Id }
+withPut t s (Put.ident v) = record { ident = Ident.given v; classes = s .classes; keys = s .keys; order = slotUnless (isThere (s .ident)) (s .order) slot.Id }
 withPut t s (Put.class v) = record { ident = s .ident; classes = s .classes ++ (v ∷ []); keys = s .keys; order = slotUnless (isSome (s .classes)) (s .order) slot.Class }
 withPut t s (Put.key n v) = record { ident = s .ident; classes = s .classes; keys = putRow t n v (s .keys); order = slotUnless (hasKey t n (s .keys)) (s .order) (slot.Key (length (s .keys))) }
 
@@ -70,9 +73,9 @@ withPuts t s ps = foldl (withPut t) s ps
 
 -- ---- what the rows mean: the slots in order, each with its name and values, as bytes
 
-abbrev pub idValues : Texts → ids.Id → List (List ℕ)
-idValues t id.Missing = []
-idValues t (id.Given v) = valueBytes t v ∷ []
+abbrev pub idValues : Texts → Ident → List (List ℕ)
+idValues t Ident.missing = []
+idValues t (Ident.given v) = valueBytes t v ∷ []
 
 unfoldable pub slotEntry : Texts → Rows → slots.Slot → Entry
 slotEntry t s slot.Id = record { name = idName; values = idValues t (s .ident) }
@@ -90,16 +93,22 @@ padded n z xs = xs ++ replicate (n - length xs) z
 abbrev pub held : slots.Slot → SlotRecord
 held k = record { slot = k }
 
+-- the id's value, zero where there is none
+abbrev pub idOr : Ident → Value
+idOr Ident.missing = zeroValue
+idOr (Ident.given v) = v
+
 unfoldable pub tableOf : Rows → Attrs
 tableOf s =
     record {
-      id = record { id = s .ident };
-      classes = padded maxClasses zeroValue (s .classes);
+      id = idOr (s .ident);
+      given = isThere (s .ident);
       nclass = length (s .classes);
-      keys = padded maxKeys zeroRow (s .keys);
       nkey = length (s .keys);
-      order = padded maxSlots zeroSlot (map held (s .order));
       norder = length (s .order);
+      classes = padded maxClasses zeroValue (s .classes);
+      keys = padded maxKeys zeroRow (s .keys);
+      order = padded maxSlots zeroSlot (map held (s .order));
     }
 
 -- ---- the rows of a table: those that count
@@ -108,8 +117,8 @@ abbrev pub slotIn : SlotRecord → slots.Slot
 slotIn r = r .slot
 
 unfoldable pub rowsIn : Attrs → Rows
-rowsIn a = record { ident = a .id .id; classes = take (a .nclass) (a .classes); keys = take (a .nkey) (a .keys); order = map slotIn (take (a .norder) (a .order)) }
+rowsIn a = record { ident = cond (a .given) (Ident.given (a .id)) Ident.missing; classes = take (a .nclass) (a .classes); keys = take (a .nkey) (a .keys); order = map slotIn (take (a .norder) (a .order)) }
 
--- what a table means over its text
+-- what a table means over its texts
 unfoldable pub meaningOf : Texts → Attrs → List Entry
 meaningOf t a = meant t (rowsIn a)

@@ -1,15 +1,22 @@
-// The set of a block: its id, classes and keys as ranges of a text, and the order in which they were met.
+// The set of a block: its id, classes and keys as ranges of two texts, and the order in which they were met.
 use base_refusals::Outcome;
 ghost use mathlib.Core.Path.{_≡_};
 ghost use Rattle.base_lists.specs.Lists.{same};
 ghost use lib.ListN.{take};
-ghost use Rattle.set_table.specs.Types.{emptySet, rangeBytes, nameBytes, one, textOver};
+ghost use lib.Seq.{slice};
+ghost use Rattle.set_table.specs.Types.{emptySet, rangeBytes, textAt, nameBytes, two, textOver};
 ghost use Rattle.set_table.specs.Rows.{keyAt};
 
-// What an id, a class or a key's value is: bytes of the text as they stand, bytes of it that were quoted, or nothing from a bare name.
+// Which of the two lent texts a range is of.
+pub enum Origin {
+    First,
+    Second,
+}
+
+// What an id, a class or a key's value is: bytes of a text as they stand, bytes of it that were quoted, or nothing from a bare name.
 pub enum Text {
-    Plain(u16, u16),
-    Quoted(u16, u16),
+    Plain(Origin, u16, u16),
+    Quoted(Origin, u16, u16),
     Empty,
 }
 
@@ -17,9 +24,9 @@ pub struct Value {
     pub text: Text,
 }
 
-// A key's name: bytes of the text, or the fixed name `lang` that `:` gives.
+// A key's name: bytes of a text, or the fixed name `lang` that `:` gives.
 pub enum Name {
-    Range(u16, u16),
+    Range(Origin, u16, u16),
     Lang,
 }
 
@@ -30,33 +37,25 @@ pub struct Row {
 
 // What stands at a place of the order: the id, the classes, or the key of a row.
 pub enum Slot {
+    Key(u8),
     Id,
     Class,
-    Key(u8),
 }
 
 pub struct SlotRecord {
     pub slot: Slot,
 }
 
-pub enum Id {
-    Missing,
-    Given(Value),
-}
-
-pub struct Ident {
-    pub id: Id,
-}
-
 // The first `nclass` classes, `nkey` keys and `norder` slots count; in a set handed out the rows past them are zero.
 pub struct Attrs {
-    pub id: Ident,
-    pub classes: [Value; Attrs::CLASSES],
+    pub id: Value,
+    pub given: bool,
     pub nclass: u8,
-    pub keys: [Row; Attrs::KEYS],
     pub nkey: u8,
-    pub order: [SlotRecord; Attrs::SLOTS],
     pub norder: u8,
+    pub classes: [Value; Attrs::CLASSES],
+    pub keys: [Row; Attrs::KEYS],
+    pub order: [SlotRecord; Attrs::SLOTS],
 }
 
 // A set that is handed out, or the empty one and why none is.
@@ -77,32 +76,32 @@ impl Attrs {
         ensures { λ r. ⌜ r ≡ emptySet ⌝ }
     {
         let none = Value {
-            text: Text::Plain(0, 0),
+            text: Text::Plain(Origin::First, 0, 0),
         };
         let row = Row {
-            name: Name::Range(0, 0),
+            name: Name::Range(Origin::First, 0, 0),
             value: none,
         };
-        let place = SlotRecord { slot: Slot::Id };
-        let id = Ident { id: Id::Missing };
+        let place = SlotRecord { slot: Slot::Key(0) };
         let classes = [none; Self::CLASSES];
         let keys = [row; Self::KEYS];
         let order = [place; Self::SLOTS];
         Attrs {
-            id: id,
-            classes: classes,
+            id: none,
+            given: false,
             nclass: 0,
-            keys: keys,
             nkey: 0,
-            order: order,
             norder: 0,
+            classes: classes,
+            keys: keys,
+            order: order,
         }
     }
 }
 
 // The bytes of a range; what lies past the text is left out.
 pub fn bytes_of(text: &[u8], from: usize, to: usize) -> &[u8]
-    ensures { λ r. ⌜ now r ≡ rangeBytes (one (now (text .entry))) from to ⌝ }
+    ensures { λ r. ⌜ now r ≡ slice from to (now (text .entry)) ⌝ }
 {
     if to <= text.len() {
         if from <= to {
@@ -116,7 +115,7 @@ pub fn bytes_of(text: &[u8], from: usize, to: usize) -> &[u8]
     &text[0..0]
 }
 
-// The text that a block's set is over: the first `joined` bytes of what was joined, or the text where nothing was.
+// The one text that the ranges of a block's set are of: the first `joined` bytes of what was joined, or the text where nothing was.
 pub fn text_over<'a>(text: &'a [u8], join: &'a [u8], joined: usize) -> &'a [u8]
     ensures { λ r. ⌜ now r ≡ textOver (now (text .entry)) (now (join .entry)) joined ⌝ }
 {
@@ -126,31 +125,63 @@ pub fn text_over<'a>(text: &'a [u8], join: &'a [u8], joined: usize) -> &'a [u8]
     bytes_of(join, 0, joined)
 }
 
-// Whether two names are the same, byte for byte.
-pub fn same_name(text: &[u8], a: Name, b: Name) -> bool
-    ensures { λ r. ⌜ r ≡ same (nameBytes (one (now (text .entry))) a) (nameBytes (one (now (text .entry))) b) ⌝ }
+// The text of an origin.
+pub fn text_of<'a>(first: &'a [u8], second: &'a [u8], origin: Origin) -> &'a [u8]
+    ensures { λ r. ⌜ now r ≡ textAt (two (now (first .entry)) (now (second .entry))) origin ⌝ }
 {
-    match a {
-        Name::Range(f, t) => match b {
-            Name::Range(g, u) => base_lists::same_bytes(
-                bytes_of(text, f as usize, t as usize),
-                bytes_of(text, g as usize, u as usize),
-            ),
-            Name::Lang => base_lists::same_bytes(bytes_of(text, f as usize, t as usize), b"lang"),
-        },
-        Name::Lang => match b {
-            Name::Range(g, u) => base_lists::same_bytes(
-                b"lang",
-                bytes_of(text, g as usize, u as usize),
-            ),
-            Name::Lang => true,
-        },
+    match origin {
+        Origin::First => first,
+        Origin::Second => second,
+    }
+}
+
+// The bytes of a range.
+pub fn range_of<'a>(
+    first: &'a [u8],
+    second: &'a [u8],
+    origin: Origin,
+    from: usize,
+    to: usize,
+) -> &'a [u8]
+    ensures { λ r. ⌜ now r ≡ rangeBytes (two (now (first .entry)) (now (second .entry))) origin from to ⌝ }
+{
+    bytes_of(text_of(first, second, origin), from, to)
+}
+
+// Whether a name is the bytes given.
+fn is_named<'a>(first: &'a [u8], second: &'a [u8], name: Name, bytes: &[u8]) -> bool
+    ensures { λ r. ⌜ r ≡ same (nameBytes (two (now (first .entry)) (now (second .entry))) name) (now (bytes .entry)) ⌝ }
+{
+    match name {
+        Name::Range(o, f, t) => {
+            base_lists::same_bytes(range_of(first, second, o, f as usize, t as usize), bytes)
+        }
+        Name::Lang => base_lists::same_bytes(b"lang", bytes),
+    }
+}
+
+// Whether two names are the same, byte for byte.
+pub fn same_name<'a>(first: &'a [u8], second: &'a [u8], a: Name, b: Name) -> bool
+    ensures { λ r. ⌜ r ≡ same (nameBytes (two (now (first .entry)) (now (second .entry))) a) (nameBytes (two (now (first .entry)) (now (second .entry))) b) ⌝ }
+{
+    match b {
+        Name::Range(o, f, t) => {
+            let s = range_of(first, second, o, f as usize, t as usize);
+            is_named(first, second, a, s)
+        }
+        Name::Lang => is_named(first, second, a, b"lang"),
     }
 }
 
 // The row among the first n that has the name, or how many rows were looked at where none has.
-pub fn find_key(text: &[u8], keys: [Row; Attrs::KEYS], n: usize, name: Name) -> usize
-    ensures { λ r. ⌜ r ≡ keyAt (one (now (text .entry))) name (take n keys) ⌝ }
+pub fn find_key<'a>(
+    first: &'a [u8],
+    second: &'a [u8],
+    keys: [Row; Attrs::KEYS],
+    n: usize,
+    name: Name,
+) -> usize
+    ensures { λ r. ⌜ r ≡ keyAt (two (now (first .entry)) (now (second .entry))) name (take n keys) ⌝ }
 {
     let mut k = 0;
     while k < Attrs::KEYS {
@@ -159,7 +190,7 @@ pub fn find_key(text: &[u8], keys: [Row; Attrs::KEYS], n: usize, name: Name) -> 
         }
         let row = keys[k];
         let m = row.name;
-        if same_name(text, m, name) {
+        if same_name(first, second, m, name) {
             return k;
         }
         k += 1;

@@ -1,28 +1,29 @@
-// Whether a value, an id, a class or a key may stand in a table over its text.
-use set_table::Id;
-use set_table::Ident;
+// Whether a value, an id, a class or a key may stand in a table over its texts.
 use set_table::Name;
+use set_table::Origin;
 use set_table::Row;
 use set_table::Text;
 use set_table::Value;
 ghost use mathlib.Core.Path.{_≡_};
-ghost use mathlib.Core.Bool.{not, _&&_};
+ghost use mathlib.Core.Bool.{not, cond, _&&_};
 ghost use Rattle.base_lists.specs.Lists.{all};
 ghost use Rattle.base_bytes.specs.Bytes.{isSpace};
 ghost use Rattle.text_names.specs.Names.{isKey};
 ghost use Rattle.block_grammar.specs.Close.{noLf};
 ghost use Rattle.set_canon.specs.Canon.{isClassValue};
-ghost use Rattle.set_table.specs.Types.{one, rangeBytes, nameBytes, valueBytes};
+ghost use Rattle.set_table.specs.Types.{two, rangeBytes, nameBytes, valueBytes};
+ghost use Rattle.set_table.specs.Rows.{Ident};
 ghost use Rattle.set_table.specs.Shape.{isFree};
 ghost use Rattle.set_values.specs.Values.{rangeOk, nameOk, valueOk, identOk, classOk, keyOk};
 
-// Whether a range lies inside the text, on character boundaries.
-fn range_ok(text: &[u8], from: usize, to: usize) -> bool
-    ensures { λ r. ⌜ r ≡ rangeOk (one (now (text .entry))) from to ⌝ }
+// Whether a range lies inside its text, on character boundaries.
+fn range_ok<'a>(first: &'a [u8], second: &'a [u8], origin: Origin, from: usize, to: usize) -> bool
+    ensures { λ r. ⌜ r ≡ rangeOk (two (now (first .entry)) (now (second .entry))) origin from to ⌝ }
 {
     if to < from {
         return false;
     }
+    let text = set_table::text_of(first, second, origin);
     if !text_utf8::is_char_boundary(text, from) {
         return false;
     }
@@ -43,37 +44,36 @@ fn no_lf(s: &[u8]) -> bool
     true
 }
 
-// Whether a range is one of the text without an LF.
-fn flat_range(text: &[u8], from: usize, to: usize) -> bool
-    ensures { λ r. ⌜ r ≡ (rangeOk (one (now (text .entry))) from to && noLf (rangeBytes (one (now (text .entry))) from to)) ⌝ }
+// Whether a range is one of its text without an LF.
+fn flat_range<'a>(first: &'a [u8], second: &'a [u8], origin: Origin, from: usize, to: usize) -> bool
+    ensures { λ r. ⌜ r ≡ (rangeOk (two (now (first .entry)) (now (second .entry))) origin from to && noLf (rangeBytes (two (now (first .entry)) (now (second .entry))) origin from to)) ⌝ }
 {
-    if !range_ok(text, from, to) {
+    if !range_ok(first, second, origin, from, to) {
         return false;
     }
-    no_lf(set_table::bytes_of(text, from, to))
+    no_lf(set_table::range_of(first, second, origin, from, to))
 }
 
-// Whether a value's range is one of the text, and no LF stands in it: unescaping neither drops nor adds one.
-fn value_ok(text: &[u8], v: Value) -> bool
-    ensures { λ r. ⌜ r ≡ valueOk (one (now (text .entry))) v ⌝ }
+// Whether a value's range is one of its text, and no LF stands in it: unescaping neither drops nor adds one.
+fn value_ok<'a>(first: &'a [u8], second: &'a [u8], v: Value) -> bool
+    ensures { λ r. ⌜ r ≡ valueOk (two (now (first .entry)) (now (second .entry))) v ⌝ }
 {
     let x = v.text;
     match x {
-        Text::Plain(f, t) => flat_range(text, f as usize, t as usize),
-        Text::Quoted(f, t) => flat_range(text, f as usize, t as usize),
+        Text::Plain(o, f, t) => flat_range(first, second, o, f as usize, t as usize),
+        Text::Quoted(o, f, t) => flat_range(first, second, o, f as usize, t as usize),
         Text::Empty => true,
     }
 }
 
 // Whether an id is missing, or a value that may stand.
-pub fn ident_ok(text: &[u8], x: Ident) -> bool
-    ensures { λ r. ⌜ r ≡ identOk (one (now (text .entry))) (x .id) ⌝ }
+pub fn ident_ok<'a>(first: &'a [u8], second: &'a [u8], given: bool, v: Value) -> bool
+    ensures { λ r. ⌜ r ≡ identOk (two (now (first .entry)) (now (second .entry))) (cond given (Ident.given v) Ident.missing) ⌝ }
 {
-    let i = x.id;
-    match i {
-        Id::Missing => true,
-        Id::Given(v) => value_ok(text, v),
+    if given {
+        return value_ok(first, second, v);
     }
+    true
 }
 
 // Whether no byte is whitespace.
@@ -115,25 +115,37 @@ fn class_bytes(s: &[u8]) -> bool
 }
 
 // The same of a value: unescaping leaves whitespace as it is, and makes none.
-fn class_value(text: &[u8], v: Value) -> bool
-    ensures { λ r. ⌜ r ≡ isClassValue (valueBytes (one (now (text .entry))) v) ⌝ }
+fn class_value<'a>(first: &'a [u8], second: &'a [u8], v: Value) -> bool
+    ensures { λ r. ⌜ r ≡ isClassValue (valueBytes (two (now (first .entry)) (now (second .entry))) v) ⌝ }
 {
     let x = v.text;
     match x {
-        Text::Plain(f, t) => class_bytes(set_table::bytes_of(text, f as usize, t as usize)),
-        Text::Quoted(f, t) => class_bytes(set_table::bytes_of(text, f as usize, t as usize)),
+        Text::Plain(o, f, t) => class_bytes(set_table::range_of(
+            first,
+            second,
+            o,
+            f as usize,
+            t as usize,
+        )),
+        Text::Quoted(o, f, t) => class_bytes(set_table::range_of(
+            first,
+            second,
+            o,
+            f as usize,
+            t as usize,
+        )),
         Text::Empty => true,
     }
 }
 
 // Whether a class may stand.
-pub fn class_ok(text: &[u8], v: Value) -> bool
-    ensures { λ r. ⌜ r ≡ classOk (one (now (text .entry))) v ⌝ }
+pub fn class_ok<'a>(first: &'a [u8], second: &'a [u8], v: Value) -> bool
+    ensures { λ r. ⌜ r ≡ classOk (two (now (first .entry)) (now (second .entry))) v ⌝ }
 {
-    if !value_ok(text, v) {
+    if !value_ok(first, second, v) {
         return false;
     }
-    class_value(text, v)
+    class_value(first, second, v)
 }
 
 // Whether bytes are a key that is neither `id` nor `class`.
@@ -149,29 +161,29 @@ fn key_name(s: &[u8]) -> bool
     !base_lists::same_bytes(s, b"class")
 }
 
-// Whether a name is of the text, and a key that is neither `id` nor `class`.
-fn name_ok(text: &[u8], m: Name) -> bool
-    ensures { λ r. ⌜ r ≡ (nameOk (one (now (text .entry))) m && (isKey (nameBytes (one (now (text .entry))) m) && isFree (nameBytes (one (now (text .entry))) m))) ⌝ }
+// Whether a name is of its text, and a key that is neither `id` nor `class`.
+fn name_ok<'a>(first: &'a [u8], second: &'a [u8], m: Name) -> bool
+    ensures { λ r. ⌜ r ≡ (nameOk (two (now (first .entry)) (now (second .entry))) m && (isKey (nameBytes (two (now (first .entry)) (now (second .entry))) m) && isFree (nameBytes (two (now (first .entry)) (now (second .entry))) m))) ⌝ }
 {
     match m {
-        Name::Range(f, t) => {
-            if !range_ok(text, f as usize, t as usize) {
+        Name::Range(o, f, t) => {
+            if !range_ok(first, second, o, f as usize, t as usize) {
                 return false;
             }
-            key_name(set_table::bytes_of(text, f as usize, t as usize))
+            key_name(set_table::range_of(first, second, o, f as usize, t as usize))
         }
         Name::Lang => true,
     }
 }
 
 // Whether a key's row may stand.
-pub fn key_ok(text: &[u8], row: Row) -> bool
-    ensures { λ r. ⌜ r ≡ keyOk (one (now (text .entry))) row ⌝ }
+pub fn key_ok<'a>(first: &'a [u8], second: &'a [u8], row: Row) -> bool
+    ensures { λ r. ⌜ r ≡ keyOk (two (now (first .entry)) (now (second .entry))) row ⌝ }
 {
     let m = row.name;
-    if !name_ok(text, m) {
+    if !name_ok(first, second, m) {
         return false;
     }
     let v = row.value;
-    value_ok(text, v)
+    value_ok(first, second, v)
 }

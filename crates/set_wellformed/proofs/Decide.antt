@@ -16,8 +16,9 @@ use Rattle.base_lists.proofs.Scan.{both}
 use Rattle.base_lists.proofs.Each.{some-take, every-same}
 use Rattle.base_lists.proofs.More.{contra, same-sym}
 use Rattle.set_table.specs.Types.{Texts, zeroRow, zeroValue, zeroSlot, maxClasses, maxKeys, maxSlots}
-use Rattle.set_table.specs.Rows.{Rows, rowsIn, isThere, isNamed, hasKey, keyAt, slotIn}
+use Rattle.set_table.specs.Rows.{Ident, Rows, rowsIn, isThere, isNamed, hasKey, keyAt, slotIn}
 use Rattle.set_table.specs.Shape.{times, slotNumber, isPresent, nameAt}
+use Rattle.set_table.specs.declared.Value.{Value}
 use Rattle.set_table.specs.declared.Name.{Name}
 use Rattle.set_table.specs.declared.Row.{Row}
 use Rattle.set_table.specs.declared.Slot.{Slot}
@@ -166,9 +167,13 @@ slots-in s = rw (every-same (isPresent s) (presentBy (isThere (s .ident)) (isSom
 
 -- of a table whose counts are within the limits
 module _ (a : Attrs) (c : a .nclass ≤ length (a .classes)) (k : a .nkey ≤ length (a .keys)) where
-  pub slots-table : slotsOk (rowsIn a) ≡ slotsIn (map slotIn (take (a .norder) (a .order))) (isThere (a .id .id)) (ltb 0 (a .nclass)) (a .nkey)
+  there : (b : Bool) (v : Value) → isThere (cond b (Ident.given v) Ident.missing) ≡ b
+  there true v = refl
+  there false v = refl
+
+  pub slots-table : slotsOk (rowsIn a) ≡ slotsIn (map slotIn (take (a .norder) (a .order))) (a .given) (ltb 0 (a .nclass)) (a .nkey)
   unfolding rowsIn
-  slots-table = rw (some-take (a .classes) (a .nclass) c, length-take-le (a .nkey) (a .keys) k) at (slots-in (rowsIn a))
+  slots-table = rw (some-take (a .classes) (a .nclass) c, length-take-le (a .nkey) (a .keys) k, there (a .given) (a .id)) at (slots-in (rowsIn a))
 
 -- ---- the whole table, a test at a time
 pub counts : (a : Attrs) → a .nclass ≤ maxClasses → a .nkey ≤ maxKeys → a .norder ≤ maxSlots → countsOk a ≡ true

@@ -1,4 +1,4 @@
--- Which tables are well-formed over their text, point by point.
+-- Which tables are well-formed over their texts, point by point.
 use Prim.Native.Nat.{ℕ, zero, suc}
 use mathlib.Core.Bool.{Bool, true, cond, not, _&&_}
 use mathlib.Core.List.{List, [], _∷_}
@@ -6,7 +6,7 @@ use lib.Dec.{eqb, leb}
 use lib.ListN.{length}
 use Rattle.base_lists.specs.Lists.{all}
 use Rattle.text_checks.specs.Check.{isText}
-use Rattle.set_table.specs.Types.{Texts, one, maxClasses, maxKeys, maxSlots}
+use Rattle.set_table.specs.Types.{Texts, maxClasses, maxKeys, maxSlots}
 use Rattle.set_table.specs.Rows.{Rows, rowsIn, hasKey}
 use Rattle.set_table.specs.Shape.{times, isPresent}
 use Rattle.set_table.specs.declared.Row.{Row}
@@ -38,10 +38,10 @@ slotsOk s = all (isPresent s) (s .order) && (isOnce s slot.Id && (isOnce s slot.
 unfoldable pub rowsOk : Texts → Rows → Bool
 rowsOk t s = identOk t (s .ident) && (all (classOk t) (s .classes) && (all (keyOk t) (s .keys) && (keysApart t (s .keys) && slotsOk s)))
 
--- all but what is said of the text itself
+-- all but what is said of the texts themselves
 unfoldable pub tableOk : Texts → Attrs → Bool
 tableOk t a = countsOk a && rowsOk t (rowsIn a)
 
--- "Well-formed: the text gives neither 1 nor 2; .."
-unfoldable pub wellFormed : List ℕ → Attrs → Bool
-wellFormed t a = isText t && tableOk (one t) a
+-- "Well-formed: the texts give neither 1 nor 2; .."; "merging, well-formedness and writing take both texts"
+unfoldable pub wellFormed : Texts → Attrs → Bool
+wellFormed t a = isText (t .first) && (isText (t .second) && tableOk t a)

@@ -1,7 +1,5 @@
-// Whether a table is well-formed over its text.
+// Whether a table is well-formed over its texts.
 use set_table::Attrs;
-use set_table::Id;
-use set_table::Ident;
 use set_table::Row;
 use set_table::Slot;
 use set_table::SlotRecord;
@@ -12,33 +10,27 @@ ghost use mathlib.Core.List.{map};
 ghost use Prim.Native.Nat.{_≤_};
 ghost use lib.ListN.{take};
 ghost use Rattle.base_lists.specs.Lists.{all};
-ghost use Rattle.set_table.specs.Types.{one, maxClasses, maxKeys, maxSlots};
-ghost use Rattle.set_table.specs.Rows.{isThere, slotIn};
+ghost use Rattle.set_table.specs.Types.{two, maxClasses, maxKeys, maxSlots};
+ghost use Rattle.set_table.specs.Rows.{slotIn};
 ghost use Rattle.set_table.specs.Shape.{times, slotNumber};
 ghost use Rattle.set_values.specs.Values.{classOk, keyOk};
 ghost use Rattle.set_wellformed.specs.WellFormed.{keysApart, tableOk, wellFormed};
 ghost use Rattle.set_wellformed.specs.Inner.{presentBy, keysIn, slotsIn};
 
-// Whether an id is there.
-fn has_id(x: Ident) -> bool
-    ensures { λ r. ⌜ r ≡ isThere (x .id) ⌝ }
-{
-    let i = x.id;
-    match i {
-        Id::Missing => false,
-        Id::Given(_) => true,
-    }
-}
-
 // Whether each of the first n classes may stand.
-fn classes_ok(text: &[u8], classes: [Value; Attrs::CLASSES], n: usize) -> bool
+fn classes_ok<'a>(
+    first: &'a [u8],
+    second: &'a [u8],
+    classes: [Value; Attrs::CLASSES],
+    n: usize,
+) -> bool
     requires { ⌜ n ≤ maxClasses ⌝ }
-    ensures { λ r. ⌜ r ≡ all (classOk (one (now (text .entry)))) (take n classes) ⌝ }
+    ensures { λ r. ⌜ r ≡ all (classOk (two (now (first .entry)) (now (second .entry)))) (take n classes) ⌝ }
 {
     let mut k = 0;
     while k < n {
         let v = classes[k];
-        if !set_values::class_ok(text, v) {
+        if !set_values::class_ok(first, second, v) {
             return false;
         }
         k += 1;
@@ -47,14 +39,14 @@ fn classes_ok(text: &[u8], classes: [Value; Attrs::CLASSES], n: usize) -> bool
 }
 
 // Whether each of the first n rows may stand.
-fn keys_ok(text: &[u8], keys: [Row; Attrs::KEYS], n: usize) -> bool
+fn keys_ok<'a>(first: &'a [u8], second: &'a [u8], keys: [Row; Attrs::KEYS], n: usize) -> bool
     requires { ⌜ n ≤ maxKeys ⌝ }
-    ensures { λ r. ⌜ r ≡ all (keyOk (one (now (text .entry)))) (take n keys) ⌝ }
+    ensures { λ r. ⌜ r ≡ all (keyOk (two (now (first .entry)) (now (second .entry)))) (take n keys) ⌝ }
 {
     let mut k = 0;
     while k < n {
         let row = keys[k];
-        if !set_values::key_ok(text, row) {
+        if !set_values::key_ok(first, second, row) {
             return false;
         }
         k += 1;
@@ -63,15 +55,15 @@ fn keys_ok(text: &[u8], keys: [Row; Attrs::KEYS], n: usize) -> bool
 }
 
 // Whether the first n rows have names of their own: no row has the name of one before it.
-fn keys_apart(text: &[u8], keys: [Row; Attrs::KEYS], n: usize) -> bool
+fn keys_apart<'a>(first: &'a [u8], second: &'a [u8], keys: [Row; Attrs::KEYS], n: usize) -> bool
     requires { ⌜ n ≤ maxKeys ⌝ }
-    ensures { λ r. ⌜ r ≡ keysApart (one (now (text .entry))) (take n keys) ⌝ }
+    ensures { λ r. ⌜ r ≡ keysApart (two (now (first .entry)) (now (second .entry))) (take n keys) ⌝ }
 {
     let mut k = 0;
     while k < n {
         let row = keys[k];
         let m = row.name;
-        if set_table::find_key(text, keys, k, m) < k {
+        if set_table::find_key(first, second, keys, k, m) < k {
             return false;
         }
         k += 1;
@@ -174,9 +166,9 @@ fn slots_ok(order: [SlotRecord; Attrs::SLOTS], n: usize, id: bool, class: bool, 
     keys_once(order, n, keys)
 }
 
-// Whether a table is well-formed, but for what is asked of the text itself.
-pub fn table_ok(text: &[u8], set: Attrs) -> bool
-    ensures { λ r. ⌜ r ≡ tableOk (one (now (text .entry))) set ⌝ }
+// Whether a table is well-formed, but for what is asked of the texts themselves.
+pub fn table_ok<'a>(first: &'a [u8], second: &'a [u8], set: Attrs) -> bool
+    ensures { λ r. ⌜ r ≡ tableOk (two (now (first .entry)) (now (second .entry))) set ⌝ }
 {
     let nclass = set.nclass as usize;
     let nkey = set.nkey as usize;
@@ -190,31 +182,35 @@ pub fn table_ok(text: &[u8], set: Attrs) -> bool
     if Attrs::SLOTS < norder {
         return false;
     }
+    let given = set.given;
     let id = set.id;
-    if !set_values::ident_ok(text, id) {
+    if !set_values::ident_ok(first, second, given, id) {
         return false;
     }
     let classes = set.classes;
-    if !classes_ok(text, classes, nclass) {
+    if !classes_ok(first, second, classes, nclass) {
         return false;
     }
     let keys = set.keys;
-    if !keys_ok(text, keys, nkey) {
+    if !keys_ok(first, second, keys, nkey) {
         return false;
     }
-    if !keys_apart(text, keys, nkey) {
+    if !keys_apart(first, second, keys, nkey) {
         return false;
     }
     let order = set.order;
-    slots_ok(order, norder, has_id(id), 0 < nclass, set.nkey)
+    slots_ok(order, norder, given, 0 < nclass, set.nkey)
 }
 
-// Whether a table is well-formed over its text.
-pub fn well_formed(text: &[u8], set: Attrs) -> bool
-    ensures { λ r. ⌜ r ≡ wellFormed (now (text .entry)) set ⌝ }
+// Whether a table is well-formed over its texts.
+pub fn well_formed<'a>(first: &'a [u8], second: &'a [u8], set: Attrs) -> bool
+    ensures { λ r. ⌜ r ≡ wellFormed (two (now (first .entry)) (now (second .entry))) set ⌝ }
 {
-    if !text_checks::is_text(text) {
+    if !text_checks::is_text(first) {
         return false;
     }
-    table_ok(text, set)
+    if !text_checks::is_text(second) {
+        return false;
+    }
+    table_ok(first, second, set)
 }

@@ -1,4 +1,5 @@
--- The numbers of `write_set`, 10 alone, and of `write_attrs`: 1 and 2 of the text, then 11, 12 and 10. Else none, and the length of what is written.
+-- The numbers of `write_set`, 10 alone, and of `write_attrs`: 1 and 2 of the first text, then of the second, then 11, 12 and 10.
+-- Else none, and the length of what is written.
 -- Assumes nothing.
 use mathlib.Core.Path.{_≡_, refl, ap, _∙_}
 use mathlib.Core.Bool.{Bool, true, false}
@@ -11,10 +12,10 @@ use Rattle.base_refusals.specs.Orders.{Ground, inOrder, onPaper}
 use Rattle.base_refusals.specs.declared.Refusal.the-variants.{NotWellFormed, EmptySet}
 use Rattle.base_refusals.specs.declared.Outcome.the-variants as outcome
 use Rattle.base_refusals.proofs.Orders.{paper-by}
-use Rattle.text_checks.specs.Check.{textOrder, checkOf}
+use Rattle.text_checks.specs.Check.{bothOrder, bothOf}
 use Rattle.text_checks.specs.Outcomes.{unless, orElse}
 use Rattle.set_canon.specs.Canon.{canon}
-use Rattle.set_table.specs.Types.{one}
+use Rattle.set_table.specs.Types.{Texts}
 use Rattle.set_table.specs.Rows.{meaningOf}
 use Rattle.set_table.specs.declared.Attrs.{Attrs}
 use Rattle.set_wellformed.specs.WellFormed.{tableOk}
@@ -40,17 +41,17 @@ module _ (xs : List ℕ) (size : ℕ) where
   given-no true false = refl
   given-no true true = set-no
 
-pub wrote-no : (t : List ℕ) (a : Attrs) (size : ℕ) → wrotePaper (attrsWrote t a size) ≡ onPaper (writerOrder t a size) (length (canon (meaningOf (one t) a)) ∷ [])
-unfolding attrsWrote writable checkOf
+pub wrote-no : (t : Texts) (a : Attrs) (size : ℕ) → wrotePaper (attrsWrote t a size) ≡ onPaper (writerOrder t a size) (length (canon (meaningOf t a)) ∷ [])
+unfolding attrsWrote writable bothOf
 wrote-no t a size =
-    paper-by (λ o. wrotePaper (orRefused (orElse o (orElse (unless NotWellFormed well) (unless EmptySet some))) (wroteOf xs size))) outcome.Refused (length xs ∷ []) (λ r. refl) (textOrder t)
+    paper-by (λ o. wrotePaper (orRefused (orElse o (orElse (unless NotWellFormed well) (unless EmptySet some))) (wroteOf xs size))) outcome.Refused (length xs ∷ []) (λ r. refl) (bothOrder (t .first) (t .second))
     (Ground.lacking NotWellFormed well ∷ Ground.lacking EmptySet some ∷ roomOrder xs size) (given-no xs size well some)
   where
     xs : List ℕ
-    xs = canon (meaningOf (one t) a)
+    xs = canon (meaningOf t a)
 
     well : Bool
-    well = tableOk (one t) a
+    well = tableOk t a
 
     some : Bool
-    some = isSome (meaningOf (one t) a)
+    some = isSome (meaningOf t a)

@@ -18,6 +18,7 @@ use Rattle.set_table.specs.Types.{Texts, rangeBytes, nameBytes, valueBytes, max
 use Rattle.set_table.specs.Rows.{slotEntry, meant, rowsIn, slotIn, meaningOf}
 use Rattle.set_table.specs.declared.Value.{Value}
 use Rattle.set_table.specs.declared.Name.{Name}
+use Rattle.set_table.specs.declared.Origin.{Origin}
 use Rattle.set_table.specs.declared.Name.the-variants.{Range, Lang}
 use Rattle.set_table.specs.declared.Attrs.{Attrs}
 use Rattle.set_table.specs.declared.Row.{Row}
@@ -47,9 +48,9 @@ module _ (really : Bool) (buf : List ℕ) (at : ℕ) {ps : List Pair} where
 
 -- a key whose name is a range, and one that `:` gave
 module _ (t : Texts) {n : Name} (vs : List (List ℕ)) where
-  pub range-pairs : (from to : ℕ) {s : List ℕ} → n ≡ Range from to → s ≡ rangeBytes t from to → pairsOf (nameBytes t n) vs ≡ pairsOf s vs
+  pub range-pairs : (o : Origin) (from to : ℕ) {s : List ℕ} → n ≡ Range o from to → s ≡ rangeBytes t o from to → pairsOf (nameBytes t n) vs ≡ pairsOf s vs
   unfolding nameBytes
-  range-pairs from to e f = rw (e, f)
+  range-pairs o from to e f = rw (e, f)
 
   pub lang-pairs : n ≡ Lang → pairsOf (nameBytes t n) vs ≡ pairsOf langName vs
   unfolding nameBytes
@@ -142,7 +143,7 @@ module _ (t : Texts) (a : Attrs) where
       pairs-step entries p (slotEntry t (rowsIn a) (slotIn zeroSlot)) (omega (arith, slots-length l))
       ∙ ap (λ (e : Entry). pairsOf (e .name) (e .values) ++ pairs (drop (p + 1) entries)) (slot-at p (omega arith))
 
-  pub id-pairs : {x : Slot} → x ≡ Id → idPairs t (a .id) ≡ slotPairs x
+  pub id-pairs : {x : Slot} → x ≡ Id → idPairs t (a .given) (a .id) ≡ slotPairs x
   unfolding slotEntry rowsIn
   id-pairs e = rw e
 

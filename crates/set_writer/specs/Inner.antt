@@ -10,10 +10,9 @@ use Rattle.base_refusals.specs.Numbers.{maxText}
 use Rattle.block_grammar.specs.Meaning.{idName, className}
 use Rattle.set_canon.specs.Canon.{Pair, pairText, pairsText, pairsOf}
 use Rattle.set_table.specs.Types.{Texts, nameBytes, valueBytes, maxClasses}
-use Rattle.set_table.specs.Rows.{idValues}
+use Rattle.set_table.specs.Rows.{Ident, idValues}
 use Rattle.set_table.specs.declared.Value.{Value}
 use Rattle.set_table.specs.declared.Row.{Row}
-use Rattle.set_table.specs.declared.Ident.{Ident}
 use Rattle.set_writer.specs.declared.Wrote.{Wrote}
 use Rattle.set_writer.specs.declared.Wrote.the-variants.{Refused, Bytes}
 use Rattle.base_bytes.specs.Bytes.{closeBrace, openBrace, space}
@@ -34,8 +33,8 @@ itemsText n [] = []
 itemsText n (p ∷ ps) = leadByte n ∷ pairsText (p ∷ ps)
 
 -- the items of the id, of a key and of the classes
-abbrev pub idPairs : Texts → Ident → List Pair
-idPairs t i = pairsOf idName (idValues t (i .id))
+abbrev pub idPairs : Texts → Bool → Value → List Pair
+idPairs t given v = pairsOf idName (idValues t (cond given (Ident.given v) Ident.missing))
 
 abbrev pub keyPairs : Texts → Row → List Pair
 keyPairs t r = pairsOf (nameBytes t (r .name)) (valueBytes t (r .value) ∷ [])

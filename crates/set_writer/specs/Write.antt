@@ -8,12 +8,12 @@ use Rattle.base_lists.specs.Lists.{isSome, over}
 use Rattle.base_refusals.specs.Numbers.{maxText, Paper, refusedPaper, passedPaper}
 use Rattle.base_refusals.specs.Orders.{Ground}
 use Rattle.base_refusals.specs.declared.Refusal.the-variants.{CanonTooLong, NotWellFormed, EmptySet}
-use Rattle.text_checks.specs.Check.{textOrder, checkOf}
+use Rattle.text_checks.specs.Check.{bothOrder, bothOf}
 use Rattle.text_checks.specs.Outcomes.{orLeft, unless, orElse}
 use Rattle.base_refusals.specs.declared.Outcome.{Outcome}
 use Rattle.base_refusals.specs.declared.Outcome.the-variants as outcome
 use Rattle.set_canon.specs.Canon.{canon}
-use Rattle.set_table.specs.Types.{one}
+use Rattle.set_table.specs.Types.{Texts}
 use Rattle.set_table.specs.Rows.{meaningOf}
 use Rattle.set_table.specs.declared.Attrs.{Attrs}
 use Rattle.set_wellformed.specs.WellFormed.{tableOk}
@@ -40,26 +40,26 @@ wroteOf xs size = cond (hasRoom size (length xs)) (Bytes (length xs)) (Refused C
 unfoldable pub contentAfter : List ℕ → List ℕ → List ℕ
 contentAfter buf xs = cond (hasRoom (length buf) (length xs)) (over xs buf) buf
 
--- ---- a set that a caller gives
+-- ---- a set that a caller gives: "merging, well-formedness and writing take both texts"
 
--- "writer 1, 2, 11, 12, 10"
-abbrev pub writerOrder : List ℕ → Attrs → ℕ → List Ground
+-- "writer 1 and 2 of the first text, 1 and 2 of the second, 11, 12, 10"
+abbrev pub writerOrder : Texts → Attrs → ℕ → List Ground
 writerOrder t a size =
-    textOrder t
-    ++ (Ground.lacking NotWellFormed (tableOk (one t) a)
-    ∷ Ground.lacking EmptySet (isSome (meaningOf (one t) a))
-    ∷ roomOrder (canon (meaningOf (one t) a)) size)
+    bothOrder (t .first) (t .second)
+    ++ (Ground.lacking NotWellFormed (tableOk t a)
+    ∷ Ground.lacking EmptySet (isSome (meaningOf t a))
+    ∷ roomOrder (canon (meaningOf t a)) size)
 
 -- all but the last, which is of the text that would be written
-unfoldable pub writable : List ℕ → Attrs → Outcome
-writable t a = orElse (checkOf t) (orElse (unless NotWellFormed (tableOk (one t) a)) (unless EmptySet (isSome (meaningOf (one t) a))))
+unfoldable pub writable : Texts → Attrs → Outcome
+writable t a = orElse (bothOf (t .first) (t .second)) (orElse (unless NotWellFormed (tableOk t a)) (unless EmptySet (isSome (meaningOf t a))))
 
 abbrev pub orRefused : Outcome → Wrote → Wrote
 orRefused (outcome.Refused r) w = Refused r
 orRefused outcome.Passed w = w
 
-unfoldable pub attrsWrote : List ℕ → Attrs → ℕ → Wrote
-attrsWrote t a size = orRefused (writable t a) (wroteOf (canon (meaningOf (one t) a)) size)
+unfoldable pub attrsWrote : Texts → Attrs → ℕ → Wrote
+attrsWrote t a size = orRefused (writable t a) (wroteOf (canon (meaningOf t a)) size)
 
-unfoldable pub attrsContent : List ℕ → Attrs → List ℕ → List ℕ
-attrsContent t a buf = orLeft (writable t a) buf (contentAfter buf (canon (meaningOf (one t) a)))
+unfoldable pub attrsContent : Texts → Attrs → List ℕ → List ℕ
+attrsContent t a buf = orLeft (writable t a) buf (contentAfter buf (canon (meaningOf t a)))

@@ -2,9 +2,8 @@
 use base_refusals::Outcome;
 use base_refusals::Refusal;
 use set_table::Attrs;
-use set_table::Id;
-use set_table::Ident;
 use set_table::Name;
+use set_table::Origin;
 use set_table::Row;
 use set_table::Slot;
 use set_table::Text;
@@ -19,7 +18,7 @@ ghost use lib.Seq.{sets};
 ghost use Rattle.base_refusals.specs.Numbers.{maxText};
 ghost use Rattle.base_refusals.specs.Orders.{onPaper};
 ghost use Rattle.set_canon.specs.Canon.{marked, escape, canon};
-ghost use Rattle.set_table.specs.Types.{one, valueBytes, zeroRow};
+ghost use Rattle.set_table.specs.Types.{two, valueBytes, zeroRow};
 ghost use Rattle.set_table.specs.Rows.{meaningOf};
 ghost use Rattle.set_writer.specs.Write.{wrotePaper, roomOrder, wroteOf, contentAfter, writerOrder, attrsWrote, attrsContent};
 ghost use Rattle.set_marks.specs.Marks.{bytesIn};
@@ -103,13 +102,21 @@ fn put_item(out: &mut [u8], at: usize, name: &[u8], s: &[u8], quoted: bool) -> u
 }
 
 // Writes an item, or only measures it.
-fn item(out: &mut [u8], at: usize, name: &[u8], text: &[u8], value: Value, really: bool) -> usize
+fn item<'a>(
+    out: &mut [u8],
+    at: usize,
+    name: &[u8],
+    first: &'a [u8],
+    second: &'a [u8],
+    value: Value,
+    really: bool,
+) -> usize
     requires { ⌜ (at ≤ maxItems) × (length (now name) ≤ maxText) ⌝ }
-    requires { ⌜ (really ≡ true → at + length (itemText at (now name) (valueBytes (one (now text)) value)) ≤ length (now out)) ⌝ }
-    ensures { λ r. ⌜ (r ≡ at + length (itemText at (now (name .entry)) (valueBytes (one (now (text .entry))) value))) × (r ≤ at + maxItem) ⌝ }
-    ensures { λ r. ⌜ now (out .exit) ≡ putIf really (now (out .entry)) at (itemText at (now (name .entry)) (valueBytes (one (now (text .entry))) value)) ⌝ }
+    requires { ⌜ (really ≡ true → at + length (itemText at (now name) (valueBytes (two (now first) (now second)) value)) ≤ length (now out)) ⌝ }
+    ensures { λ r. ⌜ (r ≡ at + length (itemText at (now (name .entry)) (valueBytes (two (now (first .entry)) (now (second .entry))) value))) × (r ≤ at + maxItem) ⌝ }
+    ensures { λ r. ⌜ now (out .exit) ≡ putIf really (now (out .entry)) at (itemText at (now (name .entry)) (valueBytes (two (now (first .entry)) (now (second .entry))) value)) ⌝ }
 {
-    let s = set_marks::raw_bytes(text, value);
+    let s = set_marks::raw_bytes(first, second, value);
     let quoted = set_marks::is_quoted(value);
     if really {
         return put_item(out, at, name, s, quoted);
@@ -118,60 +125,76 @@ fn item(out: &mut [u8], at: usize, name: &[u8], text: &[u8], value: Value, reall
 }
 
 // The id's item, where there is an id.
-fn id_item(out: &mut [u8], at: usize, text: &[u8], ident: Ident, really: bool) -> usize
+fn id_item<'a>(
+    out: &mut [u8],
+    at: usize,
+    first: &'a [u8],
+    second: &'a [u8],
+    given: bool,
+    value: Value,
+    really: bool,
+) -> usize
     requires { ⌜ at ≤ maxText ⌝ }
-    requires { ⌜ (really ≡ true → at + length (itemsText at (idPairs (one (now text)) ident)) ≤ length (now out)) ⌝ }
-    ensures { λ r. ⌜ r ≡ at + length (itemsText at (idPairs (one (now (text .entry))) ident)) ⌝ }
-    ensures { λ r. ⌜ now (out .exit) ≡ putIf really (now (out .entry)) at (itemsText at (idPairs (one (now (text .entry))) ident)) ⌝ }
+    requires { ⌜ (really ≡ true → at + length (itemsText at (idPairs (two (now first) (now second)) given value)) ≤ length (now out)) ⌝ }
+    ensures { λ r. ⌜ r ≡ at + length (itemsText at (idPairs (two (now (first .entry)) (now (second .entry))) given value)) ⌝ }
+    ensures { λ r. ⌜ now (out .exit) ≡ putIf really (now (out .entry)) at (itemsText at (idPairs (two (now (first .entry)) (now (second .entry))) given value)) ⌝ }
 {
-    let id = ident.id;
-    match id {
-        Id::Missing => at,
-        Id::Given(value) => item(out, at, b"id", text, value, really),
+    if given {
+        return item(out, at, b"id", first, second, value, really);
     }
+    at
 }
 
 // A key's item.
-fn key_item(out: &mut [u8], at: usize, text: &[u8], row: Row, really: bool) -> usize
+fn key_item<'a>(
+    out: &mut [u8],
+    at: usize,
+    first: &'a [u8],
+    second: &'a [u8],
+    row: Row,
+    really: bool,
+) -> usize
     requires { ⌜ at ≤ maxText ⌝ }
-    requires { ⌜ (really ≡ true → at + length (itemsText at (keyPairs (one (now text)) row)) ≤ length (now out)) ⌝ }
-    ensures { λ r. ⌜ r ≡ at + length (itemsText at (keyPairs (one (now (text .entry))) row)) ⌝ }
-    ensures { λ r. ⌜ now (out .exit) ≡ putIf really (now (out .entry)) at (itemsText at (keyPairs (one (now (text .entry))) row)) ⌝ }
+    requires { ⌜ (really ≡ true → at + length (itemsText at (keyPairs (two (now first) (now second)) row)) ≤ length (now out)) ⌝ }
+    ensures { λ r. ⌜ r ≡ at + length (itemsText at (keyPairs (two (now (first .entry)) (now (second .entry))) row)) ⌝ }
+    ensures { λ r. ⌜ now (out .exit) ≡ putIf really (now (out .entry)) at (itemsText at (keyPairs (two (now (first .entry)) (now (second .entry))) row)) ⌝ }
 {
     let name = row.name;
     match name {
-        Name::Range(f, t) => item(
+        Name::Range(o, f, t) => item(
             out,
             at,
-            set_table::bytes_of(text, f as usize, t as usize),
-            text,
+            set_table::range_of(first, second, o, f as usize, t as usize),
+            first,
+            second,
             row.value,
             really,
         ),
-        Name::Lang => item(out, at, b"lang", text, row.value, really),
+        Name::Lang => item(out, at, b"lang", first, second, row.value, really),
     }
 }
 
 // An item for each of the first n classes.
-fn class_items(
+fn class_items<'a>(
     out: &mut [u8],
     at: usize,
-    text: &[u8],
+    first: &'a [u8],
+    second: &'a [u8],
     classes: [Value; Attrs::CLASSES],
     n: usize,
     really: bool,
 ) -> usize
     requires { ⌜ at ≤ maxText ⌝ }
-    requires { ⌜ (really ≡ true → at + length (itemsText at (classPairs (one (now text)) n classes)) ≤ length (now out)) ⌝ }
-    ensures { λ r. ⌜ r ≡ at + length (itemsText at (classPairs (one (now (text .entry))) n classes)) ⌝ }
-    ensures { λ r. ⌜ now (out .exit) ≡ putIf really (now (out .entry)) at (itemsText at (classPairs (one (now (text .entry))) n classes)) ⌝ }
+    requires { ⌜ (really ≡ true → at + length (itemsText at (classPairs (two (now first) (now second)) n classes)) ≤ length (now out)) ⌝ }
+    ensures { λ r. ⌜ r ≡ at + length (itemsText at (classPairs (two (now (first .entry)) (now (second .entry))) n classes)) ⌝ }
+    ensures { λ r. ⌜ now (out .exit) ≡ putIf really (now (out .entry)) at (itemsText at (classPairs (two (now (first .entry)) (now (second .entry))) n classes)) ⌝ }
 {
     let many = least(n, Attrs::CLASSES);
     let mut k = at;
     let mut i = 0;
     while i < many {
         let value = classes[i];
-        k = item(out, k, b"class", text, value, really);
+        k = item(out, k, b"class", first, second, value, really);
         i += 1;
     }
     k
@@ -225,19 +248,26 @@ fn no_row() -> Row
     ensures { λ r. ⌜ r ≡ zeroRow ⌝ }
 {
     Row {
-        name: Name::Range(0, 0),
+        name: Name::Range(Origin::First, 0, 0),
         value: Value {
-            text: Text::Plain(0, 0),
+            text: Text::Plain(Origin::First, 0, 0),
         },
     }
 }
 
 // Writes the canonical text, or only measures it, slot by slot and as far as `cap` bytes.
-fn walk(text: &[u8], set: Attrs, out: &mut [u8], cap: usize, really: bool) -> Wrote
+fn walk<'a>(
+    first: &'a [u8],
+    second: &'a [u8],
+    set: Attrs,
+    out: &mut [u8],
+    cap: usize,
+    really: bool,
+) -> Wrote
     requires { ⌜ (cap ≤ maxText) × (cap ≤ length (now out)) ⌝ }
-    requires { ⌜ (really ≡ true → length (canon (meaningOf (one (now text)) set)) ≤ cap) ⌝ }
-    ensures { λ r. ⌜ r ≡ wroteTo cap (length (canon (meaningOf (one (now (text .entry))) set))) ⌝ }
-    ensures { λ r. ⌜ now (out .exit) ≡ putIf really (now (out .entry)) 0 (canon (meaningOf (one (now (text .entry))) set)) ⌝ }
+    requires { ⌜ (really ≡ true → length (canon (meaningOf (two (now first) (now second)) set)) ≤ cap) ⌝ }
+    ensures { λ r. ⌜ r ≡ wroteTo cap (length (canon (meaningOf (two (now (first .entry)) (now (second .entry))) set))) ⌝ }
+    ensures { λ r. ⌜ now (out .exit) ≡ putIf really (now (out .entry)) 0 (canon (meaningOf (two (now (first .entry)) (now (second .entry))) set)) ⌝ }
 {
     let slots = least(set.norder as usize, Attrs::SLOTS);
     let keys = least(set.nkey as usize, Attrs::KEYS);
@@ -255,20 +285,21 @@ fn walk(text: &[u8], set: Attrs, out: &mut [u8], cap: usize, really: bool) -> Wr
         p += 1;
         match slot {
             Slot::Id => {
-                n = id_item(out, n, text, set.id, really);
+                n = id_item(out, n, first, second, set.given, set.id, really);
                 continue 'slots;
             }
             Slot::Class => {
-                n = class_items(out, n, text, set.classes, set.nclass as usize, really);
+                let many = set.nclass as usize;
+                n = class_items(out, n, first, second, set.classes, many, really);
                 continue 'slots;
             }
             Slot::Key(row) => {
                 let k = row as usize;
                 if k < keys {
-                    n = key_item(out, n, text, set.keys[k], really);
+                    n = key_item(out, n, first, second, set.keys[k], really);
                     continue 'slots;
                 }
-                n = key_item(out, n, text, no_row(), really);
+                n = key_item(out, n, first, second, no_row(), really);
                 continue 'slots;
             }
         }
@@ -276,34 +307,34 @@ fn walk(text: &[u8], set: Attrs, out: &mut [u8], cap: usize, really: bool) -> Wr
 }
 
 // The canonical text of a set at the front of lent memory, where it has room.
-pub fn write_set(text: &[u8], set: Attrs, out: &mut [u8]) -> Wrote
-    ensures { λ r. ⌜ r ≡ wroteOf (canon (meaningOf (one (now (text .entry))) set)) (length (now (out .entry))) ⌝ }
-    ensures { λ r. ⌜ now (out .exit) ≡ contentAfter (now (out .entry)) (canon (meaningOf (one (now (text .entry))) set)) ⌝ }
-    ensures { λ r. ⌜ wrotePaper r ≡ onPaper (roomOrder (canon (meaningOf (one (now (text .entry))) set)) (length (now (out .entry)))) (length (canon (meaningOf (one (now (text .entry))) set)) ∷ []) ⌝ }
+pub fn write_set<'a>(first: &'a [u8], second: &'a [u8], set: Attrs, out: &mut [u8]) -> Wrote
+    ensures { λ r. ⌜ r ≡ wroteOf (canon (meaningOf (two (now (first .entry)) (now (second .entry))) set)) (length (now (out .entry))) ⌝ }
+    ensures { λ r. ⌜ now (out .exit) ≡ contentAfter (now (out .entry)) (canon (meaningOf (two (now (first .entry)) (now (second .entry))) set)) ⌝ }
+    ensures { λ r. ⌜ wrotePaper r ≡ onPaper (roomOrder (canon (meaningOf (two (now (first .entry)) (now (second .entry))) set)) (length (now (out .entry)))) (length (canon (meaningOf (two (now (first .entry)) (now (second .entry))) set)) ∷ []) ⌝ }
 {
     let cap = least(out.len(), base_refusals::MAX_TEXT);
-    match walk(text, set, out, cap, false) {
+    match walk(first, second, set, out, cap, false) {
         Wrote::Refused(why) => Wrote::Refused(why),
-        Wrote::Bytes(_) => walk(text, set, out, cap, true),
+        Wrote::Bytes(_) => walk(first, second, set, out, cap, true),
     }
 }
 
 // The writer: the canonical text of a well-formed set at the front of lent memory, where it has room.
-pub fn write_attrs(text: &[u8], set: Attrs, out: &mut [u8]) -> Wrote
-    ensures { λ r. ⌜ r ≡ attrsWrote (now (text .entry)) set (length (now (out .entry))) ⌝ }
-    ensures { λ r. ⌜ now (out .exit) ≡ attrsContent (now (text .entry)) set (now (out .entry)) ⌝ }
-    ensures { λ r. ⌜ wrotePaper r ≡ onPaper (writerOrder (now (text .entry)) set (length (now (out .entry)))) (length (canon (meaningOf (one (now (text .entry))) set)) ∷ []) ⌝ }
+pub fn write_attrs<'a>(first: &'a [u8], second: &'a [u8], set: Attrs, out: &mut [u8]) -> Wrote
+    ensures { λ r. ⌜ r ≡ attrsWrote (two (now (first .entry)) (now (second .entry))) set (length (now (out .entry))) ⌝ }
+    ensures { λ r. ⌜ now (out .exit) ≡ attrsContent (two (now (first .entry)) (now (second .entry))) set (now (out .entry)) ⌝ }
+    ensures { λ r. ⌜ wrotePaper r ≡ onPaper (writerOrder (two (now (first .entry)) (now (second .entry))) set (length (now (out .entry)))) (length (canon (meaningOf (two (now (first .entry)) (now (second .entry))) set)) ∷ []) ⌝ }
 {
-    match text_checks::check_text(text) {
+    match text_checks::check_both(first, second) {
         Outcome::Refused(why) => Wrote::Refused(why),
         Outcome::Passed => {
-            if !set_wellformed::table_ok(text, set) {
+            if !set_wellformed::table_ok(first, second, set) {
                 return Wrote::Refused(Refusal::NotWellFormed);
             }
             if set.norder == 0 {
                 return Wrote::Refused(Refusal::EmptySet);
             }
-            write_set(text, set, out)
+            write_set(first, second, set, out)
         }
     }
 }

@@ -17,7 +17,7 @@ use Rattle.base_refusals.specs.declared.Refusal.{Refusal}
 use Rattle.base_refusals.specs.declared.Refusal.the-variants.{CanonTooLong}
 use Rattle.base_refusals.proofs.Numbers.{number-le}
 use Rattle.set_canon.specs.Canon.{canon}
-use Rattle.set_table.specs.Types.{one}
+use Rattle.set_table.specs.Types.{Texts}
 use Rattle.set_table.specs.Rows.{meaningOf}
 use Rattle.set_table.specs.declared.Attrs.{Attrs}
 use Rattle.base_refusals.specs.declared.Outcome as outcomes
@@ -219,6 +219,6 @@ module _ (n k : ℕ) (xs : List ℕ) where
 
 -- ---- the line of a block, read or refused
 
-pub line-le : (n k : ℕ) (t : List ℕ) (a : Attrs) (o : outcomes.Outcome) → n < 2 ^ 64 → k < 2 ^ 64 → length (lineBy n k t a o) ≤ maxLine
-line-le n k t a outcome.Passed hn hk = canon-le n k (canon (meaningOf (one t) a)) hn hk
+pub line-le : (n k : ℕ) (t : Texts) (a : Attrs) (o : outcomes.Outcome) → n < 2 ^ 64 → k < 2 ^ 64 → length (lineBy n k t a o) ≤ maxLine
+line-le n k t a outcome.Passed hn hk = canon-le n k (canon (meaningOf t a)) hn hk
 line-le n k t a (outcome.Refused r) hn hk = omega (arith, refused-le n k r hn hk)

@@ -7,27 +7,23 @@ use Prim.Native.Nat.{ℕ, _+_, _-_, _≤_, _<_}
 use native.Mathlib.Nat.{sub-zero}
 use native.Mathlib.Omega.{arith}
 use borrow.Author.Tests.{le-ltb, lt-ltb}
-use lib.Dec.{eqb, eqb·suc-zero}
 use lib.ListN.{length, take, drop, length-append}
-use lib.Seq.{take-append-seam, take-at, drop-at, drop-drop, sets, sets-eq}
+use lib.Seq.{slice, take-append-seam, take-at, drop-at, drop-drop, sets, sets-eq}
 use Rattle.base_lists.specs.Lists.{over}
-use Rattle.base_lists.proofs.More.{contra}
 use Rattle.base_lists.proofs.Sets.{over-long}
 use Rattle.base_refusals.specs.Numbers.{maxText}
-use Rattle.block_chain.specs.Chain.{goodLine}
-use Rattle.block_chain.specs.Computed.{readBlocks, blocksFrom}
 use Rattle.base_refusals.specs.declared.Refusal.{Refusal}
 use Rattle.set_canon.specs.Canon.{canon}
-use Rattle.set_table.specs.Types.{one, textOver}
+use Rattle.set_table.specs.Types.{two}
 use Rattle.set_table.specs.Rows.{meaningOf}
 use Rattle.set_table.specs.declared.Attrs.{Attrs}
 use Rattle.base_refusals.specs.declared.Outcome as outcomes
 use Rattle.base_refusals.specs.declared.Outcome.the-variants as outcome
-use Rattle.read_blocks.specs.Blocks.{Found, joinedIn, textIn, joinHolds, blockOf}
+use Rattle.read_blocks.specs.Blocks.{Found, joinedIn, joinHolds, blockOf}
 use Rattle.read_lengths.specs.Lengths.{flushLeft}
 use Rattle.sheet_blocks.specs.declared.Next.{Next}
 use Rattle.sheet_blocks.specs.Sheets.{Try, triesAt, isBlock, onlyBlocks, joinBehind, upToBlock, nextOf, nextTries}
-use Rattle.sheet_blocks.proofs.Tries.{found-by, run-found-by, flush-by, tries-end, try, tries-on, tries-past}
+use Rattle.sheet_blocks.proofs.Tries.{tries-end, try, tries-on, tries-past}
 use Rattle.sheet_blocks.proofs.Goes.{Goes, goes-on, stops, join-long, join-append, upto-join}
 use Rattle.sheet_blocks.proofs.Rooms.{tries-same}
 use Rattle.sheet_report.specs.declared.Told.{Told}
@@ -103,31 +99,14 @@ upto-front buf (x ∷ xs) {y} {ys} e = go (isBlock (x .found)) e (upto-front (jo
     go true e ih = let z : x ≡ y = cc in rw (← z) (holds-front buf (x .found))
     go false e ih = ih e
 
--- a block that was joined has a byte
-empty-bad : goodLine [] 0 0 ≡ false
-unfolding goodLine readBlocks blocksFrom
-empty-bad = refl
-
-joined-text : (t : List ℕ) (cap at : ℕ) → isBlock (flushLeft t cap at) ≡ true → cond (eqb (length (joinedIn (flushLeft t cap at))) 0) t (joinedIn (flushLeft t cap at)) ≡ textIn t (flushLeft t cap at)
-joined-text t cap at =
-    flush-by P t at cap (λ e. contra false e refl)
-    (found-by P t at 0 cap (λ g e. refl) (λ e. contra false e refl) (λ e. contra false e refl)
-    (run-found-by P t at 0 cap (λ r e g b. more (r .text) g) (λ r e q b. contra false b refl)))
-  where
-    P : Found → Type 0
-    P f = isBlock f ≡ true → cond (eqb (length (joinedIn f)) 0) t (joinedIn f) ≡ textIn t f
-
-    more : (x : List ℕ) → goodLine x 0 (length x) ≡ true → cond (eqb (length x) 0) t x ≡ x
-    more [] g = contra (goodLine [] 0 0) g empty-bad
-    more (b ∷ x) g = rw (eqb·suc-zero (length x))
-
--- ---- the line of a block, by its outcome and by the text that its set is over
+-- ---- the line of a block, by its outcome and by the bytes that were joined
 
 module _ (n k : ℕ) (t join : List ℕ) (joined : ℕ) (a : Attrs) {o : outcomes.Outcome} {at end : ℕ} {out out′ : List ℕ} where
-  pub of-refused : {why : Refusal} → o ≡ outcome.Refused why → PutAt out at (refusedLine n k why) end out′ → PutAt out at (lineBy n k (textOver t join joined) a o) end out′
+  pub of-refused : {why : Refusal} → o ≡ outcome.Refused why → PutAt out at (refusedLine n k why) end out′ → PutAt out at (lineBy n k (two t (slice 0 joined join)) a o) end out′
   of-refused e p = rw e p
 
-  pub of-done : {w : List ℕ} → o ≡ outcome.Passed → w ≡ textOver t join joined → PutAt out at (canonLine n k (canon (meaningOf (one w) a))) end out′ → PutAt out at (lineBy n k (textOver t join joined) a o) end out′
+  pub of-done : {w : List ℕ} → o ≡ outcome.Passed → w ≡ slice 0 joined join → PutAt out at (canonLine n k (canon (meaningOf (two t w) a))) end out′
+      → PutAt out at (lineBy n k (two t (slice 0 joined join)) a o) end out′
   of-done e f p = rw (e, ← f) p
 
 -- ---- the loop
@@ -236,19 +215,18 @@ module _ {t join₀ out₀ : List ℕ} {R : Laid} {join out : List ℕ} {at line
         front : take (length (joinedIn f)) join′ ≡ joinedIn f
         front = rw joined-so (upto-front join (triesAt t (length join₀) line at) (goes .blocks line))
 
-        text-is : textOver t join′ (length (joinedIn f)) ≡ textIn t f
-        unfolding textOver
-        text-is = rw front (joined-text t (length join₀) (r .at) (goes .is))
+        front-is : slice 0 (length (joinedIn f)) join′ ≡ joinedIn f
+        front-is = front
 
         abbrev L : List ℕ
         L = blockLine t here
 
-        line-is : lineBy (line + r .skipped) (r .block .lines) (textOver t join′ (r .block .joined)) (r .block .set) (r .block .outcome) ≡ L
+        line-is : lineBy (line + r .skipped) (r .block .lines) (two t (slice 0 (r .block .joined) join′)) (r .block .set) (r .block .outcome) ≡ L
         unfolding blockLine blockOf
-        line-is = rw (goes .read, text-is)
+        line-is = rw (goes .read, front-is)
 
         pub lays-go : {k′ : ℕ} {out′ : List ℕ}
-            → PutAt out k (lineBy (line + r .skipped) (r .block .lines) (textOver t join′ (r .block .joined)) (r .block .set) (r .block .outcome)) k′ out′
+            → PutAt out k (lineBy (line + r .skipped) (r .block .lines) (two t (slice 0 (r .block .joined) join′)) (r .block .set) (r .block .outcome)) k′ out′
             → Lays t join₀ out₀ R join′ out′ (r .block .next) (line + r .skipped + r .block .lines) k′
         lays-go {k′} {out′} p =
             record {
@@ -267,7 +245,7 @@ module _ {t join₀ out₀ : List ℕ} {R : Laid} {join out : List ℕ} {at line
             }
           where
             short : length L ≤ maxLine
-            short = rw line-is at (line-le (line + r .skipped) (r .block .lines) (textOver t join′ (r .block .joined)) (r .block .set) (r .block .outcome) (omega (arith, sum-le, next-within, inv .fits)) (omega (arith, sum-le, next-within, inv .fits)))
+            short = rw line-is at (line-le (line + r .skipped) (r .block .lines) (two t (slice 0 (r .block .joined) join′)) (r .block .set) (r .block .outcome) (omega (arith, sum-le, next-within, inv .fits)) (omega (arith, sum-le, next-within, inv .fits)))
 
             ends : k′ ≡ k + length L
             ends = rw line-is at (p .behind)

@@ -9,10 +9,10 @@ use Rattle.text_checks.specs.Check.{checkOf}
 use Rattle.base_refusals.specs.declared.Outcome as outcomes
 use Rattle.base_refusals.specs.declared.Outcome.the-variants as outcome
 use Rattle.set_canon.specs.Canon.{canon}
-use Rattle.set_table.specs.Types.{one}
+use Rattle.set_table.specs.Types.{Texts}
 use Rattle.set_table.specs.Rows.{meaningOf}
 use Rattle.set_table.specs.declared.Attrs.{Attrs}
-use Rattle.read_blocks.specs.Blocks.{linesOf, textIn, filledFound}
+use Rattle.read_blocks.specs.Blocks.{linesOf, textsIn, filledFound}
 use Rattle.sheet_blocks.specs.Sheets.{Try, blocksOf}
 use Rattle.sheet_report.specs.Decimal.{decimal}
 use Rattle.base_bytes.specs.Bytes.{lf, tab}
@@ -39,16 +39,16 @@ refusedLine n k r = reportLine refusedWord n k (decimal (numberOf r))
 unfoldable pub canonLine : ℕ → ℕ → List ℕ → List ℕ
 canonLine n k x = cond (tooLong x) (refusedLine n k CanonTooLong) (reportLine blockWord n k x)
 
--- "or for 6, 7 or 10 `refused`": the set is over the text t
-abbrev pub lineBy : ℕ → ℕ → List ℕ → Attrs → outcomes.Outcome → List ℕ
-lineBy n k t a outcome.Passed = canonLine n k (canon (meaningOf (one t) a))
+-- "or for 6, 7 or 10 `refused`": the set is over the texts t
+abbrev pub lineBy : ℕ → ℕ → Texts → Attrs → outcomes.Outcome → List ℕ
+lineBy n k t a outcome.Passed = canonLine n k (canon (meaningOf t a))
 lineBy n k t a (outcome.Refused r) = refusedLine n k r
 
 -- ---- the report
 
 -- what is written for a block of the text t
 unfoldable pub blockLine : List ℕ → Try → List ℕ
-blockLine t x = lineBy (x .line) (linesOf (x .found)) (textIn t (x .found)) (filledFound t (x .at) (x .found) .set) (filledFound t (x .at) (x .found) .outcome)
+blockLine t x = lineBy (x .line) (linesOf (x .found)) (textsIn t (x .found)) (filledFound t (x .at) (x .found) .set) (filledFound t (x .at) (x .found) .outcome)
 
 -- "On a block it writes ..": a line for each
 unfoldable pub reportOf : List ℕ → List Try → List ℕ

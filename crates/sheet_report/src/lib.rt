@@ -8,11 +8,12 @@ ghost use mathlib.Core.Path.{_≡_};
 ghost use mathlib.Core.List.{_∷_};
 ghost use Prim.Native.Nat.{_+_, _≤_};
 ghost use lib.ListN.{length};
+ghost use lib.Seq.{slice};
 ghost use Rattle.base_lists.specs.Lists.{over};
 ghost use Rattle.base_refusals.specs.Numbers.{maxText};
 ghost use Rattle.base_refusals.specs.Orders.{onPaper};
 ghost use Rattle.set_canon.specs.Canon.{canon};
-ghost use Rattle.set_table.specs.Types.{one, textOver};
+ghost use Rattle.set_table.specs.Types.{two};
 ghost use Rattle.set_table.specs.Rows.{meaningOf};
 ghost use Rattle.set_writer.specs.Inner.{wroteTo};
 ghost use Rattle.sheet_blocks.specs.Sheets.{triesAt, joinBehind};
@@ -75,22 +76,30 @@ fn lay_refused(out: &mut [u8], at: usize, n: usize, lines: usize, why: Refusal) 
 }
 
 // Writes the canonical text of a set, where it isn't too long.
-fn put_set(out: &mut [u8], at: usize, text: &[u8], set: Attrs) -> Wrote
+fn put_set<'a>(out: &mut [u8], at: usize, text: &'a [u8], joined: &'a [u8], set: Attrs) -> Wrote
     requires { ⌜ at + maxText ≤ length (now out) ⌝ }
-    ensures { λ r. ⌜ r ≡ wroteTo maxText (length (canon (meaningOf (one (now (text .entry))) set))) ⌝ }
-    ensures { λ r. ⌜ now (out .exit) ≡ putShort (now (out .entry)) at (canon (meaningOf (one (now (text .entry))) set)) ⌝ }
+    ensures { λ r. ⌜ r ≡ wroteTo maxText (length (canon (meaningOf (two (now (text .entry)) (now (joined .entry))) set))) ⌝ }
+    ensures { λ r. ⌜ now (out .exit) ≡ putShort (now (out .entry)) at (canon (meaningOf (two (now (text .entry)) (now (joined .entry))) set)) ⌝ }
 {
-    set_writer::write_set(text, set, &mut out[at..])
+    set_writer::write_set(text, joined, set, &mut out[at..])
 }
 
-// Lays the line of a block whose set is over the text.
-fn lay_set(out: &mut [u8], at: usize, n: usize, lines: usize, text: &[u8], set: Attrs) -> usize
+// Lays the line of a block whose set is over the text and what was joined.
+fn lay_set<'a>(
+    out: &mut [u8],
+    at: usize,
+    n: usize,
+    lines: usize,
+    text: &'a [u8],
+    joined: &'a [u8],
+    set: Attrs,
+) -> usize
     requires { ⌜ at + maxLine ≤ length (now out) ⌝ }
-    ensures { λ r. ⌜ PutAt (now (out .entry)) at (canonLine n lines (canon (meaningOf (one (now (text .entry))) set))) r (now (out .exit)) ⌝ }
+    ensures { λ r. ⌜ PutAt (now (out .entry)) at (canonLine n lines (canon (meaningOf (two (now (text .entry)) (now (joined .entry))) set))) r (now (out .exit)) ⌝ }
 {
     let k = put_front(out, at, b"block", n, lines);
     out[k] = b'\t';
-    match put_set(out, k + 1, text, set) {
+    match put_set(out, k + 1, text, joined, set) {
         Wrote::Refused(why) => lay_refused(out, at, n, lines, why),
         Wrote::Bytes(m) => {
             let e = k + 1 + m;
@@ -100,7 +109,7 @@ fn lay_set(out: &mut [u8], at: usize, n: usize, lines: usize, text: &[u8], set: 
     }
 }
 
-// Lays the line of a block, whose set is over the joined bytes if there are any.
+// Lays the line of a block, whose set is over the text and the bytes that were joined.
 fn lay_block<'a>(
     out: &mut [u8],
     at: usize,
@@ -110,14 +119,14 @@ fn lay_block<'a>(
     block: Block,
 ) -> usize
     requires { ⌜ at + maxLine ≤ length (now out) ⌝ }
-    ensures { λ r. ⌜ PutAt (now (out .entry)) at (lineBy n (block .lines) (textOver (now (text .entry)) (now (join .entry)) (block .joined)) (block .set) (block .outcome)) r (now (out .exit)) ⌝ }
+    ensures { λ r. ⌜ PutAt (now (out .entry)) at (lineBy n (block .lines) (two (now (text .entry)) (slice 0 (block .joined) (now (join .entry)))) (block .set) (block .outcome)) r (now (out .exit)) ⌝ }
 {
     let outcome = block.outcome;
     match outcome {
         Outcome::Refused(why) => lay_refused(out, at, n, block.lines, why),
         Outcome::Passed => {
-            let over = set_table::text_over(text, join, block.joined);
-            lay_set(out, at, n, block.lines, over, block.set)
+            let joined = set_table::bytes_of(join, 0, block.joined);
+            lay_set(out, at, n, block.lines, text, joined, block.set)
         }
     }
 }

@@ -13,8 +13,6 @@ use crate::good::row;
 use crate::good::slot;
 use crate::report;
 use set_table::Attrs;
-use set_table::Id;
-use set_table::Ident;
 use set_table::Name;
 use set_table::Row;
 use set_table::Slot;
@@ -37,7 +35,7 @@ pub(crate) fn run(text: &[u8]) {
     odd_classes(text);
 }
 
-// "the text gives neither 1 nor 2"
+// "the texts give neither 1 nor 2"
 fn whole(text: &[u8]) {
     report(b"good", text, good::set());
     too_long();
@@ -57,7 +55,7 @@ fn too_many(text: &[u8]) {
     counts(b"all counts 255", text, 255, 255, 255);
 }
 
-// "ranges inside it on character boundaries"
+// "ranges inside their text on character boundaries"
 fn ranges(text: &[u8]) {
     id(b"an id past the text's end", text, 41, 46);
     id(b"an id far behind the text", text, 65535, 65535);
@@ -124,8 +122,7 @@ fn classes_slot_twice(text: &[u8]) {
 
 fn absent(text: &[u8]) {
     let mut s = good::set();
-    let none = Ident { id: Id::Missing };
-    s.id = none;
+    s.given = false;
     report(b"an id's slot without an id", text, s);
     counts(b"the classes' slot without a class", text, 0, 2, 4);
     let mut s = good::set();

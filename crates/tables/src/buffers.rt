@@ -1,15 +1,13 @@
 // Buffers of exactly the canonical text's length and one short, and the longest canonical text.
 use crate::MARK;
 use crate::good;
-use crate::good::plain;
-use crate::good::slot;
+use crate::good::class_of;
 use crate::is_kept;
 use crate::part;
 use crate::say;
 use crate::say_number;
 use crate::say_wrote;
-use set_table::Attrs;
-use set_table::Slot;
+use set_table::Origin;
 use set_writer::Wrote;
 
 pub(crate) fn run(text: &[u8]) {
@@ -23,7 +21,7 @@ pub(crate) fn run(text: &[u8]) {
 fn exact(text: &[u8]) {
     let mut out = [MARK; 45];
     say(b"45 bytes lent");
-    let wrote = set_writer::write_attrs(text, good::set(), &mut out);
+    let wrote = set_writer::write_attrs(text, b"", good::set(), &mut out);
     say_wrote(wrote, &out);
     say(b"\n");
 }
@@ -31,7 +29,7 @@ fn exact(text: &[u8]) {
 fn short(text: &[u8]) {
     let mut out = [MARK; 44];
     say(b"44 bytes lent");
-    let wrote = set_writer::write_attrs(text, good::set(), &mut out);
+    let wrote = set_writer::write_attrs(text, b"", good::set(), &mut out);
     say_wrote(wrote, &out);
     say(b"\n");
 }
@@ -39,19 +37,9 @@ fn short(text: &[u8]) {
 fn none(text: &[u8]) {
     let mut out = [MARK; 1];
     say(b"no byte lent");
-    let wrote = set_writer::write_attrs(text, good::set(), &mut out[..0]);
+    let wrote = set_writer::write_attrs(text, b"", good::set(), &mut out[..0]);
     say_wrote(wrote, &out[..0]);
     say(b"\n");
-}
-
-// One class of the text's bytes: `{class="` and `"}` are ten bytes more.
-fn class_of(n: u16) -> Attrs {
-    let mut s = Attrs::empty();
-    s.classes[0] = plain(0, n);
-    s.nclass = 1;
-    s.order[0] = slot(Slot::Class);
-    s.norder = 1;
-    s
 }
 
 fn longest() {
@@ -60,21 +48,22 @@ fn longest() {
     longest_into(&text, &mut out);
 }
 
+// `{class="` and `"}` are ten bytes more than the class.
 fn longest_into(text: &[u8], out: &mut [u8]) {
     say(b"a canonical text of 65,536 bytes: ");
-    say_length(set_writer::write_attrs(text, class_of(65526), out));
+    say_length(set_writer::write_attrs(text, b"", class_of(Origin::First, 65526), out));
     if is_kept(out) {
         say(b", memory kept");
     }
     say(b"\na canonical text of 65,535 bytes: ");
-    say_length(set_writer::write_attrs(text, class_of(65525), out));
+    say_length(set_writer::write_attrs(text, b"", class_of(Origin::First, 65525), out));
     if is_kept(part(out, 65535, 65540)) {
         say(b", rest kept");
     }
     say(b"\n");
 }
 
-fn say_length(wrote: Wrote) {
+pub(crate) fn say_length(wrote: Wrote) {
     match wrote {
         Wrote::Refused(r) => {
             say(b"refused ");

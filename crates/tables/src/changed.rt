@@ -1,6 +1,5 @@
 // The good table with one thing changed, reported.
 use crate::good;
-use crate::good::given;
 use crate::good::plain;
 use crate::good::row;
 use crate::good::slot;
@@ -19,7 +18,7 @@ pub(crate) fn counts<'a>(name: &'a [u8], text: &'a [u8], nclass: u8, nkey: u8, n
 
 pub(crate) fn id<'a>(name: &'a [u8], text: &'a [u8], from: u16, to: u16) {
     let mut s = good::set();
-    s.id = given(plain(from, to));
+    s.id = plain(from, to);
     report(name, text, s);
 }
 

@@ -1,6 +1,5 @@
 // Tables that are full: an id, a class and 32 keys, so 34 slots; and merges that would have more keys.
 use crate::MARK;
-use crate::good::given;
 use crate::good::plain;
 use crate::good::row;
 use crate::good::slot;
@@ -29,7 +28,8 @@ fn name_end(k: u8, long: bool) -> u16 {
 // 32 keys, each named by the letter at its place, or by that and the next one.
 fn full(long: bool) -> Attrs {
     let mut s = Attrs::empty();
-    s.id = given(plain(0, 1));
+    s.id = plain(0, 1);
+    s.given = true;
     s.classes[0] = plain(1, 2);
     s.nclass = 1;
     s.order[0] = slot(Slot::Id);
@@ -63,32 +63,32 @@ fn tables(text: &[u8]) {
 fn told<'a>(name: &'a [u8], text: &'a [u8], set: Attrs) {
     let mut out = [MARK; 300];
     say(name);
-    if set_wellformed::well_formed(text, set) {
+    if set_wellformed::well_formed(text, b"", set) {
         say(b": well-formed");
     } else {
         say(b": not well-formed");
     }
-    let wrote = set_writer::write_attrs(text, set, &mut out);
+    let wrote = set_writer::write_attrs(text, b"", set, &mut out);
     say_wrote(wrote, &out);
     say(b", merged with itself: ");
-    say_counts(set_merge::merge_attrs(text, set, set));
+    say_counts(set_merge::merge_attrs(text, b"", set, set));
 }
 
 // 32 keys and 32 others are too many, and so is one more; 32 that are there already are none more.
 fn merges(text: &[u8]) {
     let target = full(false);
     say(b"32 keys merged with 32 others: ");
-    say_counts(set_merge::merge_attrs(text, target, full(true)));
+    say_counts(set_merge::merge_attrs(text, b"", target, full(true)));
     let mut one = full(true);
     one.keys[0] = row(0, 1, plain(0, 2));
     say(b"32 keys merged with 32, one of them shared: ");
-    say_counts(set_merge::merge_attrs(text, target, one));
+    say_counts(set_merge::merge_attrs(text, b"", target, one));
     say(b"32 keys merged with 32, all of them shared: ");
-    say_counts(set_merge::merge_leading_attrs(text, target, full(false)));
+    say_counts(set_merge::merge_leading_attrs(text, b"", target, full(false)));
 }
 
 // A refusal, or how many classes, keys and slots there are.
-fn say_counts(merged: Filled) {
+pub(crate) fn say_counts(merged: Filled) {
     let outcome = merged.outcome;
     let set = merged.set;
     match outcome {

@@ -4,6 +4,8 @@ mod buffers;
 mod changed;
 mod full;
 mod good;
+mod pairs;
+mod texts;
 
 use base_refusals::Outcome;
 use base_refusals::Refusal;
@@ -22,22 +24,33 @@ pub(crate) fn say_number(n: usize) {
     io::print_decimal(libc::STDOUT_FILENO, n as u64);
 }
 
-// One line: whether the table is well-formed over the text, what the writer answers and leaves, and what a merge with a good table answers,
-// where it is the first and where it is the second.
+// A table over one text, the other being lent empty.
 pub(crate) fn report<'a>(name: &'a [u8], text: &'a [u8], set: Attrs) {
+    over(name, text, b"", set, good::set());
+}
+
+// One line: whether the table is well-formed over the texts, what the writer answers and leaves, and what a merge with another table answers,
+// where it is the first and where it is the second.
+pub(crate) fn over<'a>(
+    name: &'a [u8],
+    first: &'a [u8],
+    second: &'a [u8],
+    set: Attrs,
+    other: Attrs,
+) {
     let mut out = [MARK; 80];
     say(name);
-    if set_wellformed::well_formed(text, set) {
+    if set_wellformed::well_formed(first, second, set) {
         say(b": well-formed");
     } else {
         say(b": not well-formed");
     }
-    let wrote = set_writer::write_attrs(text, set, &mut out);
+    let wrote = set_writer::write_attrs(first, second, set, &mut out);
     say_wrote(wrote, &out);
     say(b", merged ");
-    say_merged(set_merge::merge_attrs(text, set, good::set()));
+    say_merged(set_merge::merge_attrs(first, second, set, other));
     say(b" and ");
-    say_merged(set_merge::merge_attrs(text, good::set(), set));
+    say_merged(set_merge::merge_attrs(first, second, other, set));
     say(b"\n");
 }
 
@@ -103,6 +116,14 @@ fn say_refused(r: Refusal, set: Attrs) {
     }
 }
 
+// In the second text: 0 `tyre`, 5 `grip`, 9 a character of two bytes, 11 LF, 12 a double quote, 13 a backslash, 14 a space, 15 `side`, 20 `id`,
+// 23 `class`, and its end at 28.
+fn two(first: &[u8]) {
+    let second = b"tyre grip\xC3\xA9\n\"\\ side id class";
+    texts::run(first, second);
+    pairs::run(first, second);
+}
+
 // 0 `v17`, 4 `wheel`, 10 `side`, 15 `left`, 20 `id`, 23 `class`, 29 `9x`, 32 `a`, 34 `b`, 35 a character of two bytes, 37 LF, 38 a double
 // quote, 39 a backslash, 40 a space, 41 `lang`.
 fn main() {
@@ -110,4 +131,5 @@ fn main() {
     broken::run(text);
     full::run();
     buffers::run(text);
+    two(text);
 }

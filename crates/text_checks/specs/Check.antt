@@ -1,7 +1,7 @@
 -- What every entry but those at a brace asks of its text first: "1, 2, ..".
 use Prim.Native.Nat.{ℕ}
 use mathlib.Core.Bool.{Bool, _&&_}
-use mathlib.Core.List.{List, [], _∷_}
+use mathlib.Core.List.{List, [], _∷_, _++_}
 use lib.Dec.{leb}
 use lib.ListN.{length}
 use Rattle.text_utf8.specs.Computed.{isUtf8}
@@ -18,6 +18,14 @@ textOrder t = Ground.given TextTooLong (tooLong t) ∷ Ground.lacking NotUtf8 (i
 unfoldable pub checkOf : List ℕ → Outcome
 unfolding inOrder
 checkOf t = inOrder Refused (textOrder t) Passed
+
+-- "1 and 2 are checked for the first text, then 1 and 2 for the second"
+abbrev pub bothOrder : List ℕ → List ℕ → List Ground
+bothOrder t u = textOrder t ++ textOrder u
+
+unfoldable pub bothOf : List ℕ → List ℕ → Outcome
+unfolding inOrder
+bothOf t u = inOrder Refused (bothOrder t u) Passed
 
 -- the text gives neither 1 nor 2
 unfoldable pub isText : List ℕ → Bool

@@ -1,6 +1,6 @@
 // The two checks with which every entry begins that reads a whole text.
 ghost use mathlib.Core.Path.{_≡_};
-ghost use Rattle.text_checks.specs.Check.{textOrder, checkOf, isText};
+ghost use Rattle.text_checks.specs.Check.{textOrder, bothOrder, checkOf, bothOf, isText};
 ghost use Rattle.base_refusals.specs.Numbers.{outcomeNo};
 ghost use Rattle.base_refusals.specs.Orders.{orderNo};
 use base_refusals::Outcome;
@@ -18,6 +18,17 @@ pub fn check_text(text: &[u8]) -> Outcome
         return Outcome::Refused(Refusal::NotUtf8);
     }
     Outcome::Passed
+}
+
+// The same of two texts, the first before the second.
+pub fn check_both(first: &[u8], second: &[u8]) -> Outcome
+    ensures { λ r. ⌜ r ≡ bothOf (now (first .entry)) (now (second .entry)) ⌝ }
+    ensures { λ r. ⌜ outcomeNo r ≡ orderNo (bothOrder (now (first .entry)) (now (second .entry))) ⌝ }
+{
+    match check_text(first) {
+        Outcome::Refused(why) => Outcome::Refused(why),
+        Outcome::Passed => check_text(second),
+    }
 }
 
 // Whether the bytes are short enough and UTF-8.

@@ -5,6 +5,7 @@ use crate::say_refusal;
 use base_refusals::Outcome;
 use set_lent::Both;
 use set_table::Attrs;
+use set_table::Origin;
 use set_table::Text;
 use set_table::Value;
 use set_writer::Wrote;
@@ -32,6 +33,47 @@ pub(crate) fn run() {
     // the text isn't UTF-8 elsewhere: 2, both times
     three(b"{.a}{.b}{.c}\xFF", 0, 4, 8);
     broken(b"{.a k=1}{#x .b k=2}");
+    // a block of each text
+    across(b"{.a #x k=1}", b"{m=3 #y k=2 .b}");
+    // the second text isn't UTF-8 elsewhere: 2, each time
+    across(b"{.a #x k=1}", b"{.b}\xFF");
+    // the first text isn't UTF-8 elsewhere, and the second is one block only: 2, each time
+    across(b"{.a #x k=1}\xFF", b"{.b}");
+    // a set of the second text whose ranges are past the first one's end, taken for one of the first: 11
+    not_exchanged(b"{.a}", b"{.b longer=1}");
+}
+
+// The first text's block is lent to the second one's: which leads it, or comes in behind; and the other way round, both.
+fn across<'a>(first: &'a [u8], second: &'a [u8]) {
+    let target = read_brace::read_attrs_at(first, 0);
+    let read = read_brace::read_attrs_at(second, 0);
+    let other = set_exchange::exchange(read.set);
+    let none = Attrs::empty();
+    tell(
+        first,
+        second,
+        set_lent::merge_both(first, second, target.set, other, none),
+    );
+    tell(
+        first,
+        second,
+        set_lent::merge_both(first, second, target.set, none, other),
+    );
+    tell(
+        first,
+        second,
+        set_lent::merge_both(first, second, other, target.set, target.set),
+    );
+}
+
+fn not_exchanged<'a>(first: &'a [u8], second: &'a [u8]) {
+    let target = read_brace::read_attrs_at(first, 0);
+    let read = read_brace::read_attrs_at(second, 0);
+    tell(
+        first,
+        second,
+        set_lent::merge_both(first, second, target.set, read.set, read.set),
+    );
 }
 
 fn three(text: &[u8], leading: usize, target: usize, incoming: usize) {
@@ -40,7 +82,8 @@ fn three(text: &[u8], leading: usize, target: usize, incoming: usize) {
     let last = read_brace::read_attrs_at(text, incoming);
     tell(
         text,
-        set_lent::merge_both(text, middle.set, first.set, last.set),
+        b"",
+        set_lent::merge_both(text, b"", middle.set, first.set, last.set),
     );
 }
 
@@ -49,16 +92,16 @@ fn broken(text: &[u8]) {
     let read = read_brace::read_attrs_at(text, 0);
     let mut target = read.set;
     target.classes[Attrs::CLASSES - 1] = Value {
-        text: Text::Plain(9, 4),
+        text: Text::Plain(Origin::First, 9, 4),
     };
     let mut bad = Attrs::empty();
     bad.nclass = Attrs::CLASSES as u8 + 1;
-    let both = set_lent::merge_both(text, target, bad, bad);
-    tell(text, both);
+    let both = set_lent::merge_both(text, b"", target, bad, bad);
+    tell(text, b"", both);
     let set = both.set;
     say_row(set.classes[Attrs::CLASSES - 1]);
-    let both = set_lent::merge_both(text, bad, target, target);
-    tell(text, both);
+    let both = set_lent::merge_both(text, b"", bad, target, target);
+    tell(text, b"", both);
     let set = both.set;
     say(b"  33 classes still: ");
     say_number(set.nclass as usize);
@@ -68,19 +111,19 @@ fn broken(text: &[u8]) {
 fn say_row(value: Value) {
     let text = value.text;
     match text {
-        Text::Plain(from, to) => {
+        Text::Plain(_, from, to) => {
             say(b"  the last row still goes from ");
             say_number(from as usize);
             say(b" to ");
             say_number(to as usize);
             say(b"\n");
         }
-        Text::Quoted(_, _) => say(b"  ANOTHER ROW\n"),
+        Text::Quoted(_, _, _) => say(b"  ANOTHER ROW\n"),
         Text::Empty => say(b"  ANOTHER ROW\n"),
     }
 }
 
-fn tell(text: &[u8], both: Both) {
+fn tell<'a>(first: &'a [u8], second: &'a [u8], both: Both) {
     let led = both.led;
     let merged = both.merged;
     say(b"leading: ");
@@ -89,7 +132,7 @@ fn tell(text: &[u8], both: Both) {
     say_outcome(merged);
     say(b"\n");
     let set = both.set;
-    say_set(text, set);
+    say_set(first, second, set);
 }
 
 fn say_outcome(outcome: Outcome) {
@@ -100,9 +143,9 @@ fn say_outcome(outcome: Outcome) {
 }
 
 // The set's canonical text, for every table.
-fn say_set(text: &[u8], set: Attrs) {
+fn say_set<'a>(first: &'a [u8], second: &'a [u8], set: Attrs) {
     let mut out = [0u8; 400];
-    let wrote = set_writer::write_set(text, set, &mut out);
+    let wrote = set_writer::write_set(first, second, set, &mut out);
     say(b"  ");
     match wrote {
         Wrote::Refused(r) => say_refusal(r),

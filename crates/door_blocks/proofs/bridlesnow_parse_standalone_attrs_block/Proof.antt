@@ -21,7 +21,7 @@ same-length-3 c = search needs
 returns : tie.Need-returns
 returns c =
     let at4 = c .before .before .before .before in let at10 = at4 .before .before .before .before .before .before in
-    laws.block-says _ _ _ _ _ _ (laws.block-solid _ _ _ _) (at10 .parse-standalone-attrs-block .ensures .0) (at10 .parse-standalone-attrs-block .ensures .1 .0) (at4 .say-block .ensures .0) (at4 .say-block .ensures .1 .0) (at4 .say-block .ensures .1 .1)
+    laws.block-says _ _ _ _ _ _ (at10 .parse-standalone-attrs-block .ensures .0) (at10 .parse-standalone-attrs-block .ensures .1 .0) (at4 .say-block .ensures)
 
 pub bridlesnow-parse-standalone-attrs-block-spec : {M : Type 1} → statement M
 bridlesnow-parse-standalone-attrs-block-spec =

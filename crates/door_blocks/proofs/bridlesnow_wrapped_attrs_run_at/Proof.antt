@@ -21,7 +21,7 @@ same-length-3 c = search needs
 returns : tie.Need-returns
 returns c =
     let at4 = c .before .before .before .before in let at10 = at4 .before .before .before .before .before .before in
-    laws.block-says _ _ _ _ _ _ (laws.wraps-solid _ _ _ _) (at10 .wrapped-attrs-run-at .ensures .0) (at10 .wrapped-attrs-run-at .ensures .1 .0) (at4 .say-block .ensures .0) (at4 .say-block .ensures .1 .0) (at4 .say-block .ensures .1 .1)
+    laws.block-says _ _ _ _ _ _ (at10 .wrapped-attrs-run-at .ensures .0) (at10 .wrapped-attrs-run-at .ensures .1 .0) (at4 .say-block .ensures)
 
 pub bridlesnow-wrapped-attrs-run-at-spec : {M : Type 1} → statement M
 bridlesnow-wrapped-attrs-run-at-spec =

@@ -1,12 +1,13 @@
 use mathlib.Core.List.{[], _∷_}
-use mathlib.Core.Path.{refl}
+use mathlib.Core.Path.{refl, ap}
+use Rattle.set_table.specs.Types.{two}
 use Rattle.door_shared.proofs.Laws.{set-said, told-5}
 use borrow.Author.Needs.{needs}
 use Rattle.door_blocks.proofs.say_block.Statement.{statement}
 use Rattle.door_blocks.proofs.say_block.Tie as tie
 
-text-over-requires : tie.Need-text-over-requires
-text-over-requires c κs = search needs
+bytes-of-requires : tie.Need-bytes-of-requires
+bytes-of-requires c κs = search needs
 
 write-out-requires : tie.Need-write-out-requires
 write-out-requires c κs = search needs
@@ -45,7 +46,7 @@ returns c =
     let at26 = at24 .before .before in let at31 = at26 .before .before .before .before .before in
     set-said (at31 .args .out .now) (at31 .args .told .now) {a = at31 .args .block .set}
     {tell = λ n. (at31 .args .block .lines) ∷ (at31 .args .block .next) ∷ (at31 .args .block .lookahead) ∷ (at31 .args .block .joined) ∷ n ∷ []}
-    {c = at31 .args .block .outcome} refl (at26 .text-over .ensures)
+    {c = at31 .args .block .outcome} refl (ap (two (at31 .args .text .now)) (at26 .bytes-of .ensures))
     (record {
       wrote = _;
       len = _;
@@ -60,7 +61,7 @@ pub say-block-spec : {M : Type 1} → statement M
 say-block-spec =
     tie.close
     (tie.spec
-    text-over-requires
+    bytes-of-requires
     write-out-requires
     tell-requires
     tell-requires-2

@@ -10,6 +10,9 @@ parse-standalone-attrs-requires c κs = search needs
 parse-standalone-attrs-requires-2 : tie.Need-parse-standalone-attrs-requires-2
 parse-standalone-attrs-requires-2 c κs = search needs
 
+slice-aggregate-merge-attrs : tie.Need-slice-aggregate-merge-attrs
+slice-aggregate-merge-attrs c = search needs
+
 merge-attrs-requires : tie.Need-merge-attrs-requires
 merge-attrs-requires c κs = search needs
 
@@ -18,6 +21,9 @@ first-of-requires c κs = search needs
 
 first-of-requires-2 : tie.Need-first-of-requires-2
 first-of-requires-2 c κs = search needs
+
+slice-aggregate-write-out : tie.Need-slice-aggregate-write-out
+slice-aggregate-write-out c = search needs
 
 write-out-requires : tie.Need-write-out-requires
 write-out-requires c κs = search needs
@@ -46,9 +52,9 @@ same-length-2 c = search needs
 returns : tie.Need-returns
 returns c =
     let at4 = c .before .before .before .before in let at8 = at4 .before .before .before .before in let at9 = at8 .before in let at13 = at9 .before .before .before .before in
-    let at15 = at13 .before .before in let at16 = at15 .before in let at17 = at16 .before in let at18 = at17 .before in let at19 = at18 .before in
-    laws.merge-said _ _ _ _ _ (at19 .parse-standalone-attrs .ensures .0) (at18 .parse-standalone-attrs2 .ensures .0) (at17 .merge-attrs .ensures .0) (at16 .first-of .ensures)
-    (at15 .first-of2 .ensures) (at9 .step-of .ensures)
+    let at16 = at13 .before .before .before in let at17 = at16 .before in let at18 = at17 .before in let at20 = at18 .before .before in let at21 = at20 .before in
+    laws.merge-said _ _ _ _ _ (at21 .parse-standalone-attrs .ensures .0) (at20 .parse-standalone-attrs2 .ensures .0) (at18 .merge-attrs .ensures .0) (at17 .first-of .ensures .0)
+    (at16 .first-of2 .ensures .0) (at9 .step-of .ensures)
     (record {
       wrote = _;
       len = _;
@@ -65,9 +71,11 @@ bridlesnow-merge-lines-spec =
     (tie.spec
     parse-standalone-attrs-requires
     parse-standalone-attrs-requires-2
+    slice-aggregate-merge-attrs
     merge-attrs-requires
     first-of-requires
     first-of-requires-2
+    slice-aggregate-write-out
     write-out-requires
     step-of-requires
     tell-requires

@@ -7,6 +7,9 @@ use Rattle.door_sets.proofs.bridlesnow_parse_standalone_attrs.Tie as ti
 parse-standalone-attrs-requires : tie.Need-parse-standalone-attrs-requires
 parse-standalone-attrs-requires c κs = search needs
 
+slice-aggregate-write-out : tie.Need-slice-aggregate-write-out
+slice-aggregate-write-out c = search needs
+
 write-out-requires : tie.Need-write-out-requires
 write-out-requires c κs = search needs
 
@@ -27,8 +30,8 @@ same-length-2 c = search needs
 
 returns : tie.Need-returns
 returns c =
-    let at4 = c .before .before .before .before in let at8 = at4 .before .before .before .before in let at10 = at8 .before .before in
-    laws.line-said _ _ _ _ (at10 .parse-standalone-attrs .ensures .0)
+    let at4 = c .before .before .before .before in let at8 = at4 .before .before .before .before in let at11 = at8 .before .before .before in
+    laws.line-said _ _ _ _ (at11 .parse-standalone-attrs .ensures .0)
     (record {
       wrote = _;
       len = _;
@@ -44,6 +47,7 @@ bridlesnow-parse-standalone-attrs-spec =
     tie.close
     (tie.spec
     parse-standalone-attrs-requires
+    slice-aggregate-write-out
     write-out-requires
     wrote-len-requires
     tell-requires

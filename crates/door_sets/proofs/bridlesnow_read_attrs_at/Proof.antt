@@ -16,6 +16,9 @@ check-by-requires c κs = search needs
 or-text-requires : tie.Need-or-text-requires
 or-text-requires c κs = search needs
 
+slice-aggregate-write-out : tie.Need-slice-aggregate-write-out
+slice-aggregate-write-out c = search needs
+
 write-out-requires : tie.Need-write-out-requires
 write-out-requires c κs = search needs
 
@@ -43,8 +46,8 @@ same-length-2 c = search needs
 returns : tie.Need-returns
 returns c =
     let at4 = c .before .before .before .before in let at8 = at4 .before .before .before .before in let at9 = at8 .before in let at13 = at9 .before .before .before .before in
-    let at15 = at13 .before .before in let at16 = at15 .before in let at17 = at16 .before in let at18 = at17 .before in
-    laws.brace-said _ _ _ _ (at18 .mode-of .ensures) (at17 .read-attrs-at-with .ensures .0) (at16 .check-by .ensures) (at15 .or-text .ensures) (at9 .next-of .ensures)
+    let at16 = at13 .before .before .before in let at17 = at16 .before in let at18 = at17 .before in let at19 = at18 .before in
+    laws.brace-said _ _ _ _ (at19 .mode-of .ensures) (at18 .read-attrs-at-with .ensures .0) (at17 .check-by .ensures) (at16 .or-text .ensures) (at9 .next-of .ensures)
     (record {
       wrote = _;
       len = _;
@@ -63,6 +66,7 @@ bridlesnow-read-attrs-at-spec =
     read-attrs-at-with-requires
     check-by-requires
     or-text-requires
+    slice-aggregate-write-out
     write-out-requires
     next-of-requires
     tell-requires

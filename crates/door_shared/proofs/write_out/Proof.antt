@@ -1,6 +1,6 @@
 use lib.ListN.{length}
 use Rattle.set_canon.specs.Canon.{canon}
-use Rattle.set_table.specs.Types.{one}
+use Rattle.set_table.specs.Types.{two}
 use Rattle.set_table.specs.Rows.{meaningOf}
 use Rattle.set_writer.proofs.Numbers.{said}
 use Rattle.door_shared.proofs.Laws.{out-no}
@@ -19,8 +19,8 @@ write-set-requires c κs = search needs
 
 returns : tie.Need-returns
 returns c =
-    let a = c .before .before .before .before .before .args in
-    said (out-no (a .c) (canon (meaningOf (one (a .text .now)) (a .set))) (length (a .out .now))) (rw ((c .before .c .given .1)), rw ((c .before .c .given .1)))
+    let a = c .before .before .before .before .before .before .args in
+    said (out-no (a .c) (canon (meaningOf (two (a .first .now) (a .second .now)) (a .set))) (length (a .out .now))) (rw ((c .before .c .given .1)), rw ((c .before .c .given .1)))
 
 same-length : tie.Need-same-length
 same-length c = search needs
@@ -28,8 +28,8 @@ same-length c = search needs
 returns-2 : tie.Need-returns-2
 returns-2 c =
     let at4 = c .before .before .before .before in
-    let a = at4 .before .before .before .before .args in
-    said (out-no (a .c) (canon (meaningOf (one (a .text .now)) (a .set))) (length (a .out .now))) (rw (at4 .enum-told .given .1) (c .before .before .write-set .ensures .0), rw (at4 .enum-told .given .1) (c .before .before .write-set .ensures .1 .0))
+    let a = at4 .before .before .before .before .before .args in
+    said (out-no (a .c) (canon (meaningOf (two (a .first .now) (a .second .now)) (a .set))) (length (a .out .now))) (rw (at4 .enum-told .given .1) (c .before .before .write-set .ensures .0), rw (at4 .enum-told .given .1) (c .before .before .write-set .ensures .1 .0))
 
 pub write-out-spec : {M : Type 1} → statement M
 write-out-spec =

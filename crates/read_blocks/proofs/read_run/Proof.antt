@@ -48,6 +48,9 @@ returns c =
       laws.bad-holds (at13 .args .text .now) (at13 .args .at) (at13 .args .base) (at13 .args .join .now) (at9 .join-run .ensures .0) (at9 .join-run .ensures .1 .0) (at5 .enum-told .given .1) g,
     )
 
+in-second-requires : tie.Need-in-second-requires
+in-second-requires c κs = search needs
+
 block-of-requires : tie.Need-block-of-requires
 block-of-requires c κs = search needs
 
@@ -68,14 +71,14 @@ same-length-3 c = search needs
 
 returns-3 : tie.Need-returns-3
 returns-3 c =
-    let start = c .before .before .before in
+    let start = c .before .before .before .before in
     let p = start .before .before in
     let q = p .before .before .before .before in
     let r = q .before .before .before .before in
     let g = laws.good-by _ _ _ (laws.joined-short (r .args .text .now) (r .args .at) (r .args .base) (r .args .join .now) (q .join-run .ensures .0) (q .join-run .ensures .1 .0) (r .pre))
-    (start .fill-chain .ensures .0) (c .before .before .is-unread .ensures) (c .before .if1 .left) in (
+    (start .fill-chain .ensures .0) (c .before .before .before .is-unread .ensures) (c .before .before .if1 .left) in (
       laws.good-read (r .args .text .now) (r .args .at) (r .args .base) (r .args .join .now) (q .join-run .ensures .0) (q .join-run .ensures .1 .0) (p .enum-told .given .1) g (start .fill-chain .ensures .0)
-          (c .block-of .ensures),
+          (c .before .in-second .ensures) (c .block-of .ensures),
       laws.good-holds (r .args .text .now) (r .args .at) (r .args .base) (r .args .join .now) (q .join-run .ensures .0) (q .join-run .ensures .1 .0) (p .enum-told .given .1) g,
     )
 
@@ -94,6 +97,7 @@ read-run-spec =
     no-block-requires-2
     same-length
     returns
+    in-second-requires
     block-of-requires
     same-length-2
     returns-2

@@ -1,3 +1,6 @@
+use Rattle.base_bytes.specs.Bytes.{isLetter, isDigit, within}
+use Rattle.base_letters.specs.Classes.{classOf}
+use Rattle.base_letters.proofs.Rule as rule
 use native.Mathlib.Omega.{arith}
 use Rattle.set_fill.proofs.Whole as whole
 use Rattle.set_table.proofs.Numbers.{said}
@@ -29,20 +32,18 @@ returns-2 c =
     let at4 = c .before .before .before .before in let at5 = at4 .before in let at7 = at5 .before .before in
     let a = (at7 .args) in said (fill-no _ _ _ _) (whole.no-token (a .mode) (a .text .now) (a .at) (a .end) (at5 .too-long .ensures) (at4 .if1 .left) (c .before .before .before .bytes-of .ensures) (c .before .before .blank-end .ensures) (omega (arith, (c .before .if2 .taken))) (c .refusing2 .ensures .0))
 
-empty-requires : tie.Need-empty-requires
-empty-requires c κs = search needs
-
-fill-unless-requires : tie.Need-fill-unless-requires
-fill-unless-requires c κs =
-    let at4 = c .before .before .before .before in let at5 = at4 .before in let at7 = at5 .before .before in
-    let a = (at7 .args) in
-    let short = whole.short (a .mode) (a .text .now) (a .at) (a .end) (at5 .too-long .ensures) (at4 .if1 .left) (c .before .before .before .bytes-of .ensures) in
-    (omega (arith, (c .before .before .blank-end .ensures), (c .before .if2 .left)), omega (arith), omega (arith, short), (c .empty .ensures))
+fill-part-requires : tie.Need-fill-part-requires
+unfolding classOf isLetter isDigit within
+fill-part-requires c κs =
+    let a = (c .before .before .before .before .before .before .before .args) in
+    let short = whole.short (a .mode) (a .text .now) (a .at) (a .end) (c .before .before .before .before .before .too-long .ensures) (c .before .before .before .before .if1 .left) (c .before .before .before .bytes-of .ensures) in
+    (omega (arith, (c .before .before .blank-end .ensures), (c .before .if2 .left)), omega (arith), omega (arith, short), rule.tells)
 
 returns-3 : tie.Need-returns-3
 returns-3 c =
-    let at4 = c .before .before .before .before in let at5 = at4 .before in let at6 = at5 .before in let at8 = at6 .before .before in
-    let a = (at8 .args) in said (fill-no _ _ _ _) (whole.tokens (a .mode) (a .text .now) (a .at) (a .end) (at6 .too-long .ensures) (at5 .if1 .left) (at4 .bytes-of .ensures) (c .before .before .before .blank-end .ensures) (omega (arith, (c .before .before .if2 .left))) (c .fill-unless .ensures))
+    let at4 = c .before .before .before .before .before in let at5 = at4 .before in let at7 = at5 .before .before in
+    let a = (at7 .args) in said (fill-no _ _ _ _) (whole.tokens (a .mode) (a .text .now) (a .at) (a .end) (at5 .too-long .ensures) (at4 .if1 .left)
+    (c .before .before .before .before .bytes-of .ensures) (c .before .before .before .blank-end .ensures) (omega (arith, (c .before .before .if2 .left))) (c .fill-part .ensures))
 
 pub fill-spec : {M : Type 1} → statement M
 fill-spec =
@@ -55,6 +56,5 @@ fill-spec =
     blank-end-requires
     refusing-requires-2
     returns-2
-    empty-requires
-    fill-unless-requires
+    fill-part-requires
     returns-3)

@@ -1,3 +1,6 @@
+use Rattle.base_bytes.specs.Bytes.{isLetter, isDigit, within}
+use Rattle.base_letters.specs.Classes.{classOf}
+use Rattle.base_letters.proofs.Rule as rule
 use native.Mathlib.Omega.{arith}
 use Rattle.base_bytes.specs.declared.Mode.the-variants.{Loose}
 use Rattle.set_fill.proofs.Chains as chains
@@ -38,19 +41,16 @@ refusing-requires-3 c κs = search needs
 enum-known-e : tie.Need-enum-known-e
 enum-known-e c = search needs
 
-add-fill-unless : tie.Need-add-fill-unless
-add-fill-unless c = let z = chains.goes (c .before .before .before .next-block .ensures) (c .before .e .given .1) in omega (arith, z .ahead, z .within)
+add-fill-part : tie.Need-add-fill-part
+add-fill-part c = let z = chains.goes (c .before .before .before .before .next-block .ensures) (c .before .before .e .given .1) in omega (arith, z .ahead, z .within)
 
-empty-requires : tie.Need-empty-requires
-empty-requires c κs = search needs
-
-fill-unless-requires : tie.Need-fill-unless-requires
-fill-unless-requires c κs =
-    let at4 = c .before .before .before .before in let at5 = at4 .before in let at6 = at5 .before in let at7 = at6 .before in let at9 = at7 .before .before in
-    let z = chains.goes (at4 .next-block .ensures) (c .before .before .e .given .1) in
-    let a = (at9 .args) in
-    let short = whole.line-short (a .text .now) (a .from) (a .to) (at7 .too-long .ensures) (at6 .if1 .left) (at5 .bytes-of .ensures) in
-    (omega (arith, z .ahead), omega (arith, z .within), omega (arith, short), (c .empty .ensures))
+fill-part-requires : tie.Need-fill-part-requires
+unfolding classOf isLetter isDigit within
+fill-part-requires c κs =
+    let z = chains.goes (c .before .before .before .before .next-block .ensures) (c .before .before .e .given .1) in
+    let a = (c .before .before .before .before .before .before .before .before .before .args) in
+    let short = whole.line-short (a .text .now) (a .from) (a .to) (c .before .before .before .before .before .before .before .too-long .ensures) (c .before .before .before .before .before .before .if1 .left) (c .before .before .before .before .before .bytes-of .ensures) in
+    (omega (arith, z .ahead), omega (arith, z .within), omega (arith, short), rule.tells)
 
 returns-2 : tie.Need-returns-2
 returns-2 c =
@@ -64,8 +64,9 @@ returns-3 c =
 
 returns-4 : tie.Need-returns-4
 returns-4 c =
-    let at5 = c .before .before .before .before .before in let at6 = at5 .before in let at7 = at6 .before in let at8 = at7 .before in let at10 = at8 .before .before in
-    let a = (at10 .args) in said (chain-no _ _ _ _) (whole.blocks (a .text .now) (a .from) (a .to) (at8 .too-long .ensures) (at7 .if1 .left) (at6 .bytes-of .ensures) (at5 .next-block .ensures) (c .before .before .before .e .given .1) (c .fill-unless .ensures))
+    let at4 = c .before .before .before .before .before in let at5 = at4 .before in let at6 = at5 .before in let at7 = at6 .before in let at9 = at7 .before .before in
+    let a = (at9 .args) in said (chain-no _ _ _ _) (whole.blocks (a .text .now) (a .from) (a .to) (at7 .too-long .ensures) (at6 .if1 .left) (at5 .bytes-of .ensures)
+    (at4 .next-block .ensures) (c .before .before .before .e .given .1) (c .fill-part .ensures))
 
 pub fill-chain-spec : {M : Type 1} → statement M
 fill-chain-spec =
@@ -81,9 +82,8 @@ fill-chain-spec =
     enum-told-2
     refusing-requires-3
     enum-known-e
-    add-fill-unless
-    empty-requires
-    fill-unless-requires
+    add-fill-part
+    fill-part-requires
     returns-2
     returns-3
     returns-4)

@@ -1,4 +1,4 @@
-use mathlib.Core.Path.{sym, _∙_}
+use mathlib.Core.Path.{sym}
 use native.Mathlib.Omega.{arith}
 use Prim.Native.Nat.{_-_}
 use borrow.Author.Needs.{needs}
@@ -14,30 +14,35 @@ use Rattle.set_fill.proofs.fill_part.Statement.{statement}
 use Rattle.set_fill.proofs.fill_part.Tie as tie
 
 abbrev Inv-pushes : tie.InvT-pushes
-Inv-pushes table text w at close mode start set₀ end₀ cur₀ set end cur = fills.Fills (one text) mode w (filledFrom (one text) noRows (chainRest mode w close (tokensAt at))) set end cur
+Inv-pushes table text w at close mode set₀ end₀ cur₀ t27 set end cur = fills.Fills (one text) mode w (filledFrom (one text) noRows (chainRest mode w close (tokensAt at))) set end cur
 
 abbrev μ-pushes : tie.MeasureT-pushes
-μ-pushes table text w at close mode start set₀ end₀ cur₀ set end cur = length w - cur .at
+μ-pushes table text w at close mode set₀ end₀ cur₀ t27 set end cur = length w - cur .at
+
+empty-requires : tie.Need-empty-requires Inv-pushes μ-pushes
+empty-requires c κs = search needs
 
 before-tokens-requires : tie.Need-before-tokens-requires Inv-pushes μ-pushes
 before-tokens-requires c κs = search needs
 
 pushes-holds : tie.Need-pushes-holds Inv-pushes μ-pushes
 pushes-holds c =
-    let p = c .before .before .before in
-    fills.start _ _ _ _ _ (p .pre .0) (p .pre .1) (p .pre .3) (c .before-tokens .ensures)
+    let p = c .before .before .before .before in
+    fills.start _ _ _ _ _ (p .pre .0) (p .pre .1) (c .before .empty .ensures) (c .before-tokens .ensures)
 
 slice-aggregate-next-push : tie.Need-slice-aggregate-next-push Inv-pushes μ-pushes
 slice-aggregate-next-push c = sym (chains.front ((c .before .pushes .inv) .stands))
 
 next-push-requires : tie.Need-next-push-requires Inv-pushes μ-pushes
-next-push-requires c κs = let i = (c .before .pushes .inv) in (i .stands .inside, omega (arith, chains.front (i .stands), i .stands .fits, (c .before .before .before .before .before .pre .2)), c .before .before .before .before .before .pre .4)
+next-push-requires c κs =
+    let start = c .before .before .before .before .before .before in
+    let i = (c .before .pushes .inv) in (i .stands .inside, omega (arith, chains.front (i .stands), i .stands .fits, (start .pre .2)), (start .pre .3))
 
 enum-told : tie.Need-enum-told Inv-pushes μ-pushes
 enum-told c = search needs
 
 block-behind-requires : tie.Need-block-behind-requires Inv-pushes μ-pushes
-block-behind-requires c κs = let at4 = c .before .before .before .before in let at8 = at4 .before .before .before .before in let i = (at4 .pushes .inv) in (i .stands .fits, (at8 .pre .2))
+block-behind-requires c κs = let i = (c .before .before .before .before .pushes .inv) in (i .stands .fits, (c .before .before .before .before .before .before .before .before .before .pre .2))
 
 enum-told-2 : tie.Need-enum-told-2 Inv-pushes μ-pushes
 enum-told-2 c = search needs
@@ -50,19 +55,19 @@ returns c =
 enum-told-3 : tie.Need-enum-told-3 Inv-pushes μ-pushes
 enum-told-3 c = search needs
 
-refused-by-requires : tie.Need-refused-by-requires Inv-pushes μ-pushes
-refused-by-requires c κs = search needs
+refusing-requires : tie.Need-refusing-requires Inv-pushes μ-pushes
+refusing-requires c κs = search needs
 
 returns-2 : tie.Need-returns-2 Inv-pushes μ-pushes
 returns-2 c =
-    let at4 = c .before .before .before .before in let at6 = at4 .before .before in let at8 = at6 .before .before in let at12 = at8 .before .before .before .before in
-    fills.unread (at8 .pushes .inv) (at6 .next-push .ensures) (c .before .before .before .block-behind .ensures) (at4 .enum-told .given .1) (c .before .enum-told3 .given .1) (fills.none (at12 .pre .3) (c .refused-by .ensures))
+    let at4 = c .before .before .before .before in let at6 = at4 .before .before in let at8 = at6 .before .before in
+    fills.unread (at8 .pushes .inv) (at6 .next-push .ensures) (c .before .before .before .block-behind .ensures) (at4 .enum-told .given .1) (c .before .enum-told3 .given .1) (c .refusing .ensures .0)
 
 enum-known-e : tie.Need-enum-known-e Inv-pushes μ-pushes
 enum-known-e c = search needs
 
 add-before-tokens : tie.Need-add-before-tokens Inv-pushes μ-pushes
-add-before-tokens c = let at8 = c .before .before .before .before .before .before .before .before in let at12 = at8 .before .before .before .before in let i = (at8 .pushes .inv) in omega (arith, i .stands .fits, (at12 .pre .2))
+add-before-tokens c = let i = (c .before .before .before .before .before .before .before .before .pushes .inv) in omega (arith, i .stands .fits, (c .before .before .before .before .before .before .before .before .before .before .before .before .before .pre .2))
 
 before-tokens-requires-2 : tie.Need-before-tokens-requires-2 Inv-pushes μ-pushes
 before-tokens-requires-2 c κs = search needs
@@ -80,47 +85,38 @@ pushes-again c =
 enum-told-4 : tie.Need-enum-told-4 Inv-pushes μ-pushes
 enum-told-4 c = search needs
 
-refused-by-requires-2 : tie.Need-refused-by-requires-2 Inv-pushes μ-pushes
-refused-by-requires-2 c κs = search needs
+refusing-requires-2 : tie.Need-refusing-requires-2 Inv-pushes μ-pushes
+refusing-requires-2 c κs = search needs
 
 returns-3 : tie.Need-returns-3 Inv-pushes μ-pushes
-returns-3 c =
-    let at5 = c .before .before .before .before .before in let at9 = at5 .before .before .before .before in
-    fills.bad (at5 .pushes .inv) (c .before .before .before .next-push .ensures) (c .before .enum-told4 .given .1) (fills.none (at9 .pre .3) (c .refused-by2 .ensures))
+returns-3 c = fills.bad (c .before .before .before .before .before .pushes .inv) (c .before .before .before .next-push .ensures) (c .before .enum-told4 .given .1) (c .refusing2 .ensures .0)
 
 enum-known-v : tie.Need-enum-known-v Inv-pushes μ-pushes
 enum-known-v c = search needs
 
-is-given-requires : tie.Need-is-given-requires Inv-pushes μ-pushes
-is-given-requires c κs = search needs
-
 pushes-less-2 : tie.Need-pushes-less-2 Inv-pushes μ-pushes
-pushes-less-2 c = let at4 = c .before .before .before .before in let at6 = at4 .before .before in let at8 = at6 .before .before in chains.less ((at8 .pushes .inv) .stands) (walk.id-gives (at6 .next-push .ensures) (at4 .v .given .1))
+pushes-less-2 c = chains.less ((c .before .before .before .before .before .before .pushes .inv) .stands) (walk.id-gives (c .before .before .before .before .next-push .ensures) (c .before .before .v .given .1))
 
 pushes-again-2 : tie.Need-pushes-again-2 Inv-pushes μ-pushes
-pushes-again-2 c =
-    let at4 = c .before .before .before .before in let at6 = at4 .before .before in let at8 = at6 .before .before in
-    let i = (at8 .pushes .inv) in fills.next i (walk.id-gives (at6 .next-push .ensures) (at4 .v .given .1)) (holding.id-again (i .holds) _ _ (sym (c .before .is-given .ensures) ∙ (c .if1 .taken)))
+pushes-again-2 c = let i = (c .before .before .before .before .before .before .pushes .inv) in fills.next i (walk.id-gives (c .before .before .before .before .next-push .ensures) (c .before .before .v .given .1)) (holding.id-again (i .holds) _ _ (c .if1 .taken))
 
 cast-p : tie.Need-cast-p Inv-pushes μ-pushes
-cast-p c = let i = (c .before .before .before .before .before .before .before .before .pushes .inv) in omega (arith, holding.few (i .holds))
+cast-p c = let i = (c .before .before .before .before .before .before .pushes .inv) in omega (arith, holding.few (i .holds))
 
-mul-t44 : tie.Need-mul-t44 Inv-pushes μ-pushes
-mul-t44 c = let i = (c .before .before .before .before .before .before .before .before .pushes .inv) in omega (arith, holding.few (i .holds))
+mul-t42 : tie.Need-mul-t42 Inv-pushes μ-pushes
+mul-t42 c = let i = (c .before .before .before .before .before .before .pushes .inv) in omega (arith, holding.few (i .holds))
 
 element-set-from-set : tie.Need-element-set-from-set Inv-pushes μ-pushes
-element-set-from-set c = let i = (c .before .before .before .before .before .before .before .before .pushes .inv) in omega (arith, holding.room-id (i .holds) (sym (c .before .is-given .ensures) ∙ (c .if1 .left)))
+element-set-from-set c = let i = (c .before .before .before .before .before .before .pushes .inv) in omega (arith, holding.room-id (i .holds) (c .if1 .left))
 
 add-set : tie.Need-add-set Inv-pushes μ-pushes
-add-set c = let i = (c .before .before .before .before .before .before .before .before .pushes .inv) in omega (arith, holding.few (i .holds))
+add-set c = let i = (c .before .before .before .before .before .before .pushes .inv) in omega (arith, holding.few (i .holds))
 
 pushes-less-3 : tie.Need-pushes-less-3 Inv-pushes μ-pushes
-pushes-less-3 c = let at4 = c .before .before .before .before in let at6 = at4 .before .before in let at8 = at6 .before .before in chains.less ((at8 .pushes .inv) .stands) (walk.id-gives (at6 .next-push .ensures) (at4 .v .given .1))
+pushes-less-3 c = chains.less ((c .before .before .before .before .before .before .pushes .inv) .stands) (walk.id-gives (c .before .before .before .before .next-push .ensures) (c .before .before .v .given .1))
 
 pushes-again-3 : tie.Need-pushes-again-3 Inv-pushes μ-pushes
-pushes-again-3 c =
-    let at4 = c .before .before .before .before in let at6 = at4 .before .before in let at8 = at6 .before .before in
-    let i = (at8 .pushes .inv) in fills.next i (walk.id-gives (at6 .next-push .ensures) (at4 .v .given .1)) (holding.id-first (i .holds) _ _ (sym (c .before .is-given .ensures) ∙ (c .if1 .left)))
+pushes-again-3 c = let i = (c .before .before .before .before .before .before .pushes .inv) in fills.next i (walk.id-gives (c .before .before .before .before .next-push .ensures) (c .before .before .v .given .1)) (holding.id-first (i .holds) _ _ (c .if1 .left))
 
 enum-known-v-2 : tie.Need-enum-known-v-2 Inv-pushes μ-pushes
 enum-known-v-2 c = search needs
@@ -133,16 +129,17 @@ add-passed-limit c = let i = (c .before .before .before .before .before .before 
 
 passed-limit-requires : tie.Need-passed-limit-requires Inv-pushes μ-pushes
 passed-limit-requires c κs =
-    let at4 = c .before .before .before .before in let at6 = at4 .before .before in let at10 = at6 .before .before .before .before in
-    let i = (at6 .pushes .inv) in (walk.class-gives (at4 .next-push .ensures) (c .before .before .v2 .given .1) .inside, i .stands .fits, (at10 .pre .2), omega (arith, holding.few (i .holds)), (at10 .pre .4))
+    let start = c .before .before .before .before .before .before .before .before .before .before .before in
+    let i = (c .before .before .before .before .before .before .pushes .inv) in (walk.class-gives (c .before .before .before .before .next-push .ensures) (c .before .before .v2 .given .1) .inside, i .stands .fits, (start .pre .2), omega (arith, holding.few (i .holds)), (start .pre .3))
 
-refused-by-requires-3 : tie.Need-refused-by-requires-3 Inv-pushes μ-pushes
-refused-by-requires-3 c κs = search needs
+refusing-requires-3 : tie.Need-refusing-requires-3 Inv-pushes μ-pushes
+refusing-requires-3 c κs = search needs
 
 returns-4 : tie.Need-returns-4 Inv-pushes μ-pushes
 returns-4 c =
-    let at4 = c .before .before .before .before in let at6 = at4 .before .before in let at8 = at6 .before .before in let at12 = at8 .before .before .before .before in
-    fills.class-over (at8 .pushes .inv) (walk.class-gives (at6 .next-push .ensures) (at4 .v2 .given .1)) (omega (arith, (c .before .before .if2 .taken))) (c .before .passed-limit .ensures) (fills.none (at12 .pre .3) (c .refused-by3 .ensures))
+    let at4 = c .before .before .before .before in let at6 = at4 .before .before in let at8 = at6 .before .before in
+    fills.class-over (at8 .pushes .inv) (walk.class-gives (at6 .next-push .ensures) (at4 .v2 .given .1)) (omega (arith, (c .before .before .if2 .taken))) (c .before .passed-limit .ensures)
+    (c .refusing3 .ensures .0)
 
 mul-v : tie.Need-mul-v Inv-pushes μ-pushes
 mul-v c = search needs
@@ -164,8 +161,8 @@ pushes-again-4 c =
 cast-p-2 : tie.Need-cast-p-2 Inv-pushes μ-pushes
 cast-p-2 c = let i = (c .before .before .before .before .before .before .before .pushes .inv) in omega (arith, holding.few (i .holds))
 
-mul-t52 : tie.Need-mul-t52 Inv-pushes μ-pushes
-mul-t52 c = let i = (c .before .before .before .before .before .before .before .pushes .inv) in omega (arith, holding.few (i .holds))
+mul-t50 : tie.Need-mul-t50 Inv-pushes μ-pushes
+mul-t50 c = let i = (c .before .before .before .before .before .before .before .pushes .inv) in omega (arith, holding.few (i .holds))
 
 element-set-from-set-2 : tie.Need-element-set-from-set-2 Inv-pushes μ-pushes
 element-set-from-set-2 c = let i = (c .before .before .before .before .before .before .before .pushes .inv) in omega (arith, holding.room-class (i .holds) (omega (arith, (c .if3 .left))))
@@ -187,74 +184,83 @@ enum-known-name c = search needs
 cast-n-2 : tie.Need-cast-n-2 Inv-pushes μ-pushes
 cast-n-2 c = let i = (c .before .before .before .before .before .pushes .inv) in omega (arith, holding.few (i .holds))
 
+slice-aggregate-find-key : tie.Need-slice-aggregate-find-key Inv-pushes μ-pushes
+slice-aggregate-find-key c = search needs
+
 find-key-requires : tie.Need-find-key-requires Inv-pushes μ-pushes
 find-key-requires c κs = search needs
 
 mul-row : tie.Need-mul-row Inv-pushes μ-pushes
-mul-row c = let i = (c .before .before .before .before .before .before .before .before .pushes .inv) in omega (arith, holding.few (i .holds), holding.key-within (i .holds) _ _ (c .before .find-key .ensures))
+mul-row c = let i = (c .before .before .before .before .before .before .before .before .before .pushes .inv) in omega (arith, holding.few (i .holds), holding.key-within (i .holds) _ _ (c .before .find-key .ensures))
 
 element-copy-out-row : tie.Need-element-copy-out-row Inv-pushes μ-pushes
-element-copy-out-row c = let i = (c .before .before .before .before .before .before .before .before .pushes .inv) in omega (arith, holding.few (i .holds), holding.key-within (i .holds) _ _ (c .before .find-key .ensures))
+element-copy-out-row c = let i = (c .before .before .before .before .before .before .before .before .before .pushes .inv) in omega (arith, holding.few (i .holds), holding.key-within (i .holds) _ _ (c .before .find-key .ensures))
 
 mul-row-2 : tie.Need-mul-row-2 Inv-pushes μ-pushes
-mul-row-2 c = let i = (c .before .before .before .before .before .before .before .before .before .pushes .inv) in omega (arith, holding.few (i .holds), holding.key-within (i .holds) _ _ (c .before .before .find-key .ensures))
+mul-row-2 c = let i = (c .before .before .before .before .before .before .before .before .before .before .pushes .inv) in omega (arith, holding.few (i .holds), holding.key-within (i .holds) _ _ (c .before .before .find-key .ensures))
 
 element-set-from-row : tie.Need-element-set-from-row Inv-pushes μ-pushes
-element-set-from-row c = let i = (c .before .before .before .before .before .before .before .before .before .pushes .inv) in omega (arith, holding.few (i .holds), holding.key-within (i .holds) _ _ (c .before .before .find-key .ensures))
+element-set-from-row c = let i = (c .before .before .before .before .before .before .before .before .before .before .pushes .inv) in omega (arith, holding.few (i .holds), holding.key-within (i .holds) _ _ (c .before .before .find-key .ensures))
 
 pushes-less-6 : tie.Need-pushes-less-6 Inv-pushes μ-pushes
-pushes-less-6 c = let at5 = c .before .before .before .before .before in let at7 = at5 .before .before in let at9 = at7 .before .before in chains.less ((at9 .pushes .inv) .stands) (walk.key-gives (at7 .next-push .ensures) (at5 .name .given .1))
+pushes-less-6 c =
+    let at6 = c .before .before .before .before .before .before in let at8 = at6 .before .before in let at10 = at8 .before .before in
+    chains.less ((at10 .pushes .inv) .stands) (walk.key-gives (at8 .next-push .ensures) (at6 .name .given .1))
 
 pushes-again-6 : tie.Need-pushes-again-6 Inv-pushes μ-pushes
 pushes-again-6 c =
-    let at5 = c .before .before .before .before .before in let at7 = at5 .before .before in let at9 = at7 .before .before in
-    let i = (at9 .pushes .inv) in fills.next i (walk.key-gives (at7 .next-push .ensures) (at5 .name .given .1)) (holding.key-again (i .holds) _ _ _ (c .before .before .find-key .ensures) (omega (arith, (c .before .if4 .taken))))
+    let at6 = c .before .before .before .before .before .before in let at8 = at6 .before .before in let at10 = at8 .before .before in
+    let i = (at10 .pushes .inv) in fills.next i (walk.key-gives (at8 .next-push .ensures) (at6 .name .given .1)) (holding.key-again (i .holds) _ _ _ (c .before .before .find-key .ensures)
+    (omega (arith, (c .before .if4 .taken))))
 
 cast-passed-limit : tie.Need-cast-passed-limit Inv-pushes μ-pushes
-cast-passed-limit c = let i = (c .before .before .before .before .before .before .before .before .before .pushes .inv) in omega (arith, holding.few (i .holds))
+cast-passed-limit c = let i = (c .before .before .before .before .before .before .before .before .before .before .pushes .inv) in omega (arith, holding.few (i .holds))
 
 passed-limit-requires-2 : tie.Need-passed-limit-requires-2 Inv-pushes μ-pushes
 passed-limit-requires-2 c κs =
-    let at5 = c .before .before .before .before .before in let at7 = at5 .before .before in let at9 = at7 .before .before in let at13 = at9 .before .before .before .before in
-    let i = (at9 .pushes .inv) in (walk.key-gives (at7 .next-push .ensures) (at5 .name .given .1) .inside, i .stands .fits, (at13 .pre .2), omega (arith, holding.few (i .holds)), (at13 .pre .4))
+    let start = c .before .before .before .before .before .before .before .before .before .before .before .before .before .before .before in
+    let i = (c .before .before .before .before .before .before .before .before .before .before .pushes .inv) in (walk.key-gives (c .before .before .before .before .before .before .before .before .next-push .ensures) (c .before .before .before .before .before .before .name .given .1) .inside, i .stands .fits, (start .pre .2), omega (arith, holding.few (i .holds)), (start .pre .3))
 
-refused-by-requires-4 : tie.Need-refused-by-requires-4 Inv-pushes μ-pushes
-refused-by-requires-4 c κs = search needs
+refusing-requires-4 : tie.Need-refusing-requires-4 Inv-pushes μ-pushes
+refusing-requires-4 c κs = search needs
 
 returns-5 : tie.Need-returns-5 Inv-pushes μ-pushes
 returns-5 c =
-    let at4 = c .before .before .before .before in let at7 = at4 .before .before .before in let at9 = at7 .before .before in let at11 = at9 .before .before in
-    let at15 = at11 .before .before .before .before in
-    fills.key-over (at11 .pushes .inv) (walk.key-gives (at9 .next-push .ensures) (at7 .name .given .1)) (at4 .find-key .ensures) (omega (arith, (c .before .before .before .if4 .left))) (omega (arith, (c .before .before .if5 .taken))) (c .before .passed-limit2 .ensures) (fills.none (at15 .pre .3) (c .refused-by4 .ensures))
+    let at4 = c .before .before .before .before in let at8 = at4 .before .before .before .before in let at10 = at8 .before .before in let at12 = at10 .before .before in
+    fills.key-over (at12 .pushes .inv) (walk.key-gives (at10 .next-push .ensures) (at8 .name .given .1)) (at4 .find-key .ensures) (omega (arith, (c .before .before .before .if4 .left)))
+    (omega (arith, (c .before .before .if5 .taken))) (c .before .passed-limit2 .ensures) (c .refusing4 .ensures .0)
 
 cast-p-3 : tie.Need-cast-p-3 Inv-pushes μ-pushes
-cast-p-3 c = let i = (c .before .before .before .before .before .before .before .before .before .pushes .inv) in omega (arith, holding.few (i .holds))
+cast-p-3 c = let i = (c .before .before .before .before .before .before .before .before .before .before .pushes .inv) in omega (arith, holding.few (i .holds))
 
 mul-t72 : tie.Need-mul-t72 Inv-pushes μ-pushes
-mul-t72 c = let i = (c .before .before .before .before .before .before .before .before .before .pushes .inv) in omega (arith, holding.few (i .holds))
+mul-t72 c = let i = (c .before .before .before .before .before .before .before .before .before .before .pushes .inv) in omega (arith, holding.few (i .holds))
 
 element-set-from-set-3 : tie.Need-element-set-from-set-3 Inv-pushes μ-pushes
-element-set-from-set-3 c = let i = (c .before .before .before .before .before .before .before .before .before .pushes .inv) in omega (arith, holding.room-key (i .holds) (omega (arith, (c .if5 .left))))
+element-set-from-set-3 c = let i = (c .before .before .before .before .before .before .before .before .before .before .pushes .inv) in omega (arith, holding.room-key (i .holds) (omega (arith, (c .if5 .left))))
 
 mul-t72-2 : tie.Need-mul-t72-2 Inv-pushes μ-pushes
-mul-t72-2 c = let i = (c .before .before .before .before .before .before .before .before .before .pushes .inv) in omega (arith, holding.few (i .holds))
+mul-t72-2 c = let i = (c .before .before .before .before .before .before .before .before .before .before .pushes .inv) in omega (arith, holding.few (i .holds))
 
 element-set-from-set-4 : tie.Need-element-set-from-set-4 Inv-pushes μ-pushes
-element-set-from-set-4 c = let i = (c .before .before .before .before .before .before .before .before .before .pushes .inv) in omega (arith, holding.room-key (i .holds) (omega (arith, (c .if5 .left))))
+element-set-from-set-4 c = let i = (c .before .before .before .before .before .before .before .before .before .before .pushes .inv) in omega (arith, holding.room-key (i .holds) (omega (arith, (c .if5 .left))))
 
 add-set-4 : tie.Need-add-set-4 Inv-pushes μ-pushes
-add-set-4 c = let i = (c .before .before .before .before .before .before .before .before .before .pushes .inv) in omega (arith, holding.few (i .holds))
+add-set-4 c = let i = (c .before .before .before .before .before .before .before .before .before .before .pushes .inv) in omega (arith, holding.few (i .holds))
 
 add-set-5 : tie.Need-add-set-5 Inv-pushes μ-pushes
-add-set-5 c = let i = (c .before .before .before .before .before .before .before .before .before .pushes .inv) in omega (arith, holding.few (i .holds))
+add-set-5 c = let i = (c .before .before .before .before .before .before .before .before .before .before .pushes .inv) in omega (arith, holding.few (i .holds))
 
 pushes-less-7 : tie.Need-pushes-less-7 Inv-pushes μ-pushes
-pushes-less-7 c = let at5 = c .before .before .before .before .before in let at7 = at5 .before .before in let at9 = at7 .before .before in chains.less ((at9 .pushes .inv) .stands) (walk.key-gives (at7 .next-push .ensures) (at5 .name .given .1))
+pushes-less-7 c =
+    let at6 = c .before .before .before .before .before .before in let at8 = at6 .before .before in let at10 = at8 .before .before in
+    chains.less ((at10 .pushes .inv) .stands) (walk.key-gives (at8 .next-push .ensures) (at6 .name .given .1))
 
 pushes-again-7 : tie.Need-pushes-again-7 Inv-pushes μ-pushes
 pushes-again-7 c =
-    let at5 = c .before .before .before .before .before in let at7 = at5 .before .before in let at9 = at7 .before .before in
-    let i = (at9 .pushes .inv) in fills.next i (walk.key-gives (at7 .next-push .ensures) (at5 .name .given .1)) (holding.key-first (i .holds) _ _ _ (c .before .before .find-key .ensures) (omega (arith, (c .before .if4 .left))) (omega (arith, (c .if5 .left))))
+    let at6 = c .before .before .before .before .before .before in let at8 = at6 .before .before in let at10 = at8 .before .before in
+    let i = (at10 .pushes .inv) in fills.next i (walk.key-gives (at8 .next-push .ensures) (at6 .name .given .1)) (holding.key-first (i .holds) _ _ _ (c .before .before .find-key .ensures)
+    (omega (arith, (c .before .if4 .left))) (omega (arith, (c .if5 .left))))
 
 pub fill-part-spec : {M : Type 1} → statement M
 fill-part-spec =
@@ -262,6 +268,7 @@ fill-part-spec =
     (tie.spec
     Inv-pushes
     μ-pushes
+    empty-requires
     before-tokens-requires
     pushes-holds
     slice-aggregate-next-push
@@ -271,7 +278,7 @@ fill-part-spec =
     enum-told-2
     returns
     enum-told-3
-    refused-by-requires
+    refusing-requires
     returns-2
     enum-known-e
     add-before-tokens
@@ -279,14 +286,13 @@ fill-part-spec =
     pushes-less
     pushes-again
     enum-told-4
-    refused-by-requires-2
+    refusing-requires-2
     returns-3
     enum-known-v
-    is-given-requires
     pushes-less-2
     pushes-again-2
     cast-p
-    mul-t44
+    mul-t42
     element-set-from-set
     add-set
     pushes-less-3
@@ -295,7 +301,7 @@ fill-part-spec =
     cast-n
     add-passed-limit
     passed-limit-requires
-    refused-by-requires-3
+    refusing-requires-3
     returns-4
     mul-v
     element-set-from-v
@@ -303,13 +309,14 @@ fill-part-spec =
     pushes-less-4
     pushes-again-4
     cast-p-2
-    mul-t52
+    mul-t50
     element-set-from-set-2
     add-set-3
     pushes-less-5
     pushes-again-5
     enum-known-name
     cast-n-2
+    slice-aggregate-find-key
     find-key-requires
     mul-row
     element-copy-out-row
@@ -319,7 +326,7 @@ fill-part-spec =
     pushes-again-6
     cast-passed-limit
     passed-limit-requires-2
-    refused-by-requires-4
+    refusing-requires-4
     returns-5
     cast-p-3
     mul-t72

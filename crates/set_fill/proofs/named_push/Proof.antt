@@ -44,11 +44,11 @@ returns-2 c =
     let at4 = c .before .before .before .before in let at5 = at4 .before in let at9 = at5 .before .before .before .before in
     λ m. walk.named-class m (at9 .pre .0) (at9 .pre .1) (at9 .pre .2) (at9 .pre .3) (sym (at5 .same-bytes .ensures) ∙ (at4 .if1 .left)) (sym (c .before .before .same-bytes2 .ensures) ∙ (c .before .if2 .taken)) (c .first-piece .ensures m)
 
-cast-t20 : tie.Need-cast-t20
-cast-t20 c = search needs
-
 cast-t21 : tie.Need-cast-t21
 cast-t21 c = search needs
+
+cast-t22 : tie.Need-cast-t22
+cast-t22 c = search needs
 
 value-of-requires-2 : tie.Need-value-of-requires-2
 value-of-requires-2 c κs = search needs
@@ -77,8 +77,8 @@ named-push-spec =
     same-bytes-requires-2
     first-piece-requires
     returns-2
-    cast-t20
     cast-t21
+    cast-t22
     value-of-requires-2
     before-tokens-requires-2
     returns-3)

@@ -5,20 +5,20 @@ use Rattle.set_fill.proofs.value_of.Tie as tie
 enum-told : tie.Need-enum-told
 enum-told c = search needs
 
-cast-t5 : tie.Need-cast-t5
-cast-t5 c = search needs
-
 cast-t6 : tie.Need-cast-t6
 cast-t6 c = search needs
+
+cast-t7 : tie.Need-cast-t7
+cast-t7 c = search needs
 
 enum-told-2 : tie.Need-enum-told-2
 enum-told-2 c = search needs
 
-cast-t8 : tie.Need-cast-t8
-cast-t8 c = search needs
+cast-t10 : tie.Need-cast-t10
+cast-t10 c = search needs
 
-cast-t9 : tie.Need-cast-t9
-cast-t9 c = search needs
+cast-t11 : tie.Need-cast-t11
+cast-t11 c = search needs
 
 enum-told-3 : tie.Need-enum-told-3
 enum-told-3 c = search needs
@@ -37,11 +37,11 @@ value-of-spec =
     tie.close
     (tie.spec
     enum-told
-    cast-t5
     cast-t6
+    cast-t7
     enum-told-2
-    cast-t8
-    cast-t9
+    cast-t10
+    cast-t11
     enum-told-3
     returns
     returns-2

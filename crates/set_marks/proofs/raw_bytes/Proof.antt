@@ -10,26 +10,26 @@ use Rattle.set_marks.proofs.raw_bytes.Tie as tie
 enum-known-v : tie.Need-enum-known-v
 enum-known-v c = search needs
 
-cast-bytes-of : tie.Need-cast-bytes-of
-cast-bytes-of c = search needs
+cast-range-of : tie.Need-cast-range-of
+cast-range-of c = search needs
 
-cast-bytes-of-2 : tie.Need-cast-bytes-of-2
-cast-bytes-of-2 c = search needs
+cast-range-of-2 : tie.Need-cast-range-of-2
+cast-range-of-2 c = search needs
 
-bytes-of-requires : tie.Need-bytes-of-requires
-bytes-of-requires c κs = search needs
+range-of-requires : tie.Need-range-of-requires
+range-of-requires c κs = search needs
 
 enum-known-v-2 : tie.Need-enum-known-v-2
 enum-known-v-2 c = search needs
 
-cast-bytes-of-3 : tie.Need-cast-bytes-of-3
-cast-bytes-of-3 c = search needs
+cast-range-of-3 : tie.Need-cast-range-of-3
+cast-range-of-3 c = search needs
 
-cast-bytes-of-4 : tie.Need-cast-bytes-of-4
-cast-bytes-of-4 c = search needs
+cast-range-of-4 : tie.Need-cast-range-of-4
+cast-range-of-4 c = search needs
 
-bytes-of-requires-2 : tie.Need-bytes-of-requires-2
-bytes-of-requires-2 c κs = search needs
+range-of-requires-2 : tie.Need-range-of-requires-2
+range-of-requires-2 c κs = search needs
 
 enum-told : tie.Need-enum-told
 enum-told c = search needs
@@ -45,11 +45,11 @@ part-result-end c = search needs
 
 returns : tie.Need-returns
 unfolding rawBytes
-returns c = (rw ((c .before .before .v .given .1)) ((c .bytes-of .ensures)), values.range-fits _ _ _ ((c .bytes-of .ensures)) (omega (arith, (c .before .known-told .given))))
+returns c = (rw ((c .before .before .v .given .1)) ((c .range-of .ensures)), values.range-fits _ _ _ _ ((c .range-of .ensures)) (omega (arith, (c .before .known-told .given))))
 
 returns-2 : tie.Need-returns-2
 unfolding rawBytes
-returns-2 c = (rw ((c .before .before .v2 .given .1)) ((c .bytes-of2 .ensures)), values.range-fits _ ((c .before .before .v2 .given .0 .0)) ((c .before .before .v2 .given .0 .1 .0)) ((c .bytes-of2 .ensures)) (omega (arith, (c .before .known-told2 .given))))
+returns-2 c = (rw ((c .before .before .v2 .given .1)) ((c .range-of2 .ensures)), values.range-fits _ _ _ _ ((c .range-of2 .ensures)) (omega (arith, (c .before .known-told2 .given))))
 
 returns-3 : tie.Need-returns-3
 unfolding rawBytes
@@ -60,13 +60,13 @@ raw-bytes-spec =
     tie.close
     (tie.spec
     enum-known-v
-    cast-bytes-of
-    cast-bytes-of-2
-    bytes-of-requires
+    cast-range-of
+    cast-range-of-2
+    range-of-requires
     enum-known-v-2
-    cast-bytes-of-3
-    cast-bytes-of-4
-    bytes-of-requires-2
+    cast-range-of-3
+    cast-range-of-4
+    range-of-requires-2
     enum-told
     sub-result
     part-result-start

@@ -22,10 +22,16 @@ cast-first-slots c = search needs
 first-slots-requires : tie.Need-first-slots-requires
 first-slots-requires c κs = search needs
 
+first-id-requires : tie.Need-first-id-requires
+first-id-requires c κs = search needs
+
 returns : tie.Need-returns
 returns c =
-    let at4 = c .before .before .before .before in let at10 = at4 .before .before .before .before .before .before in
-    rw ((at4 .first-classes .ensures), (c .before .before .first-keys .ensures), (c .first-slots .ensures)) (fronts.cleaned-is _ (simp length-map at (at10 .good .0 .1 .1 .1 .0 .1 .0 .1)) (simp length-map at (at10 .good .0 .1 .1 .1 .1 .1 .0 .1 .0 .1)) (simp length-map at (at10 .good .0 .1 .1 .1 .1 .1 .1 .1 .0 .1 .0 .1)) (at10 .pre))
+    let start = c .before .before .before .before .before .before .before .before .before .before .before in
+    rw ((c .before .before .before .before .before .first-classes .ensures), (c .before .before .before .first-keys .ensures), (c .before .first-slots .ensures), (c .first-id .ensures))
+    (fronts.cleaned-is _ (simp length-map at (start .good .0 .1 .1 .1 .1 .1 .1 .1 .0 .1 .0 .1))
+    (simp length-map at (start .good .0 .1 .1 .1 .1 .1 .1 .1 .1 .0 .1 .0 .1))
+    (simp length-map at (start .good .0 .1 .1 .1 .1 .1 .1 .1 .1 .1 .0 .1 .0 .1)) (start .pre))
 
 pub cleaned-spec : {M : Type 1} → statement M
 cleaned-spec =
@@ -37,4 +43,5 @@ cleaned-spec =
     first-keys-requires
     cast-first-slots
     first-slots-requires
+    first-id-requires
     returns)

@@ -3,16 +3,16 @@ use Prim.Native.Nat.{_-_}
 use borrow.Author.Needs.{needs}
 use borrow.Author.Tests.{not-true, not-false}
 use lib.ListN.{length-map}
-use Rattle.set_table.specs.Types.{one}
+use Rattle.set_table.specs.Types.{two}
 use Rattle.set_merge.proofs.Rest as rest
 use Rattle.set_merge.proofs.merge_rows.Statement.{statement}
 use Rattle.set_merge.proofs.merge_rows.Tie as tie
 
 abbrev Inv-loop : tie.InvT-loop
-Inv-loop text b n set₀ i₀ set i = rest.Merges (one text) set₀ b set i
+Inv-loop first second b n set₀ i₀ set i = rest.Merges (two first second) set₀ b set i
 
 abbrev μ-loop : tie.MeasureT-loop
-μ-loop text b n set₀ i₀ set i = n - i
+μ-loop first second b n set₀ i₀ set i = n - i
 
 cast-if1 : tie.Need-cast-if1 Inv-loop μ-loop
 cast-if1 c = search needs
@@ -27,48 +27,52 @@ refusing-requires : tie.Need-refusing-requires Inv-loop μ-loop
 refusing-requires c κs = search needs
 
 returns : tie.Need-returns Inv-loop μ-loop
-returns c = let at4 = c .before .before .before .before in rest.over-classes _ ((at4 .pre) .0) ((at4 .pre) .1) (simp length-map at ((at4 .good) .1 .1 .0 .1 .1 .1 .0 .1 .0 .1)) (c .before .if1 .taken) (c .refusing .ensures .0)
+returns c =
+    let start = c .before .before .before .before .before in
+    rest.over-classes _ ((start .pre) .0) ((start .pre) .1) (simp length-map at ((start .good) .1 .1 .1 .0 .1 .1 .1 .1 .1 .1 .1 .0 .1 .0 .1)) (c .before .if1 .taken) (c .refusing .ensures .0)
 
 cast-n : tie.Need-cast-n Inv-loop μ-loop
 cast-n c = search needs
 
 loop-holds : tie.Need-loop-holds Inv-loop μ-loop
 loop-holds c =
-    let p = c .before .before .before in
-    rest.start _ ((p .pre) .0) ((p .pre) .1) (simp length-map at ((p .good) .1 .1 .0 .1 .1 .1 .0 .1 .0 .1)) (c .if1 .left)
+    let p = c .before .before .before .before in
+    rest.start _ ((p .pre) .0) ((p .pre) .1) (simp length-map at ((p .good) .1 .1 .1 .0 .1 .1 .1 .1 .1 .1 .1 .0 .1 .0 .1)) (c .if1 .left)
 
 mul-place : tie.Need-mul-place Inv-loop μ-loop
-mul-place c = omega (arith, (c .before .before .before .before .before .pre) .1 .norder)
+mul-place c = omega (arith, (c .before .before .before .before .before .before .pre) .1 .norder)
 
 element-copy-out-place : tie.Need-element-copy-out-place Inv-loop μ-loop
-element-copy-out-place c = omega (arith, (c .before .before .before .before .before .pre) .1 .norder)
+element-copy-out-place c = omega (arith, (c .before .before .before .before .before .before .pre) .1 .norder)
 
 put-slot-requires : tie.Need-put-slot-requires Inv-loop μ-loop
 put-slot-requires c κs =
-    let at6 = c .before .before .before .before .before .before in
-    ((c .before .before .loop .inv .held), rest.present (c .before .before .loop .inv) ((at6 .pre) .1) (simp length-map at ((at6 .good) .1 .1 .0 .1 .1 .1 .1 .1 .1 .1 .0 .1 .0 .1)) (c .before .loop-test .taken) (simp length-map at ((at6 .good) .1 .1 .0 .1 .1 .1 .0 .1 .0 .1)) (simp length-map at ((at6 .good) .1 .1 .0 .1 .1 .1 .1 .1 .0 .1 .0 .1)))
+    let start = c .before .before .before .before .before .before .before in
+    ((c .before .before .loop .inv .held), rest.present (c .before .before .loop .inv) ((start .pre) .1) (simp length-map at ((start .good) .1 .1 .1 .0 .1 .1 .1 .1 .1 .1 .1 .1 .1 .0 .1 .0 .1)) (c .before .loop-test .taken) (simp length-map at ((start .good) .1 .1 .1 .0 .1 .1 .1 .1 .1 .1 .1 .0 .1 .0 .1)) (simp length-map at ((start .good) .1 .1 .1 .0 .1 .1 .1 .1 .1 .1 .1 .1 .0 .1 .0 .1)))
 
 refusing-requires-2 : tie.Need-refusing-requires-2 Inv-loop μ-loop
 refusing-requires-2 c κs = search needs
 
 returns-2 : tie.Need-returns-2 Inv-loop μ-loop
 returns-2 c =
-    let at5 = c .before .before .before .before .before in let at6 = at5 .before in let at10 = at6 .before .before .before .before in
-    rest.over-keys (at6 .loop .inv) ((at10 .pre) .1) (simp length-map at ((at10 .good) .1 .1 .0 .1 .1 .1 .1 .1 .1 .1 .0 .1 .0 .1)) (at5 .loop-test .taken) (c .before .before .before .put-slot .ensures) (not-true _ (c .before .if2 .taken)) (c .refusing2 .ensures .0)
+    let start = c .before .before .before .before .before .before .before .before .before .before .before in
+    rest.over-keys (c .before .before .before .before .before .before .loop .inv) ((start .pre) .1) (simp length-map at ((start .good) .1 .1 .1 .0 .1 .1 .1 .1 .1 .1 .1 .1 .1 .0 .1 .0 .1)) (c .before .before .before .before .before .loop-test .taken) (c .before .before .before .put-slot .ensures) (not-true _ (c .before .if2 .taken)) (c .refusing2 .ensures .0)
 
 add-i : tie.Need-add-i Inv-loop μ-loop
-add-i c = omega (arith, (c .before .before .before .before .before .before .before .before .before .before .pre) .1 .norder)
+add-i c = omega (arith, (c .before .before .before .before .before .before .before .before .before .before .before .pre) .1 .norder)
 
 loop-less : tie.Need-loop-less Inv-loop μ-loop
 loop-less c = search needs
 
 loop-again : tie.Need-loop-again Inv-loop μ-loop
 loop-again c =
-    let at5 = c .before .before .before .before .before in let at6 = at5 .before in let at10 = at6 .before .before .before .before in
-    rest.next (at6 .loop .inv) ((at10 .pre) .1) (simp length-map at ((at10 .good) .1 .1 .0 .1 .1 .1 .1 .1 .1 .1 .0 .1 .0 .1)) (at5 .loop-test .taken) (c .before .before .before .put-slot .ensures) (not-false _ (c .before .if2 .left))
+    let start = c .before .before .before .before .before .before .before .before .before .before .before in
+    rest.next (c .before .before .before .before .before .before .loop .inv) ((start .pre) .1) (simp length-map at ((start .good) .1 .1 .1 .0 .1 .1 .1 .1 .1 .1 .1 .1 .1 .0 .1 .0 .1)) (c .before .before .before .before .before .loop-test .taken) (c .before .before .before .put-slot .ensures) (not-false _ (c .before .if2 .left))
 
 returns-3 : tie.Need-returns-3 Inv-loop μ-loop
-returns-3 c = let at5 = c .before .before .before .before .before in rest.end (c .before .loop .inv) (simp length-map at ((at5 .good) .1 .1 .0 .1 .1 .1 .1 .1 .1 .1 .0 .1 .0 .1)) ((at5 .pre) .1 .norder) (omega arith)
+returns-3 c =
+    let start = c .before .before .before .before .before .before in
+    rest.end (c .before .loop .inv) (simp length-map at ((start .good) .1 .1 .1 .0 .1 .1 .1 .1 .1 .1 .1 .1 .1 .0 .1 .0 .1)) ((start .pre) .1 .norder) (omega arith)
 
 pub merge-rows-spec : {M : Type 1} → statement M
 merge-rows-spec =

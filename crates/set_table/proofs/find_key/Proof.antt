@@ -2,19 +2,19 @@ use mathlib.Core.Path.{sym, _∙_}
 use Prim.Native.Nat.{_-_}
 use native.Mathlib.Omega.{arith}
 use borrow.Author.Needs.{needs}
-use Rattle.set_table.specs.Types.{one, maxKeys}
+use Rattle.set_table.specs.Types.{two, maxKeys}
 use Rattle.set_table.proofs.Keys as laws
 use Rattle.set_table.proofs.find_key.Statement.{statement}
 use Rattle.set_table.proofs.find_key.Tie as tie
 
 abbrev Inv-loop : tie.InvT-loop
-Inv-loop text n name keys k₀ k = laws.Finds (one text) name n keys k
+Inv-loop first second n name keys k₀ k = laws.Finds (two first second) name n keys k
 
 abbrev μ-loop : tie.MeasureT-loop
-μ-loop text n name keys k₀ k = maxKeys - k
+μ-loop first second n name keys k₀ k = maxKeys - k
 
 loop-holds : tie.Need-loop-holds Inv-loop μ-loop
-loop-holds c = laws.finds-start _ _ _ _ ((c .before .good) .1 .0 .1 .0 .1)
+loop-holds c = laws.finds-start _ _ _ _ ((c .before .before .good) .1 .1 .0 .1 .0 .1)
 
 returns : tie.Need-returns Inv-loop μ-loop
 returns c = laws.finds-end (c .before .before .loop .inv) (omega arith)

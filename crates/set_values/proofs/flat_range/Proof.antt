@@ -10,15 +10,15 @@ range-ok-requires c κs = search needs
 returns : tie.Need-returns
 returns c = rw (sym (c .before .range-ok .ensures) ∙ not-true _ (c .if1 .taken))
 
-bytes-of-requires : tie.Need-bytes-of-requires
-bytes-of-requires c κs = search needs
+range-of-requires : tie.Need-range-of-requires
+range-of-requires c κs = search needs
 
 no-lf-requires : tie.Need-no-lf-requires
 no-lf-requires c κs = search needs
 
 returns-2 : tie.Need-returns-2
-returns-2 c = rw (sym (c .before .before .before .range-ok .ensures) ∙ not-false _ (c .before .before .if1 .left), ← (c .before .bytes-of .ensures)) (c .no-lf .ensures)
+returns-2 c = rw (sym (c .before .before .before .range-ok .ensures) ∙ not-false _ (c .before .before .if1 .left), ← (c .before .range-of .ensures)) (c .no-lf .ensures)
 
 pub flat-range-spec : {M : Type 1} → statement M
 flat-range-spec =
-    tie.close (tie.spec range-ok-requires returns bytes-of-requires no-lf-requires returns-2)
+    tie.close (tie.spec range-ok-requires returns range-of-requires no-lf-requires returns-2)

@@ -23,14 +23,14 @@ returns : tie.Need-returns
 unfolding nameOk
 returns c = rw ((c .before .before .before .m .given) .1, sym (c .before .range-ok .ensures) ∙ not-true _ (c .if1 .taken))
 
-cast-bytes-of : tie.Need-cast-bytes-of
-cast-bytes-of c = search needs
+cast-range-of : tie.Need-cast-range-of
+cast-range-of c = search needs
 
-cast-bytes-of-2 : tie.Need-cast-bytes-of-2
-cast-bytes-of-2 c = search needs
+cast-range-of-2 : tie.Need-cast-range-of-2
+cast-range-of-2 c = search needs
 
-bytes-of-requires : tie.Need-bytes-of-requires
-bytes-of-requires c κs = search needs
+range-of-requires : tie.Need-range-of-requires
+range-of-requires c κs = search needs
 
 key-name-requires : tie.Need-key-name-requires
 key-name-requires c κs = search needs
@@ -40,7 +40,7 @@ enum-told c = search needs
 
 returns-2 : tie.Need-returns-2
 unfolding nameOk nameBytes
-returns-2 c = rw ((c .before .before .before .before .before .m .given) .1, sym (c .before .before .before .range-ok .ensures) ∙ not-false _ (c .before .before .if1 .left), ← (c .before .bytes-of .ensures)) (c .key-name .ensures)
+returns-2 c = rw ((c .before .before .before .before .before .m .given) .1, sym (c .before .before .before .range-ok .ensures) ∙ not-false _ (c .before .before .if1 .left), ← (c .before .range-of .ensures)) (c .key-name .ensures)
 
 returns-3 : tie.Need-returns-3
 unfolding nameOk nameBytes
@@ -55,9 +55,9 @@ name-ok-spec =
     cast-range-ok-2
     range-ok-requires
     returns
-    cast-bytes-of
-    cast-bytes-of-2
-    bytes-of-requires
+    cast-range-of
+    cast-range-of-2
+    range-of-requires
     key-name-requires
     enum-told
     returns-2

@@ -5,20 +5,20 @@ use borrow.Author.Tests.{not-true, not-false}
 use borrow.Author.Needs.{needs}
 use lib.ListN.{take}
 use Rattle.base_lists.specs.Lists.{all}
-use Rattle.set_table.specs.Types.{one, zeroValue}
+use Rattle.set_table.specs.Types.{two, zeroValue}
 use Rattle.set_values.specs.Values.{classOk}
 use Rattle.base_lists.proofs.Each as each
 use Rattle.set_wellformed.proofs.classes_ok.Statement.{statement}
 use Rattle.set_wellformed.proofs.classes_ok.Tie as tie
 
 abbrev Inv-loop : tie.InvT-loop
-Inv-loop text n classes k₀ k = each.Each (classOk (one text)) classes n (all (classOk (one text)) (take n classes)) k
+Inv-loop first second n classes k₀ k = each.Each (classOk (two first second)) classes n (all (classOk (two first second)) (take n classes)) k
 
 abbrev μ-loop : tie.MeasureT-loop
-μ-loop text n classes k₀ k = n - k
+μ-loop first second n classes k₀ k = n - k
 
 loop-holds : tie.Need-loop-holds Inv-loop μ-loop
-loop-holds c = each.each-start (classOk (one _)) _ _ (omega (arith, (c .before .pre), (c .before .good) .1 .0 .1))
+loop-holds c = each.each-start (classOk (two _ _)) _ _ (omega (arith, (c .before .before .pre), (c .before .before .good) .1 .1 .0 .1))
 
 mul-v : tie.Need-mul-v Inv-loop μ-loop
 mul-v c = search needs

@@ -1,19 +1,19 @@
 use Prim.Native.Nat.{_-_}
 use native.Mathlib.Omega.{arith}
 use borrow.Author.Needs.{needs}
-use Rattle.set_table.specs.Types.{one}
+use Rattle.set_table.specs.Types.{two}
 use Rattle.set_wellformed.proofs.Decide as laws
 use Rattle.set_wellformed.proofs.keys_apart.Statement.{statement}
 use Rattle.set_wellformed.proofs.keys_apart.Tie as tie
 
 abbrev Inv-loop : tie.InvT-loop
-Inv-loop text n keys k₀ k = laws.Apart (one text) keys n k
+Inv-loop first second n keys k₀ k = laws.Apart (two first second) keys n k
 
 abbrev μ-loop : tie.MeasureT-loop
-μ-loop text n keys k₀ k = n - k
+μ-loop first second n keys k₀ k = n - k
 
 loop-holds : tie.Need-loop-holds Inv-loop μ-loop
-loop-holds c = laws.apart-start (one _) _ _ (omega (arith, (c .before .pre), (c .before .good) .1 .0 .1))
+loop-holds c = laws.apart-start (two _ _) _ _ (omega (arith, (c .before .before .pre), (c .before .before .good) .1 .1 .0 .1))
 
 mul-row : tie.Need-mul-row Inv-loop μ-loop
 mul-row c = search needs

@@ -5,20 +5,20 @@ use borrow.Author.Tests.{not-true, not-false}
 use borrow.Author.Needs.{needs}
 use lib.ListN.{take}
 use Rattle.base_lists.specs.Lists.{all}
-use Rattle.set_table.specs.Types.{one, zeroRow}
+use Rattle.set_table.specs.Types.{two, zeroRow}
 use Rattle.set_values.specs.Values.{keyOk}
 use Rattle.base_lists.proofs.Each as each
 use Rattle.set_wellformed.proofs.keys_ok.Statement.{statement}
 use Rattle.set_wellformed.proofs.keys_ok.Tie as tie
 
 abbrev Inv-loop : tie.InvT-loop
-Inv-loop text n keys k₀ k = each.Each (keyOk (one text)) keys n (all (keyOk (one text)) (take n keys)) k
+Inv-loop first second n keys k₀ k = each.Each (keyOk (two first second)) keys n (all (keyOk (two first second)) (take n keys)) k
 
 abbrev μ-loop : tie.MeasureT-loop
-μ-loop text n keys k₀ k = n - k
+μ-loop first second n keys k₀ k = n - k
 
 loop-holds : tie.Need-loop-holds Inv-loop μ-loop
-loop-holds c = each.each-start (keyOk (one _)) _ _ (omega (arith, (c .before .pre), (c .before .good) .1 .0 .1))
+loop-holds c = each.each-start (keyOk (two _ _)) _ _ (omega (arith, (c .before .before .pre), (c .before .before .good) .1 .1 .0 .1))
 
 mul-row : tie.Need-mul-row Inv-loop μ-loop
 mul-row c = search needs

@@ -1,24 +1,24 @@
 use borrow.Author.Needs.{needs}
 use native.Mathlib.Omega.{arith}
 use Prim.Native.Nat.{_-_}
-use Rattle.set_table.specs.Types.{one, maxClasses}
+use Rattle.set_table.specs.Types.{two, maxClasses}
 use Rattle.set_writer.proofs.Walks as walks
 use Rattle.set_writer.proofs.class_items.Statement.{statement}
 use Rattle.set_writer.proofs.class_items.Tie as tie
 
 abbrev Inv-loop : tie.InvT-loop
-Inv-loop out₀ at text n really classes many k₀ i₀ t12 out k i = walks.Classes (one text) really out₀ at n classes out k i
+Inv-loop out₀ at first second n really classes many k₀ i₀ t12 out k i = walks.Classes (two first second) really out₀ at n classes out k i
 
 abbrev μ-loop : tie.MeasureT-loop
-μ-loop out₀ at text n really classes many k₀ i₀ t12 out k i = maxClasses - i
+μ-loop out₀ at first second n really classes many k₀ i₀ t12 out k i = maxClasses - i
 
 least-requires : tie.Need-least-requires Inv-loop μ-loop
 least-requires c κs = search needs
 
 loop-holds : tie.Need-loop-holds Inv-loop μ-loop
 loop-holds c =
-    let p = c .before .before .before in
-    walks.classes-start _ _ _ _ _ _ ((p .good .1 .1 .1 .0 .1 .0 .1)) ((p .pre .0)) ((p .pre .1))
+    let p = c .before .before .before .before in
+    walks.classes-start _ _ _ _ _ _ ((p .good .1 .1 .1 .1 .0 .1 .0 .1)) ((p .pre .0)) ((p .pre .1))
 
 mul-value : tie.Need-mul-value Inv-loop μ-loop
 mul-value c = omega (arith, (c .before .before .least .ensures), (c .loop-test .taken))

@@ -3,7 +3,7 @@ use mathlib.Core.Bool.{false}
 use Rattle.base_lists.proofs.More.{contra}
 use native.Mathlib.Omega.{arith}
 use Rattle.set_canon.specs.Canon.{canon}
-use Rattle.set_table.specs.Types.{one}
+use Rattle.set_table.specs.Types.{two}
 use Rattle.set_table.specs.Rows.{meaningOf}
 use Rattle.set_writer.proofs.Room as room
 use Rattle.set_writer.proofs.Numbers.{said, set-no}
@@ -25,18 +25,18 @@ enum-told c = search needs
 
 walk-requires-2 : tie.Need-walk-requires-2
 walk-requires-2 c κs =
-    let at5 = c .before .before .before .before .before in let at7 = at5 .before .before in let at10 = at7 .before .before .before in
-    let xs = canon (meaningOf (one (at10 .args .text .now)) (at10 .args .set)) in
-    ((omega (arith, (at7 .least .ensures)), omega (arith, (at7 .least .ensures), (at5 .walk .kept .1 .1 .0))), λ e. room.fits xs (at10 .args .out .now) (at7 .least .ensures) (at5 .walk .ensures .0) (at5 .walk .ensures .1) (c .before .enum-told .given .1))
+    let at5 = c .before .before .before .before .before in let at7 = at5 .before .before in let at11 = at7 .before .before .before .before in
+    let xs = canon (meaningOf (two (at11 .args .first .now) (at11 .args .second .now)) (at11 .args .set)) in
+    ((omega (arith, (at7 .least .ensures)), omega (arith, (at7 .least .ensures), (at5 .walk .kept .1 .1 .1 .0))), λ e. room.fits xs (at11 .args .out .now) (at7 .least .ensures) (at5 .walk .ensures .0) (at5 .walk .ensures .1) (c .before .enum-told .given .1))
 
 same-length : tie.Need-same-length
 same-length c = search needs
 
 returns : tie.Need-returns
 returns c =
-    let at5 = c .before .before .before .before .before in let at7 = at5 .before .before in let at10 = at7 .before .before .before in
-    let xs = canon (meaningOf (one (at10 .args .text .now)) (at10 .args .set)) in
-    said (set-no _ _) (room.refused xs (at10 .args .out .now) (at7 .least .ensures) (at5 .walk .ensures .0) (at5 .walk .ensures .1) (c .before .why .given .1))
+    let at5 = c .before .before .before .before .before in let at7 = at5 .before .before in let at11 = at7 .before .before .before .before in
+    let xs = canon (meaningOf (two (at11 .args .first .now) (at11 .args .second .now)) (at11 .args .set)) in
+    said (set-no _ _) (room.refused xs (at11 .args .out .now) (at7 .least .ensures) (at5 .walk .ensures .0) (at5 .walk .ensures .1) (c .before .why .given .1))
 
 same-length-2 : tie.Need-same-length-2
 same-length-2 c = search needs
@@ -44,9 +44,9 @@ same-length-2 c = search needs
 returns-2 : tie.Need-returns-2
 returns-2 c =
     let at4 = c .before .before .before .before in let at8 = at4 .before .before .before .before in let at10 = at8 .before .before in
-    let at13 = at10 .before .before .before in
-    let xs = canon (meaningOf (one (at13 .args .text .now)) (at13 .args .set)) in
-    said (set-no _ _) (room.written xs (at13 .args .out .now) (at10 .least .ensures) (at8 .walk .ensures .0) (at8 .walk .ensures .1) (room.fits xs (at13 .args .out .now) (at10 .least .ensures) (at8 .walk .ensures .0) (at8 .walk .ensures .1) (at4 .enum-told .given .1)) (c .before .before .walk2 .ensures .0) (c .before .before .walk2 .ensures .1))
+    let at14 = at10 .before .before .before .before in
+    let xs = canon (meaningOf (two (at14 .args .first .now) (at14 .args .second .now)) (at14 .args .set)) in
+    said (set-no _ _) (room.written xs (at14 .args .out .now) (at10 .least .ensures) (at8 .walk .ensures .0) (at8 .walk .ensures .1) (room.fits xs (at14 .args .out .now) (at10 .least .ensures) (at8 .walk .ensures .0) (at8 .walk .ensures .1) (at4 .enum-told .given .1)) (c .before .before .walk2 .ensures .0) (c .before .before .walk2 .ensures .1))
 
 pub write-set-spec : {M : Type 1} → statement M
 write-set-spec =

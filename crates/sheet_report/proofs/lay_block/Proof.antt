@@ -12,8 +12,8 @@ lay-refused-requires c κs = search needs
 enum-told : tie.Need-enum-told
 enum-told c = search needs
 
-text-over-requires : tie.Need-text-over-requires
-text-over-requires c κs = search needs
+bytes-of-requires : tie.Need-bytes-of-requires
+bytes-of-requires c κs = search needs
 
 lay-set-requires : tie.Need-lay-set-requires
 lay-set-requires c κs = search needs
@@ -32,7 +32,7 @@ same-length-2 c = search needs
 returns-2 : tie.Need-returns-2
 returns-2 c =
     let at4 = c .before .before .before .before in let at5 = at4 .before in let at10 = at5 .before .before .before .before .before in
-    lays.of-done (at10 .args .n) (at10 .args .block .lines) (at10 .args .text .now) (at10 .args .join .now) (at10 .args .block .joined) (at10 .args .block .set) (at5 .enum-told .given .1) (at4 .text-over .ensures) (c .before .before .lay-set .ensures)
+    lays.of-done (at10 .args .n) (at10 .args .block .lines) (at10 .args .text .now) (at10 .args .join .now) (at10 .args .block .joined) (at10 .args .block .set) (at5 .enum-told .given .1) (at4 .bytes-of .ensures) (c .before .before .lay-set .ensures)
 
 pub lay-block-spec : {M : Type 1} → statement M
 lay-block-spec =
@@ -41,7 +41,7 @@ lay-block-spec =
     enum-known-outcome
     lay-refused-requires
     enum-told
-    text-over-requires
+    bytes-of-requires
     lay-set-requires
     same-length
     returns

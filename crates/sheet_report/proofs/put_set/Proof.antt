@@ -1,5 +1,5 @@
 use Rattle.set_canon.specs.Canon.{canon}
-use Rattle.set_table.specs.Types.{one}
+use Rattle.set_table.specs.Types.{two}
 use Rattle.set_table.specs.Rows.{meaningOf}
 use Rattle.sheet_report.proofs.Laying as laying
 use borrow.Author.Needs.{needs}
@@ -24,7 +24,7 @@ same-length c = search needs
 returns : tie.Need-returns
 returns c =
     let at6 = c .before .before .before .before .before .before in
-    laying.set-put (canon (meaningOf (one (at6 .args .text .now)) (at6 .args .set))) (at6 .args .out .now) (at6 .args .at) (at6 .pre) (c .before .before .write-set .ensures .0) (c .before .before .write-set .ensures .1 .0)
+    laying.set-put (canon (meaningOf (two (at6 .before .args .text .now) (at6 .before .args .joined .now)) (at6 .before .args .set))) (at6 .before .args .out .now) (at6 .before .args .at) (at6 .before .pre) (c .before .before .write-set .ensures .0) (c .before .before .write-set .ensures .1 .0)
 
 pub put-set-spec : {M : Type 1} → statement M
 put-set-spec =

@@ -17,9 +17,6 @@ empty-requires c κs = search needs
 plain-requires : tie.Need-plain-requires Inv-loop μ-loop
 plain-requires c κs = search needs
 
-given-requires : tie.Need-given-requires Inv-loop μ-loop
-given-requires c κs = search needs
-
 plain-requires-2 : tie.Need-plain-requires-2 Inv-loop μ-loop
 plain-requires-2 c κs = search needs
 
@@ -53,11 +50,11 @@ plain-requires-3 c κs = search needs
 row-requires : tie.Need-row-requires Inv-loop μ-loop
 row-requires c κs = search needs
 
-cast-t20 : tie.Need-cast-t20 Inv-loop μ-loop
-cast-t20 c = search needs
+cast-t19 : tie.Need-cast-t19 Inv-loop μ-loop
+cast-t19 c = search needs
 
-mul-t21 : tie.Need-mul-t21 Inv-loop μ-loop
-mul-t21 c = search needs
+mul-t20 : tie.Need-mul-t20 Inv-loop μ-loop
+mul-t20 c = search needs
 
 element-set-from-s-4 : tie.Need-element-set-from-s-4 Inv-loop μ-loop
 element-set-from-s-4 c = search needs
@@ -65,14 +62,14 @@ element-set-from-s-4 c = search needs
 slot-requires-3 : tie.Need-slot-requires-3 Inv-loop μ-loop
 slot-requires-3 c κs = search needs
 
-cast-t20-2 : tie.Need-cast-t20-2 Inv-loop μ-loop
-cast-t20-2 c = search needs
+cast-t19-2 : tie.Need-cast-t19-2 Inv-loop μ-loop
+cast-t19-2 c = search needs
 
-add-t21 : tie.Need-add-t21 Inv-loop μ-loop
-add-t21 c = search needs
+add-t20 : tie.Need-add-t20 Inv-loop μ-loop
+add-t20 c = search needs
 
-mul-t26 : tie.Need-mul-t26 Inv-loop μ-loop
-mul-t26 c = search needs
+mul-t25 : tie.Need-mul-t25 Inv-loop μ-loop
+mul-t25 c = search needs
 
 element-set-from-s-5 : tie.Need-element-set-from-s-5 Inv-loop μ-loop
 element-set-from-s-5 c = search needs
@@ -97,7 +94,6 @@ full-spec =
     μ-loop
     empty-requires
     plain-requires
-    given-requires
     plain-requires-2
     element-set-from-s
     slot-requires
@@ -109,13 +105,13 @@ full-spec =
     name-end-requires
     plain-requires-3
     row-requires
-    cast-t20
-    mul-t21
+    cast-t19
+    mul-t20
     element-set-from-s-4
     slot-requires-3
-    cast-t20-2
-    add-t21
-    mul-t26
+    cast-t19-2
+    add-t20
+    mul-t25
     element-set-from-s-5
     add-k
     loop-less

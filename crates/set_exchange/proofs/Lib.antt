@@ -1,0 +1,2 @@
+-- The laws that the proofs of set_exchange cite.
+pub mod Loops
