@@ -12,10 +12,11 @@
  *     5  no reading                                12  (never given here: an empty set)
  *     6  more than 32 classes
  *
- * A set is handed out as its canonical text at the front of `out`, such as {id="v17" class="wheel" side="left"}. After a number other than 0 `out`
- * is untouched, but for bridlesnow_report_start, whose 1 and 2 lay a line. Numbers besides are told in `told`, in the order that the function's
- * comment gives: as many as `told_len` has room for, the rest of it untouched. So a caller who wants none passes NULL and 0. They are told on a
- * refusal too; the length of the canonical text is 0 where none is written, so 10 doesn't tell how much is needed.
+ * A set is handed out as its canonical text at the front of `out`, such as {id="v17" class="wheel" side="left"}. A class that is listed again is
+ * written once, at its first place. After a number other than 0 `out` is untouched, but for bridlesnow_report_start, whose 1 and 2 lay a line.
+ * Numbers besides are told in `told`, in the order that the function's comment gives: as many as `told_len` has room for, the rest of it
+ * untouched. So a caller who wants none passes NULL and 0. They are told on a refusal too; the length of the canonical text is 0 where none is
+ * written, so 10 doesn't tell how much is needed.
  *
  * What the caller owes: each pointer with a length other than 0 points to that many elements, and memory that a call writes (`join`, `other_join`,
  * `out`, `told`) overlaps no other memory of that call. A pointer with length 0 may be NULL. Any other argument gets an answer: a place or a line

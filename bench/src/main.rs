@@ -198,7 +198,7 @@ const SHEETS: [(&str, Make, f64); 4] = [
     ("text without blocks, mixed", inputs::mixed, 3.0),
 ];
 
-const HOSTILE: [(&str, Make, f64); 8] = [
+const HOSTILE: [(&str, Make, f64); 10] = [
     ("glued wrapped runs", inputs::glued_runs, 0.0),
     ("one glued run to the end", inputs::one_glued_run, 0.0),
     ("a quoted `}` on every line of one run", inputs::quoted_closes, 0.01),
@@ -207,6 +207,8 @@ const HOSTILE: [(&str, Make, f64); 8] = [
     ("one unclosed run", inputs::unclosed_run, 0.0),
     ("the longest tag", inputs::longest_tag, 0.0),
     ("13,000 blocks on one line", inputs::one_line, 0.0),
+    ("long classes alike but for the last bytes", inputs::alike_classes, 0.0),
+    ("long classes with an escape at each byte", inputs::alike_escaped, 0.0),
 ];
 
 /// Both sides write the same report; it has so many lines.

@@ -40,13 +40,19 @@ fn item(out: &mut Vec<u8>, start: usize, name: &str, value: &str) {
     out.push(b'"');
 }
 
-/// The canonical text of a set, put behind what stands in `out`.
+/// The canonical text of a set, put behind what stands in `out`: each class once, at its first place.
 pub fn canonical(attrs: &Attrs, out: &mut Vec<u8>) {
     let start = out.len();
     for slot in &attrs.order {
         match slot {
             AttrSlot::Id => item(out, start, "id", attrs.id.as_deref().unwrap_or("")),
-            AttrSlot::Class => attrs.classes.iter().for_each(|class| item(out, start, "class", class)),
+            AttrSlot::Class => {
+                for (n, class) in attrs.classes.iter().enumerate() {
+                    if !attrs.classes[..n].contains(class) {
+                        item(out, start, "class", class);
+                    }
+                }
+            }
             AttrSlot::Key(key) => item(out, start, key, &attrs.key_values[key]),
         }
     }

@@ -6,8 +6,8 @@
 //! rustc -O --crate-type rlib door/rust/bridlesnow.rs -L target/door -l static=door
 //! ```
 //!
-//! A [`Reader`] owns the memory that the calls are lent, 192 KB, and hands out canonical text as a part of it. What the functions answer is proved;
-//! that this file passes pointers, lengths and numbers on in the right order is not, and is tested below.
+//! A [`Reader`] owns the memory that the calls are lent, 192 KB, and hands out canonical text as a part of it. A class that
+//! is listed again is written once, at its first place. What the functions answer is proved; that this file passes pointers, lengths and numbers on in the right order is not, and is tested below.
 
 use std::fmt;
 
@@ -501,7 +501,8 @@ mod tests {
         assert_eq!(reader.merge_blocks(text, 2, 1), Ok((2, 1, "{side=\"left\" id=\"v17\" class=\"wheel\"}")));
         assert_eq!(reader.merge_blocks(text, 4, 2), Ok((2, 2, "{class=\"b\" side=\"right\" id=\"v17\"}")));
         assert_eq!((&reader.join[..12], &reader.other_join[..17]), (&b"{.b side=up}"[..], &b"{side=right #v17}"[..]));
-        assert_eq!(reader.merge_blocks(text, 1, 1), Ok((1, 1, "{class=\"wheel\" class=\"wheel\" side=\"left\"}")));
+        // A class of both is written once.
+        assert_eq!(reader.merge_blocks(text, 1, 1), Ok((1, 1, "{class=\"wheel\" side=\"left\"}")));
         assert_eq!(reader.merge_blocks(text, 6, 2), Err((Refusal(3), 1)));
         assert_eq!(reader.merge_blocks(text, 7, 6), Err((Refusal(5), 1)));
         assert_eq!(reader.merge_blocks(text, 2, 7), Err((Refusal(5), 2)));
@@ -516,7 +517,8 @@ mod tests {
         assert_eq!(Reader::with_room(17, 36).merge_blocks(text, 1, 2), Err((Refusal(10), 3)));
         assert_eq!(Reader::with_room(16, 37).merge_blocks(text, 1, 2), Err((Refusal(9), 2)));
         assert_eq!(Reader::with_room(16, 37).merge_blocks(text, 2, 1), Err((Refusal(9), 1)));
-        assert!(Reader::with_room(0, 99).merge_blocks(text, 1, 1).is_ok());
+        assert!(Reader::with_room(0, 27).merge_blocks(text, 1, 1).is_ok());
+        assert_eq!(Reader::with_room(0, 26).merge_blocks(text, 1, 1), Err((Refusal(10), 3)));
     }
 
     fn reported(reader: &mut Reader, text: &[u8]) -> (String, usize, Result<(), Refusal>) {

@@ -4,13 +4,13 @@
 //!     generate exhaustive FAMILY LENGTH FROM COUNT  all strings of up to LENGTH atoms, in every request of the family
 //!     generate size FAMILY LENGTH                   how many requests that is
 //!
-//! FAMILIES are names parted by commas: leaves, brace, lines, refused, merge, sheet, rows, quick, merge2; `all` stands for
-//! these nine. The family `errors`, which is in no `all`, damages the request lines themselves.
+//! FAMILIES are names parted by commas: leaves, brace, lines, refused, merge, sheet, rows, quick, merge2, repeats; `all`
+//! stands for these ten. The family `errors`, which is in no `all`, damages the request lines themselves.
 //! Each request is made from the seed and its own number, so any part of the list can be made again.
 
 use std::io::{self, BufWriter, Write};
 
-const FAMILIES: [&str; 9] = ["leaves", "brace", "lines", "refused", "merge", "sheet", "rows", "quick", "merge2"];
+const FAMILIES: [&str; 10] = ["leaves", "brace", "lines", "refused", "merge", "sheet", "rows", "quick", "merge2", "repeats"];
 const TEXT_LIMIT: usize = 65_535;
 
 // ---- Chance ----
@@ -603,6 +603,13 @@ impl Out {
         self.hex(bytes);
         self.words(behind);
     }
+    /// A request with one text or two; the second is none if it is empty.
+    fn texts(&mut self, words: &str, first: &str, second: &str) {
+        self.request(words, first.as_bytes(), if second.is_empty() { "" } else { " " });
+        if !second.is_empty() {
+            self.hex(second.as_bytes());
+        }
+    }
 }
 
 fn random(family: &str, rng: &mut Rng, out: &mut Out) {
@@ -613,6 +620,7 @@ fn random(family: &str, rng: &mut Rng, out: &mut Out) {
         "refused" => refused(rng, out),
         "merge" => merge(rng, out),
         "merge2" => merge2(rng, out),
+        "repeats" => repeats(rng, out),
         "rows" => rows(rng, out),
         "quick" => quick(rng, out),
         "errors" => errors(rng, out),
@@ -1190,6 +1198,146 @@ fn long_pair(rng: &mut Rng) -> [String; 2] {
     }
 }
 
+/// What classes stand for, some nearly alike.
+const MEANT: &[&str] = &[
+    "a", "a", "b", "A", "aa", "a-", "class", "", " ", "  ", "\t", "\u{c}", ".", "..", "\"", "'", "\\", "\\a", "\\\\", "\"a", "a\\", "é", "e\u{301}", "}", "}{",
+    "=", "|", "a\u{b}",
+];
+
+/// A few classes to repeat; now and then up to `most` bytes long and alike but for their ends.
+fn few_classes(rng: &mut Rng, most: usize) -> Vec<String> {
+    if rng.once_in(5) {
+        let alike = rng.pick(&["a", "\"", ".", "a\\", "é"]).repeat(rng.between(1, most / 2));
+        return ["", "a", ".", "\"", "a", "\\"][..rng.between(1, 6)].iter().map(|end| alike.clone() + end).collect();
+    }
+    (0..rng.between(1, 4)).map(|_| rng.pick(MEANT).to_string()).collect()
+}
+
+/// A value in quotes: with a backslash before each quote of its own kind, before a backslash that would be an escape,
+/// and as chance has it before none, some or all of the other punctuation.
+fn in_quotes(rng: &mut Rng, value: &str) -> String {
+    let quote = ['"', '\''][rng.below(2)];
+    let escapes = [0, 30, 100][rng.below(3)];
+    let mut out = String::from(quote);
+    let mut chars = value.chars().peekable();
+    while let Some(ch) = chars.next() {
+        let escape = ch == '\\' && chars.peek().map_or(true, char::is_ascii_punctuation);
+        if ch == quote || escape || ch.is_ascii_punctuation() && rng.percent(escapes) {
+            out.push('\\');
+        }
+        out.push(ch);
+    }
+    out.push(quote);
+    out
+}
+
+/// One of the spellings of a class.
+fn spelled(rng: &mut Rng, class: &str) -> String {
+    let plain = !class.is_empty() && !class.contains([' ', '\t', '\u{c}', '}', '|', '"', '\'', '\\']);
+    let name = class.starts_with(|ch: char| ch.is_ascii_alphanumeric()) && class.chars().all(|ch| ch.is_ascii_alphanumeric() || ch == '-');
+    match rng.below(4) {
+        0 if name => format!(".{class}"),
+        0 if class.is_empty() => "class".to_string(),
+        1 if plain => format!("class={class}"),
+        _ => format!("class={}", in_quotes(rng, class)),
+    }
+}
+
+/// Tokens in which these classes come again and again, each time as chance spells them.
+fn repeated(rng: &mut Rng, classes: &[String]) -> Vec<String> {
+    let count = if rng.once_in(40) { rng.between(30, 34) } else { rng.between(1, 6) };
+    let mut list = Vec::new();
+    for _ in 0..count {
+        let class = &classes[rng.below(classes.len())];
+        list.push(match rng.weighted(&[72, 10, 10, 4, 4]) {
+            0 => spelled(rng, class),
+            1 => {
+                // Some in one value, which is split.
+                let several: Vec<&str> = (0..rng.between(2, 4)).map(|_| classes[rng.below(classes.len())].as_str()).collect();
+                let value = several.join(rng.pick(&[" ", " ", "  ", "\t"]));
+                format!("class={}", in_quotes(rng, &value))
+            }
+            // A value that is a class elsewhere.
+            2 => format!("{}={}", rng.pick(&["k", "m", "id", "lang", "Class"]), in_quotes(rng, class)),
+            3 => rng.pick(&["k", "#a", ":a", "id", "k=1"]).to_string(),
+            _ => token(rng),
+        });
+    }
+    list
+}
+
+/// Classes that repeat, in one block, over a chain or lines, merged and in a sheet.
+fn repeats(rng: &mut Rng, out: &mut Out) {
+    if rng.once_in(800) {
+        return repeats_at_limit(rng, out);
+    }
+    let most = if rng.once_in(200) { 3_000 } else { 40 };
+    let classes = few_classes(rng, most);
+    let text = |rng: &mut Rng, wraps: usize| {
+        let list = repeated(rng, &classes);
+        let mut text = laid(rng, &list, wraps).into_bytes();
+        damage(rng, &mut text, 15);
+        text
+    };
+    match rng.weighted(&[25, 10, 25, 25, 15]) {
+        0 => {
+            let words = rng.pick(&["read_attrs_at 0 strict", "read_attrs_at 0 strict", "read_attrs_at 0 loose"]);
+            out.request(words, &text(rng, 0), "");
+        }
+        1 => out.request(rng.pick(&["rows 0 strict", "rows 0 loose"]), &text(rng, 0), ""),
+        2 => {
+            let words = rng.pick(&["parse_standalone_attrs 1", "parse_standalone_attrs_block 1", "parse_standalone_attrs_block 1", "wrapped_attrs_run_at 0 1"]);
+            let text = text(rng, if words == "parse_standalone_attrs 1" { 0 } else { 60 });
+            let cap = if words == "parse_standalone_attrs 1" { String::new() } else { cap(rng, &text, 1) };
+            out.request(words, &text, &cap);
+        }
+        3 => {
+            let words = rng.pick(&["merge", "merge_leading", "merge2", "merge2_block", "merge2_block"]);
+            let wraps = if words == "merge2_block" { 50 } else { 0 };
+            let mut pair = [(); 2].map(|()| text(rng, wraps));
+            if words == "merge" || words == "merge_leading" {
+                pair.iter_mut().for_each(|text| text.retain(|&b| b != b'\n'));
+            }
+            out.request(words, &pair[0], " ");
+            out.hex(&pair[1]);
+        }
+        _ => {
+            let mut sheet = Vec::new();
+            for _ in 0..rng.between(1, 5) {
+                sheet.extend(if rng.once_in(5) { prose(rng).into_bytes() } else { text(rng, 40) });
+                sheet.extend_from_slice(if rng.once_in(10) { b"\r\n" } else { b"\n" });
+            }
+            out.request("sheet", &sheet, "");
+        }
+    }
+}
+
+/// A set with repeated classes whose canonical text stands around its limit, counted with each class once or with all
+/// that are listed.
+fn repeats_at_limit(rng: &mut Rng, out: &mut Out) {
+    let pool = few_classes(rng, 4_000);
+    let classes: Vec<&String> = (0..rng.between(2, 4)).map(|_| &pool[rng.below(pool.len())]).collect();
+    let listed = rng.percent(50);
+    let counted = classes.iter().enumerate().filter(|(n, class)| listed || !classes[..*n].contains(class));
+    // A quote and a backslash take two bytes there.
+    let takes = |class: &str| class.len() + class.matches(['"', '\\']).count();
+    let around = "{k=\"\"}".len() + counted.map(|(_, class)| " class=\"\"".len() + takes(class)).sum::<usize>();
+    let room = TEXT_LIMIT + rng.below(5) - 2 - around;
+    let mut list: Vec<String> = classes.iter().map(|class| spelled(rng, class)).collect();
+    list.insert(rng.below(list.len() + 1), format!("k='{}{}'", "\"".repeat(room / 2), "x".repeat(room % 2)));
+    match rng.below(5) {
+        0 => out.request(rng.pick(&["read_attrs_at 0 strict", "read_attrs_at 0 loose"]), format!("{{{}}}", list.join(" ")).as_bytes(), ""),
+        1 => out.request("parse_standalone_attrs 1", format!("{{{}}}", list.join("}{")).as_bytes(), ""),
+        2 => out.request("parse_standalone_attrs_block 1", format!("{{{}}}", list.join("\n ")).as_bytes(), ""),
+        3 => out.request("sheet", format!("{{a}}\n{{{}}}\n{{b}}\n", list.join(" ")).as_bytes(), ""),
+        _ => {
+            let (first, second) = list.split_at(rng.between(1, list.len() - 1));
+            let words = rng.pick(&["merge2", "merge", "merge_leading"]);
+            out.texts(words, &format!("{{{}}}", first.join(" ")), &format!("{{{}}}", second.join(" ")));
+        }
+    }
+}
+
 /// A sheet: text and blocks of every kind, mostly a few, now and then up to the text limit.
 fn sheet(rng: &mut Rng, out: &mut Out) {
     let mut text = match rng.weighted(&[9_600, 360, 20, 6, 14]) {
@@ -1354,7 +1502,8 @@ fn long_sheet(rng: &mut Rng) -> String {
 
 /// A request with one fault in its line, or, now and then, none.
 fn errors(rng: &mut Rng, out: &mut Out) {
-    random(FAMILIES[rng.below(FAMILIES.len())], rng, out);
+    // The last family has only requests that the others have too.
+    random(FAMILIES[rng.below(FAMILIES.len() - 1)], rng, out);
     let mut fields: Vec<Vec<u8>> = out.line.split(|&b| b == b' ').map(<[u8]>::to_vec).collect();
     let at = rng.below(fields.len());
     match rng.below(12) {
@@ -1425,6 +1574,48 @@ const TEXT_FORMS: &[(&str, &[u8], &[u8])] = &[
 /// Both modes, and a block that doesn't stand at the text's front, with what isn't UTF-8 before it.
 const ROW_FORMS: &[(&str, &[u8], &[u8])] =
     &[("rows 0 strict", b"{", b"}"), ("rows 0 loose", b"{", b"}"), ("rows 3 strict", b"\xC3\xA9\xFF{", b"}{.z}")];
+
+/// Ten spellings of classes, of which some stand for the same one, and each as a block of its own.
+const SPELLINGS: &[&[u8]] = &[
+    b".a ", b"class=a ", b"class=\"a\" ", b"class='\\.' ", b"class=\".\" ", b".b ", b"class ", b"class=\"\" ", b"class=\" \" ", b"class=\"a b a\" ",
+];
+const SPELLED_BLOCKS: &[&[u8]] = &[
+    b"{.a}", b"{class=a}", b"{class=\"a\"}", b"{class='\\.'}", b"{class=\".\"}", b"{.b}", b"{class}", b"{class=\"\"}", b"{class=\" \"}", b"{class=\"a b a\"}",
+];
+/// Requests over a list of classes that is cut in two: the words, and one or two texts, in which `A` and `B` stand for
+/// the halves.
+const CUT_FORMS: &[(&str, &str, &str)] = &[
+    ("parse_standalone_attrs 1", "{A}{B}", ""),
+    ("parse_standalone_attrs_block 1", "{A\n B}", ""),
+    ("merge", "{A}", "{B}"),
+    ("merge_leading", "{A}", "{B}"),
+    ("merge2", "{A}", "{B}"),
+    ("merge2_block", "{A}", "{\n B}"),
+];
+/// Requests whose canonical text, or what it would be with every class that is listed, stands around its limit: the
+/// words, one or two texts, and the canonical text that is counted. `Q` stands for as many double quotes as that has room
+/// for, two bytes each, `E` for the same in escapes, and `R` for letters that fill it up.
+const EDGES: &[(&str, &str, &str, &str)] = &[
+    // Each class once.
+    ("read_attrs_at 0 strict", "{.a k='Q' class=\"a\" id='R'}", "", "{class=\"a\" k=\"Q\" id=\"R\"}"),
+    ("parse_standalone_attrs_block 1", "{.a\n k='Q'}{.b id='R'}{class='b a'}", "", "{class=\"a\" class=\"b\" k=\"Q\" id=\"R\"}"),
+    ("sheet", "{class=\" \" k='Q' class=' '}{id='R'}\n", "", "{class=\" \" k=\"Q\" id=\"R\"}"),
+    ("merge", "{.a k='Q'}", "{.a id='R'}", "{class=\"a\" k=\"Q\" id=\"R\"}"),
+    ("merge_leading", "{class='\"'}", "{class='Q' id='R' class=\"\\\"\"}", "{class=\"Q\" class=\"\\\"\" id=\"R\"}"),
+    ("merge2", "{class='Q' id='R'}", "{class=\"E\"}", "{class=\"Q\" id=\"R\"}"),
+    ("merge2_block", "{class='Q'}", "{\n class='Q' id='R'}", "{class=\"Q\" id=\"R\"}"),
+    // All that are listed.
+    ("read_attrs_at 0 strict", "{.a k='Q' class=\"a\" id='R'}", "", "{class=\"a\" class=\"a\" k=\"Q\" id=\"R\"}"),
+    ("read_attrs_at 0 loose", "{class='Q' class=\"E\" id='R'}", "", "{class=\"Q\" class=\"Q\" id=\"R\"}"),
+    ("sheet", "{class='Q'\n class='Q'\n id='R'}\n", "", "{class=\"Q\" class=\"Q\" id=\"R\"}"),
+    ("merge2", "{class='Q'}", "{class='Q' id='R'}", "{class=\"Q\" class=\"Q\" id=\"R\"}"),
+    ("merge2_block", "{class=\"E\"}", "{\n class='Q' id='R'}", "{class=\"Q\" class=\"Q\" id=\"R\"}"),
+    // None is repeated: they differ at their ends.
+    ("read_attrs_at 0 strict", "{class='Qa' class='Qb' id='R'}", "", "{class=\"Qa\" class=\"Qb\" id=\"R\"}"),
+    ("merge2_block", "{class=\"Ea\"}", "{\n class='Qb' id='R'}", "{class=\"Qa\" class=\"Qb\" id=\"R\"}"),
+];
+/// From two bytes below the limit to two above.
+const EDGE_SIZES: usize = 5;
 
 /// Each of the 256 bytes.
 const BYTES: &[[u8; 1]; 256] = &{
@@ -1590,6 +1781,13 @@ fn sections(family: &str) -> &'static [Section] {
                 forms: &[("merge2", b"", b""), ("merge2_block", b"", b""), ("merge2_block cap=5", b"", b"")],
             },
         ],
+        "repeats" => &[
+            Section {
+                atoms: SPELLINGS,
+                forms: &[("read_attrs_at 0 strict", b"{", b"}"), ("rows 0 strict", b"{", b"}"), ("parse_standalone_attrs_block 1", b"{\n ", b"}")],
+            },
+            Section { atoms: SPELLED_BLOCKS, forms: &[("parse_standalone_attrs 1", b"", b"")] },
+        ],
         _ => &[
             Section { atoms: &[b"{", b"}", b"a", b" ", b"\n", b"\r", b"\"", b"="], forms: &[("sheet", b"", b""), ("sheet", b"{", b"}\n{b}")] },
             Section { atoms: &[b"{a", b"}", b"}{.b", b"\n", b"\n ", b" ", b"c=\"", b"\"", b"{#d}", b"text", b"\r\n"], forms: &[("sheet", b"", b"")] },
@@ -1612,21 +1810,41 @@ fn section_size(section: &Section, length: usize) -> u64 {
 const SIZES: [usize; 5] = [TEXT_LIMIT - 1, TEXT_LIMIT, TEXT_LIMIT + 1, TEXT_LIMIT + 2, 65_600];
 const SIZED: [fn(&mut [u8]); 3] = [|_| {}, |text| text[0] = 0xFF, |text| text[text.len() - 1] = 0xC2];
 
-/// How many pairs of strings there are with at most that many atoms together.
-fn pairs(atoms: usize, length: usize) -> u64 {
-    (0..=length as u64).map(|n| (n + 1) * (atoms as u64).pow(n as u32)).sum()
+/// How many pairs of strings there are with so many atoms together, at least `least` of them in each.
+fn pairs_of(atoms: usize, least: u64, count: u64) -> u64 {
+    (count + 1).saturating_sub(2 * least) * (atoms as u64).pow(count as u32)
+}
+
+/// How many there are with at most that many.
+fn pairs(atoms: usize, least: u64, length: usize) -> u64 {
+    (0..=length as u64).map(|count| pairs_of(atoms, least, count)).sum()
+}
+
+/// One of them: first the length of both together, then where the second begins, then the atoms as digits.
+fn pair(atoms: &[&'static [u8]], least: u64, mut number: u64) -> [Vec<u8>; 2] {
+    let mut count = 2 * least;
+    while number >= pairs_of(atoms.len(), least, count) {
+        number -= pairs_of(atoms.len(), least, count);
+        count += 1;
+    }
+    let places = count + 1 - 2 * least;
+    let list = digits(atoms, number / places, count as u32);
+    let (a, b) = list.split_at((least + number % places) as usize);
+    [a.concat(), b.concat()]
 }
 
 /// What the quick test goes past before it meets a byte that decides.
 const BEFORE_A_BYTE: [&[u8]; 7] = [b"{", b"{ ", b"{#", b"{.", b"{.a", b"{a", b"{a="];
 
 /// The leaves begin with all 256 byte classes, then come the texts by size, then pairs of raw and unescaped text. The
-/// quick test begins with each of the 256 bytes wherever one decides, merges over two texts with texts by size.
+/// quick test begins with each of the 256 bytes wherever one decides, merges over two texts with texts by size. Repeated
+/// classes begin with canonical texts around the limit, then come the lists that are cut in two.
 fn extra(family: &str, length: usize) -> u64 {
     match family {
-        "leaves" => 256 + (SIZES.len() * SIZED.len()) as u64 + pairs(ESCAPE_ATOMS.len(), length),
+        "leaves" => 256 + (SIZES.len() * SIZED.len()) as u64 + pairs(ESCAPE_ATOMS.len(), 0, length),
         "quick" => 256 * BEFORE_A_BYTE.len() as u64,
         "merge2" => (SIZES.len() * SIZED.len() * 3 * 2) as u64,
+        "repeats" => (EDGES.len() * EDGE_SIZES) as u64 + CUT_FORMS.len() as u64 * pairs(SPELLINGS.len(), 1, length),
         _ => 0,
     }
 }
@@ -1639,6 +1857,9 @@ fn exhaustive_extra(family: &str, mut number: u64, out: &mut Out) {
     if family == "merge2" {
         return exhaustive_sizes(number as usize, out);
     }
+    if family == "repeats" {
+        return exhaustive_repeats(number, out);
+    }
     if number < 256 {
         return out.words(&format!("leaf is_class {number}"));
     }
@@ -1650,17 +1871,27 @@ fn exhaustive_extra(family: &str, mut number: u64, out: &mut Out) {
         return out.request("leaf check_text", &text, "");
     }
     number -= SIZES.len() as u64 * sized;
-    // First the length of both together, then where the second begins, then the atoms as digits.
-    let atoms = ESCAPE_ATOMS.len() as u64;
-    let mut count = 0;
-    while number >= (count + 1) * atoms.pow(count as u32) {
-        number -= (count + 1) * atoms.pow(count as u32);
-        count += 1;
+    let [a, b] = pair(ESCAPE_ATOMS, 0, number);
+    out.request("leaf same_unescaped", &a, " ");
+    out.hex(&b);
+}
+
+/// A canonical text around the limit, or a list of classes that is cut in two.
+fn exhaustive_repeats(number: u64, out: &mut Out) {
+    let edges = (EDGES.len() * EDGE_SIZES) as u64;
+    if number < edges {
+        let (words, first, second, counted) = EDGES[number as usize / EDGE_SIZES];
+        let takes = 2 * counted.matches('Q').count();
+        let room = TEXT_LIMIT - 2 + number as usize % EDGE_SIZES - counted.replace(['Q', 'R'], "").len();
+        let (quotes, rest) = ("\"".repeat(room / takes), "x".repeat(room % takes));
+        let fill = |text: &str| text.replace('Q', &quotes).replace('E', &quotes.replace('"', "\\\"")).replace('R', &rest);
+        return out.texts(words, &fill(first), &fill(second));
     }
-    let list = digits(ESCAPE_ATOMS, number / (count + 1), count as u32);
-    let (a, b) = list.split_at((number % (count + 1)) as usize);
-    out.request("leaf same_unescaped", &a.concat(), " ");
-    out.hex(&b.concat());
+    let number = number - edges;
+    let (words, first, second) = CUT_FORMS[(number % CUT_FORMS.len() as u64) as usize];
+    let halves = pair(SPELLINGS, 1, number / CUT_FORMS.len() as u64).map(|half| String::from_utf8(half).expect("ASCII"));
+    let fill = |text: &str| text.replace('A', &halves[0]).replace('B', &halves[1]);
+    out.texts(words, &fill(first), &fill(second));
 }
 
 /// A text by size as the first, as the second or as both, asked by line and by block.

@@ -58,7 +58,8 @@ fn from_line<'b, 'a>(lines: &'b [&'a str], line: usize) -> Option<&'b [&'a str]>
     (1..=lines.len()).contains(&line).then(|| &lines[line - 1..])
 }
 
-/// 6 and 7, in this order, for a set that was read or merged. There is no 8, and none is called for.
+/// 6 and 7, in this order, for a set that was read or merged. Every class listed counts, a repeated one too. There is no
+/// 8, and none is called for.
 fn within_limits(attrs: Attrs) -> Result<Attrs, Number> {
     assert_eq!(attrs.order.len(), slot_count(&attrs), "slots name what is there, once each");
     assert!(attrs.order.len() <= attrs.key_values.len() + 2, "slots are at most two more than keys");
@@ -136,13 +137,13 @@ fn read_payload(inner: &str, loose: bool) -> Option<Attrs> {
     original
 }
 
-/// The rows of the reading at a brace, and the place after its close. The rows are document 01's; their meaning is held
+/// The rows of the reading at a brace, and the place after its close. The rows are document 01's; what they list is held
 /// against the original's set.
 pub fn rows(bytes: &[u8], place: usize, loose: bool) -> Result<(Rows, usize), Number> {
     let (attrs, next) = read_attrs_at(bytes, place, loose)?;
     let (from, to) = payload_at(bytes, place).expect("what was read has a payload");
     let rows = Rows::read(&bytes[..to], from, loose).expect("what was read has tokens");
-    assert_eq!(rows.meaning(bytes), attrs, "the rows mean the original's set");
+    assert_eq!(rows.listed(bytes), attrs, "the rows list the original's set");
     assert_eq!(rows.keys.len(), attrs.key_values.len(), "one row for each key");
     Ok((rows, next))
 }
@@ -604,13 +605,21 @@ pub fn merge(a: &[u8], b: &[u8], leading: bool) -> Result<Attrs, MergeRefusal> {
     let text = [a, b"\n", b].concat();
     let first = parse_standalone_attrs(&text, 1).map_err(MergeRefusal::First)?;
     let second = parse_standalone_attrs(&text, 2).map_err(MergeRefusal::Second)?;
-    let mut target = Some(first);
-    if leading {
-        door::merge_leading_attrs(&mut target, second);
-    } else {
-        door::merge_attrs(&mut target, second);
-    }
-    within_limits(target.expect("a merge leaves a set")).map_err(MergeRefusal::Merge)
+    let way = if leading { door::merge_leading_attrs } else { door::merge_attrs };
+    within_limits(merged(way, first, second)).map_err(MergeRefusal::Merge)
+}
+
+/// The original's merge of two sets, which lists every class of both. What it means hangs on what the two mean.
+fn merged(way: fn(&mut Option<Attrs>, Attrs), first: Attrs, second: Attrs) -> Attrs {
+    let merge = |first: Attrs, second: Attrs| {
+        let mut target = Some(first);
+        way(&mut target, second);
+        target.expect("a merge leaves a set")
+    };
+    let meant = each_class_once(&merge(each_class_once(&first), each_class_once(&second)));
+    let listed = merge(first, second);
+    assert_eq!(each_class_once(&listed), meant, "the merge of what two sets mean is what their merge means");
+    listed
 }
 
 /// A set that was read, and the blocks back to back that it was read from: a line or a run's joined text, trimmed.
@@ -619,11 +628,10 @@ type Read = (Attrs, String);
 /// The sets of two texts, merged by the original, the second later. They are over texts of their own, and together may
 /// be longer than any text.
 fn merge_two((first, blocks): Read, (second, later_blocks): Read) -> Result<Attrs, Number> {
-    let mut target = Some(first);
-    door::merge_attrs(&mut target, second);
+    let listed = merged(door::merge_attrs, first, second);
     // Document 01 merges blocks that stand back to back from left to right, so one line of all of them has that set.
-    assert_eq!(target, good_line(&(blocks + &later_blocks)), "the merge is what the blocks mean back to back");
-    within_limits(target.expect("a merge leaves a set"))
+    assert_eq!(Some(&listed), good_line(&(blocks + &later_blocks)).as_ref(), "the merge is what the blocks list back to back");
+    within_limits(listed)
 }
 
 /// The sets that two texts are read to, merged; the first is asked first.
@@ -674,8 +682,17 @@ fn line_one(bytes: &[u8]) -> String {
 
 // ---- Canonical text ----
 
-/// What the writer makes of a set over a text that it can use: the canonical text, or 10.
-pub fn canonical(attrs: &Attrs) -> Result<Vec<u8>, Number> {
+/// What a set means, after document 02: a class equal byte for byte to an earlier one doesn't count, and the first place
+/// stays. Nothing else is made one.
+fn each_class_once(listed: &Attrs) -> Attrs {
+    let classes = &listed.classes;
+    let counts = |&n: &usize| !classes[..n].contains(&classes[n]);
+    Attrs { classes: (0..classes.len()).filter(counts).map(|n| classes[n].clone()).collect(), ..listed.clone() }
+}
+
+/// What the writer makes of a set over a text that it can use: the canonical text of what the set means, or 10.
+pub fn canonical(listed: &Attrs) -> Result<Vec<u8>, Number> {
+    let attrs = each_class_once(listed);
     let mut items: Vec<(&str, &str)> = Vec::new();
     for slot in &attrs.order {
         match slot {
@@ -701,8 +718,9 @@ pub fn canonical(attrs: &Attrs) -> Result<Vec<u8>, Number> {
     out.push(b'}');
     // Reading back is the original's strict reading at byte 0.
     let back = door::read_attrs_at(&out, 0, Some(out.len() - 1));
-    assert_eq!(back, Some((attrs.clone(), out.len())), "canonical text reads back to the same set");
-    if out.len() > TEXT_LIMIT {
+    let written = out.len();
+    assert_eq!(back, Some((attrs, written)), "canonical text reads back to the set with each class once");
+    if written > TEXT_LIMIT {
         return Err(10);
     }
     Ok(out)

@@ -1,5 +1,5 @@
 //! The rows of a set, after document 01's words on tables. The original's set holds strings and has no rows, so this
-//! answers alone; the layer holds what the rows mean against the original's set.
+//! answers alone; the layer holds what the rows list against the original's set.
 
 use crate::ast::{AttrSlot, Attrs};
 use crate::document::{self, stands_for, text, Token, Value};
@@ -82,8 +82,8 @@ impl Rows {
             }
         }
     }
-    /// What the rows mean: every value as what it stands for, keys and slots by name.
-    pub fn meaning(&self, s: &[u8]) -> Attrs {
+    /// What the rows list: every value as what it stands for, a repeated class too, keys and slots by name.
+    pub fn listed(&self, s: &[u8]) -> Attrs {
         let value = |&value: &Value| text(&stands_for(s, value));
         let name = |&(name, _): &(Name, Value)| text(name.bytes(s));
         Attrs {

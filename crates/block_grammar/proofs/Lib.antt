@@ -6,3 +6,5 @@ pub mod Payload
 pub mod Loop
 pub mod Places
 pub mod Close
+pub mod Fresh
+pub mod Once

@@ -26,28 +26,29 @@ use Rattle.text_checks.proofs.Texts.{is-text}
 use Rattle.text_checks.specs.Outcomes.{unless, orElse}
 use Rattle.text_names.specs.Names.{isKey}
 use Rattle.block_grammar.specs.Close.{noLf}
-use Rattle.block_grammar.specs.Meaning.{Entry}
-use Rattle.proved_grammar.specs.Meaning.{isClass, absent, distinct}
+use Rattle.block_grammar.specs.Meaning.{Entry, isClass, onceIn, classesOnce}
+use Rattle.proved_grammar.specs.Meaning.{absent, distinct}
 use Rattle.set_canon.specs.Canon.{marked, escape, moreText, pairsText, pairsOf, pairs, canon}
 use Rattle.proved_sets.specs.Formed.{valuesOk, entryOk, wf}
 use Rattle.proved_sets.proofs.CanonBack.{back, same-text, same-meaning}
 use Rattle.set_table.specs.Types.{Texts, maxClasses, maxKeys, maxSlots}
-use Rattle.set_table.specs.Rows.{rowsIn, meaningOf}
+use Rattle.set_table.specs.Rows.{rowsIn, meaningOf, listedOf}
 use Rattle.set_table.specs.Shape.{isFree}
 use Rattle.set_table.specs.declared.Attrs.{Attrs}
 use Rattle.set_wellformed.specs.WellFormed.{countsOk, rowsOk, tableOk, wellFormed}
 use Rattle.set_wellformed.proofs.Shape.{shaped}
 use Rattle.proved_sets.proofs.MeansUtf8.{written-utf8}
-use Rattle.proved_sets.proofs.WellFormedMeans.{means-wf}
+use Rattle.proved_sets.proofs.WellFormedMeans.{means-wf, lists-wf}
 use Rattle.proved_sets.proofs.WellFormedShape.{formed-parts, both-pass, both-texts}
 use Rattle.set_writer.specs.Write.{hasRoom, wroteOf, contentAfter, writable, orRefused, attrsWrote, attrsContent}
 use Rattle.set_writer.specs.declared.Wrote.the-variants.{Refused, Bytes}
 use Rattle.proved_sets.specs.Limits.{classCount, keyCount}
-use Rattle.proved_sets.proofs.Counts.{class-rows, key-rows}
-use Rattle.proved_reading.proofs.Agrees.{reads-as}
+use Rattle.proved_sets.proofs.Counts.{class-rows, key-rows, once-classes, once-keys}
+use Rattle.proved_reading.proofs.Agrees.{reads-as, lists-as}
 use Rattle.proved_reading.proofs.HandedOut.{handed-out-ok}
 use Rattle.proved_demands.specs.Demands.{canonOf, CanonFits, EqualTexts, ReadsBack, CanonReadsBack}
 use Rattle.proved_demands.specs.Canonical.{WritesCanon, FitsIsWritten, BytesEqual, BytesDiffer, BytesBack, NoConstant}
+use Rattle.block_grammar.proofs.Once.{once-twice}
 
 well-wf : (t : Texts) (a : Attrs) → wellFormed t a ≡ true → wf (meaningOf t a) ≡ true
 well-wf t a h = means-wf t a (formed-parts t a h .2)
@@ -115,39 +116,44 @@ module _ (m : List Entry) where
     pub classes : classCount m ≤ maxClasses
     pub keys : keyCount m ≤ maxKeys
 
-  meaning-back : May → ReadsBack (canon m) m
-  meaning-back h =
-      let g = reads-as (back m (h .well) (h .some)) (h .short) (h .utf8) (h .classes) (h .keys) in
+  -- and has each class once already
+  meaning-back : May → classesOnce m ≡ m → ReadsBack (canon m) m
+  meaning-back h o =
+      let b = back m (h .well) (h .some) in
+      let g = rw o at (reads-as b (h .short) (h .utf8) (h .classes) (h .keys)) in
       let i = ap canon (g .means) in
       record {
         answer = g .answer;
         means = g .means;
+        lists = lists-as Strict (canon m) 0 b (g .answer);
         fits = record { well = handed-out-ok Strict (canon m) 0 (is-text (canon m) (h .short) (h .utf8)); some = λ q. h .some (sym (g .means) ∙ q); short = rw i (h .short) };
         again = i;
       }
 
 module _ {t : Texts} {a : Attrs} (f : CanonFits t a) where
   may : May (meaningOf t a)
-  unfolding tableOk countsOk meaningOf rowsIn wf
+  unfolding tableOk countsOk meaningOf listedOf rowsIn wf
   may =
       let k = formed-parts t a (f .well) .2 in
       let w = means-wf t a k in
+      let m = listedOf t a in
       let c = both (countsOk a) (rowsOk t (rowsIn a)) k .0 in
       let x = both (leb (a .nclass) maxClasses) _ c in
       let y = both (leb (a .nkey) maxKeys) (leb (a .norder) maxSlots) (x .1) in
       let s = shaped t a k in
-      let d = both (all entryOk (meaningOf t a)) (distinct (meaningOf t a)) w .1 in
+      let d = both (all entryOk m) (distinct m) (lists-wf t a k) .1 in
       record {
         well = w;
         some = f .some;
         short = f .short;
         utf8 = written-utf8 t a (f .well);
-        classes = omega (arith, class-rows s, length-take (a .nclass) (a .classes), leb-true (a .nclass) maxClasses (x .0));
-        keys = omega (arith, key-rows s d, length-take (a .nkey) (a .keys), leb-true (a .nkey) maxKeys (y .0));
+        classes = omega (arith, once-classes m, class-rows s, length-take (a .nclass) (a .classes), leb-true (a .nclass) maxClasses (x .0));
+        keys = omega (arith, once-keys m, key-rows s d, length-take (a .nkey) (a .keys), leb-true (a .nkey) maxKeys (y .0));
       }
 
 pub reads-back : CanonReadsBack
-reads-back t a f = meaning-back (meaningOf t a) (may f)
+unfolding meaningOf
+reads-back t a f = meaning-back (meaningOf t a) (may f) (once-twice (listedOf t a))
 
 pub bytes-back : BytesBack
 bytes-back t a buf n e = let w = wrote t a buf n e in rw (w .front) (reads-back t a (w .fits))
@@ -164,9 +170,9 @@ bare-may true = record { well = refl; some = λ q. contra true refl (cc); short 
 bare-may false = record { well = refl; some = λ q. contra true refl (cc); short = omega arith; utf8 = ascii (canon (bare 98)) refl; classes = omega arith; keys = omega arith }
 
 pub no-constant : NoConstant
-unfolding absent all same
+unfolding absent all same classesOnce onceIn isClass
 no-constant c h =
-    let x = meaning-back (bare 97) (bare-may true) in
-    let y = meaning-back (bare 98) (bare-may false) in
+    let x = meaning-back (bare 97) (bare-may true) refl in
+    let y = meaning-back (bare 98) (bare-may false) refl in
     let p : bare 98 ≡ bare 97 = sym (h _ _ (y .fits) .means ∙ y .means) ∙ h _ _ (x .fits) .means ∙ x .means in
     contra true refl (ap (absent (97 ∷ [])) p)

@@ -11,12 +11,12 @@ use Rattle.text_names.specs.Computed.{isSize, tagFrom, isTag, isLanguage}
 use Rattle.text_escapes.specs.Unescape.{unescapeFrom, unescape}
 use Rattle.block_grammar.specs.Grammar.{isValue}
 use Rattle.block_grammar.specs.Computed.{ends, finish, shutOf, valueToken, afterName, tokenOf, text, readFrom, readPayload}
-use Rattle.block_grammar.specs.Meaning.{pieceRanges}
+use Rattle.block_grammar.specs.Meaning.{isClass, isAmong, freshAfter, onceIn, classesOnce, pieceRanges}
 use Rattle.block_grammar.specs.Close.{turned}
 use Rattle.block_grammar.specs.ComputedClose.{scanStep, closeFrom, findClose}
 use Rattle.set_canon.specs.Canon.{marked, escape, moreText, pairsText, pairsOf, pairs, canon}
 use Rattle.set_table.specs.Types.{rangeBytes, nameBytes, valueBytes}
-use Rattle.set_table.specs.Rows.{hasKey, putRow, withPut, withPuts, slotEntry, meant, padded, tableOf, rowsIn, meaningOf}
+use Rattle.set_table.specs.Rows.{hasKey, putRow, withPut, withPuts, slotEntry, meant, padded, tableOf, rowsIn, listedOf, meaningOf}
 use Rattle.set_table.specs.Puts.{byName, valued, putsOf, putsIn}
 use Rattle.set_table.specs.Filled.{limited}
 use Rattle.set_fill.specs.Fill.{filledOf}
@@ -28,6 +28,6 @@ pub twelve-cases : TwelveCases
 unfolding typed all headed run isIn same within isLetter isDigit isAlnum isNameStart isNamePart isKeyStart isBlank isQuote isPlain isPunct isSpace isUtf8 octetsFrom
     leadOf afterOf numberOf isName isKey isBareName isSize tagFrom isTag isLanguage unescapeFrom unescape isValue ends finish shutOf valueToken afterName tokenOf text
     readFrom readPayload pieceRanges turned scanStep closeFrom findClose marked isMarked escape flatMap moreText pairsText pairsOf pairs canon rangeBytes nameBytes
-    valueBytes hasKey putRow withPut withPuts slotEntry meant padded tableOf rowsIn meaningOf byName valued putsOf putsIn limited filledOf braceAt finished atBrace
+    valueBytes hasKey putRow withPut withPuts slotEntry meant padded tableOf rowsIn listedOf meaningOf isClass isAmong freshAfter onceIn classesOnce byName valued putsOf putsIn limited filledOf braceAt finished atBrace
     readAttrsAt
 twelve-cases = refl

@@ -69,7 +69,12 @@ use Rattle.proved_origins.proofs.Mirror.{mirrors-as-before}
 use Rattle.proved_origins.proofs.Steady.{empty-range, zero-range}
 use Rattle.proved_origins.proofs.Read.{read-first, read-joined}
 use Rattle.proved_demands.proofs.Eight.{reading-never-eight, merge-never-eight}
-use Rattle.proved_demands.specs.Demands.{Numbered, NoneIfRefused, NoSet, LeftAsStated, ByStandards, ByGrammar, LastCloseDropped, QuickTest, Lookahead, RowsZero, SetsWellFormed, TwoTexts}
+use Rattle.proved_demands.specs.Demands.{Numbered, NoneIfRefused, NoSet, LeftAsStated, ByStandards, ByGrammar, LastCloseDropped, QuickTest, Lookahead, RowsZero, SetsWellFormed, TwoTexts, RepeatedClasses}
+use Rattle.proved_grammar.proofs.Plain.{kept-plain, plain-only}
+use Rattle.proved_grammar.proofs.Once.{once-changes, once-apart, joined-once, repeated-nothing}
+use Rattle.proved_sets.proofs.LineMeant.{line-lists}
+use Rattle.proved_reading.proofs.Agrees.{brace-lists}
+use Rattle.proved_sets.proofs.CanonAgain.{repeated-unwritten}
 
 -- ======== a refusal's number
 
@@ -232,4 +237,20 @@ two-texts =
       read = read-first;
       joined = read-joined;
       single = blocks-over-one;
+    }
+
+-- ======== repeated classes are one class
+pub repeated-classes : RepeatedClasses
+repeated-classes =
+    record {
+      kept = kept-plain;
+      only = plain-only;
+      changes = once-changes;
+      stay = once-apart;
+      nothing = repeated-nothing;
+      reading = brace-lists;
+      lines = line-lists;
+      merging = merge-gives;
+      meanings = joined-once;
+      unwritten = repeated-unwritten;
     }

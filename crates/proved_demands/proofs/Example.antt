@@ -21,7 +21,7 @@ use Rattle.block_grammar.specs.Meaning as meaning
 use Rattle.set_canon.specs.Canon.{pairsOf, pairs, marked, escape, moreText, pairsText, canon}
 use Rattle.block_payloads.specs.Payloads.{endsInClose, behindFrom, behindLast, continues}
 use Rattle.run_scanners.specs.Scanners.{passed, seekStep, seekFrom, lastOpenBrace, scanFrom, openQuoteAtEnd, heldStep, holdFrom, holdsOpen}
-use Rattle.set_table.specs.Rows.{padded, tableOf, putRow, hasKey, withPut, withPuts, slotEntry, meant, rowsIn, meaningOf}
+use Rattle.set_table.specs.Rows.{padded, tableOf, putRow, hasKey, withPut, withPuts, slotEntry, meant, rowsIn, listedOf, meaningOf}
 use Rattle.set_table.specs.Puts.{byName, valued, putsOf, putsIn}
 use Rattle.set_table.specs.Types.{rangeBytes, nameBytes, valueBytes}
 use Rattle.set_table.specs.Filled.{limited}
@@ -45,7 +45,7 @@ unfolding typed isIn all headed run same isBlank isPlain isQuote within isLetter
     afterOf octetsFrom isUtf8 numberOf checkOf isKey isBareName isName isSize tagFrom isTag isLanguage unescapeFrom unescape lines eol lineFrom rangesFrom ranges trimEnd
     trimStart trim trimRange isBlankLine tabStop columnAfter indentFrom capped ends finish shutOf valueToken afterName tokenOf text readFrom readPayload isValue scanStep
     closeFrom meaning.pieceRanges pairsOf pairs flatMap marked isMarked escape moreText pairsText canon endsInClose behindFrom behindLast continues turned passed seekStep
-    seekFrom lastOpenBrace scanFrom openQuoteAtEnd heldStep holdFrom holdsOpen padded tableOf putRow hasKey withPut withPuts slotEntry meant rowsIn meaningOf byName valued
+    seekFrom lastOpenBrace scanFrom openQuoteAtEnd heldStep holdFrom holdsOpen padded tableOf putRow hasKey withPut withPuts slotEntry meant rowsIn listedOf meaningOf meaning.isClass meaning.isAmong meaning.freshAfter meaning.onceIn meaning.classesOnce byName valued
     putsOf putsIn rangeBytes nameBytes valueBytes blocksFrom readBlocks goodLine limited chainAt firstsBy exchanged passes runFrom runAt frontOf opensAt runFound found flushLeft triesFrom
     onlyBlocks blocksOf placesIn places decimal reportLine refusedLine canonLine blockLine reportOf report
 example = refl

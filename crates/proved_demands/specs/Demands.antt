@@ -34,7 +34,7 @@ use Rattle.block_chain.specs.Chain.{Blocks}
 use Rattle.block_chain.specs.Computed.{readBlocks}
 use Rattle.set_canon.specs.Canon.{canon}
 use Rattle.set_table.specs.Types.{Texts, one, emptySet}
-use Rattle.set_table.specs.Rows.{meaningOf}
+use Rattle.set_table.specs.Rows.{meaningOf, listedOf}
 use Rattle.set_table.specs.declared.Attrs.{Attrs}
 use Rattle.set_table.specs.declared.Filled.{Filled}
 use Rattle.set_fill.specs.Fill.{chainAt}
@@ -56,8 +56,8 @@ use Rattle.sheet_blocks.specs.Sheets.{nextOf}
 use Rattle.sheet_report.specs.Parts.{partOf, startOf}
 use Rattle.sheet_report.specs.declared.Told.the-variants as told
 use Rattle.proved_sets.specs.HandedOut.{Zeroed}
-use Rattle.proved_sets.specs.Merged.{MergeByRules}
-use Rattle.proved_reading.specs.AtBraces.{BraceByRules, ThirdDropped}
+use Rattle.proved_sets.specs.Merged.{MergeByRules, MergeGives}
+use Rattle.proved_reading.specs.AtBraces.{BraceByRules, ThirdDropped, BraceLists}
 use Rattle.proved_reading.specs.HandedSets.{FillFormed}
 use Rattle.proved_reading.specs.Alone.{BlocksOverOne}
 use Rattle.proved_reading.specs.ByLines.{BlocksByRules, LineByRules, BlockByRules, RunByRules}
@@ -68,6 +68,10 @@ use Rattle.proved_origins.specs.Exchanged.{ExchangeKeeps, ExchangeRest, Exchang
 use Rattle.proved_origins.specs.OneText.{ExchangedOf, BehavesAsBefore, MirrorsAsBefore, EmptyText, ZeroRange, FormedOverMore, EmptyAsksNothing}
 use Rattle.proved_origins.specs.Read.{ReadFirst, ReadJoined}
 use Rattle.proved_demands.specs.Eight.{ReadingNeverEight, MergeNeverEight}
+use Rattle.proved_grammar.specs.Once.{KeptIsOnce, OnceIsKept, OnceChanges, DifferentStay, RepeatedIsNothing}
+use Rattle.proved_grammar.specs.Merged.{MergeOfMeanings}
+use Rattle.proved_sets.specs.Read.{LineLists}
+use Rattle.proved_sets.specs.Canonical.{RepeatedUnwritten}
 
 -- "exactly when"
 abbrev pub Iff : Type 0 → Type 0 → Type 0
@@ -229,6 +233,25 @@ pub record TwoTexts : Type 0 where
   -- `as_first` and `as_second`: a block's set over its own text alone
   pub single : BlocksOverOne
 
+-- ======== Repeated classes are one class (document 02): "a class equal byte for byte to an earlier one doesn't count, the first place stays"
+
+-- each by its statements in proved_grammar/specs/Once and Merged, and in proved_sets/specs
+pub record RepeatedClasses : Type 0 where
+  -- which classes count, by a rule
+  pub kept : KeptIsOnce
+  pub only : OnceIsKept
+  -- what that changes in a meaning, and what not
+  pub changes : OnceChanges
+  pub stay : DifferentStay
+  pub nothing : RepeatedIsNothing
+  -- "Reading and merging still list every class, as the Rust does; only meaning and the writer change."
+  pub reading : BraceLists
+  pub lines : LineLists
+  pub merging : MergeGives
+  pub meanings : MergeOfMeanings
+  -- a set and the set without a repeated class have one canonical text
+  pub unwritten : RepeatedUnwritten
+
 -- ======== Demand 3: "reads from then on over sets with either origin"
 
 -- the canonical text of a set over its texts
@@ -249,6 +272,8 @@ EqualTexts = (t t′ : Texts) (a a′ : Attrs) → CanonFits t a → CanonFits t
 pub record ReadsBack (c : List ℕ) (m : List Entry) : Type 0 where
   pub answer : readAttrsAt Strict c 0 .answer ≡ answer.Next (length c)
   pub means : meaningOf (one c) (readAttrsAt Strict c 0 .set) ≡ m
+  -- "reading back gives each class once" (document 02): the set lists what the meaning has
+  pub lists : listedOf (one c) (readAttrsAt Strict c 0 .set) ≡ m
   pub fits : CanonFits (one c) (readAttrsAt Strict c 0 .set)
   pub again : canonOf (one c) (readAttrsAt Strict c 0 .set) ≡ c
 

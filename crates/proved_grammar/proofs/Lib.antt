@@ -7,6 +7,8 @@ pub mod Close
 pub mod Quick
 pub mod Blocks
 pub mod Views
+pub mod Once
+pub mod Plain
 pub mod Merged
 pub mod Pieces
 pub mod Places

@@ -2,7 +2,7 @@
 -- Assumes nothing.
 use mathlib.Core.Path.{_≡_, refl, sym, _∙_, ap}
 use mathlib.Core.Bool.{Bool, true, false, cond, not, _&&_}
-use mathlib.Core.List.{List, [], _∷_, _++_, append-assoc, map, map-append}
+use mathlib.Core.List.{List, [], _∷_, _++_, append-assoc, map, map-append, foldl}
 use Prim.Native.Nat.{ℕ}
 use borrow.Author.Tests.{not-true}
 use Rattle.base_lists.specs.Lists.{all, same}
@@ -11,11 +11,12 @@ use Rattle.base_lists.proofs.Same.{same-refl, same-true}
 use Rattle.base_lists.proofs.More.{contra}
 use Rattle.base_bytes.specs.declared.Mode.{Mode}
 use Rattle.block_grammar.specs.Grammar.{Placed}
-use Rattle.block_grammar.specs.Meaning.{Entry}
-use Rattle.proved_grammar.specs.Meaning.{isClass, withValues, put, puts, said, entriesOf, meaning, absent, distinct, SlotsOnce}
+use Rattle.block_grammar.specs.Meaning.{Entry, isClass, classesOnce}
+use Rattle.proved_grammar.specs.Meaning.{withValues, put, puts, said, entriesOf, listed, meaning, absent, distinct, SlotsOnce}
 use Rattle.block_chain.specs.Chain.{Blocks}
-use Rattle.proved_grammar.specs.Merged.{merged, blockItems, LineMerges, MeaningAppends, MergeAssociates}
+use Rattle.proved_grammar.specs.Merged.{joinedMeaning, merged, blockItems, LineMerges, MeaningAppends, MergeAssociates}
 use Rattle.proved_grammar.proofs.Views.{puts-append, put-distinct}
+use Rattle.proved_grammar.proofs.Once.{once-distinct, puts-left, puts-right, puts-once}
 
 -- ======== puts by name
 
@@ -92,10 +93,14 @@ put-puts m (f ∷ a) e h =
         let z = same-true (f .name) (e .name) p in
         sym (later (put m f) a e (rw z at q) (ap (λ n. absent n (put m f)) (sym z) ∙ put-there m f) ∙ (rw (put-twice m f e p)))
 
-pub associative : MergeAssociates
+put-associative : (m a b : List Entry) → distinct a ≡ true → puts (puts m a) b ≡ puts m (puts a b)
 unfolding puts
-associative m a [] h = refl
-associative m a (e ∷ b) h = rw (← put-puts m a e h) (associative m (put a e) b (put-distinct a e h))
+put-associative m a [] h = refl
+put-associative m a (e ∷ b) h = rw (← put-puts m a e h) (put-associative m (put a e) b (put-distinct a e h))
+
+pub associative : MergeAssociates
+unfolding joinedMeaning
+associative m a b h = puts-left (puts m a) b ∙ ap classesOnce (put-associative m a b h) ∙ sym (puts-right m (puts a b))
 
 -- ======== the meaning of a line
 puts-distinct : (m es : List Entry) → distinct m ≡ true → distinct (puts m es) ≡ true
@@ -103,29 +108,41 @@ unfolding puts
 puts-distinct m [] h = h
 puts-distinct m (e ∷ es) h = puts-distinct (put m e) es (put-distinct m e h)
 
+pub listed-distinct : (is : List Placed) → distinct (listed is) ≡ true
+unfolding listed distinct
+listed-distinct is = puts-distinct [] (entriesOf is) refl
+
 pub meaning-distinct : SlotsOnce
-unfolding meaning distinct
-meaning-distinct is = puts-distinct [] (entriesOf is) refl
+unfolding meaning
+meaning-distinct is = once-distinct (listed is) ∙ listed-distinct is
 
 entries-append : (is js : List Placed) → entriesOf (is ++ js) ≡ entriesOf is ++ entriesOf js
 unfolding entriesOf
 entries-append is js = map-append (λ p. said (p .item)) is js
 
--- putting what a set means is putting what its items say
-put-meaning : (m : List Entry) (is : List Placed) → puts m (meaning is) ≡ puts m (entriesOf is)
-unfolding meaning puts distinct
-put-meaning m is = sym (associative m [] (entriesOf is) refl)
+-- putting what a set lists is putting what its items say
+put-listed : (m : List Entry) (is : List Placed) → puts m (listed is) ≡ puts m (entriesOf is)
+unfolding listed puts distinct
+put-listed m is = sym (put-associative m [] (entriesOf is) refl)
+
+listed-append : (is js : List Placed) → listed (is ++ js) ≡ puts (listed is) (listed js)
+unfolding listed
+listed-append is js = rw (entries-append is js, puts-append [] (entriesOf is) (entriesOf js)) (sym (put-listed (listed is) js))
 
 pub meaning-append : MeaningAppends
-unfolding meaning
-meaning-append is js = rw (entries-append is js, puts-append [] (entriesOf is) (entriesOf js)) (sym (put-meaning (meaning is) js))
+unfolding meaning joinedMeaning
+meaning-append is js = rw (listed-append is js) (sym (puts-once (listed is) (listed js)))
 
--- "merged left to right"
-merges : {m : Mode} {at : ℕ} {s : List ℕ} {is : List Placed} (p : Blocks m at s is) (x : List Entry) → merged x (map meaning (blockItems p)) ≡ puts x (meaning is)
-unfolding merged
+-- ======== "merged left to right"
+merges : {m : Mode} {at : ℕ} {s : List ℕ} {is : List Placed} (p : Blocks m at s is) (x : List Entry) → foldl joinedMeaning x (map meaning (blockItems p)) ≡ joinedMeaning x (meaning is)
 merges (Blocks.one b) x = refl
-merges (Blocks.more {is = is} {js = js} b p) x = merges p (puts x (meaning is)) ∙ associative x (meaning is) (meaning js) (meaning-distinct is) ∙ ap (puts x) (sym (meaning-append is js))
+merges (Blocks.more {is = is} {js = js} b p) x = merges p (joinedMeaning x (meaning is)) ∙ associative x (meaning is) (meaning js) (meaning-distinct is) ∙ ap (joinedMeaning x) (sym (meaning-append is js))
+
+-- what is put into nothing stays
+alone : (is : List Placed) → joinedMeaning [] (meaning is) ≡ meaning is
+unfolding joinedMeaning meaning listed
+alone is = puts-right [] (listed is) ∙ ap classesOnce (put-listed [] is)
 
 pub line-merges : {m : Mode} {at : ℕ} {s : List ℕ} {is : List Placed} → LineMerges m at s is
-unfolding meaning
-line-merges {is = is} p = sym (merges p [] ∙ put-meaning [] is)
+unfolding merged
+line-merges {is = is} p = sym (merges p [] ∙ alone is)

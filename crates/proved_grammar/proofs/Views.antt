@@ -9,8 +9,8 @@ use Rattle.base_lists.specs.Lists.{all, same}
 use Rattle.base_lists.proofs.Scan.{both}
 use Rattle.base_lists.proofs.Same.{same-refl, same-true}
 use Rattle.base_lists.proofs.More.{contra, same-sym}
-use Rattle.block_grammar.specs.Meaning.{Entry}
-use Rattle.proved_grammar.specs.Meaning.{isClass, withValues, put, puts, absent, lookup, slotNames, distinct, LastValueStays, OthersStay, WhereFirstMet, MeaningByNames}
+use Rattle.block_grammar.specs.Meaning.{Entry, isClass, lookup}
+use Rattle.proved_grammar.specs.Meaning.{withValues, put, puts, absent, slotNames, distinct, LastValueStays, OthersStay, WhereFirstMet, MeaningByNames}
 
 -- ======== by names
 lookup-absent : (n : List ℕ) (m : List Entry) → absent n m ≡ true → lookup n m ≡ []

@@ -6,6 +6,7 @@ pub mod Close
 pub mod Quick
 pub mod Blocks
 pub mod Meaning
+pub mod Once
 pub mod Merged
 pub mod Pieces
 pub mod Places

@@ -1,4 +1,5 @@
--- What a payload's items mean, put together one after the other; and, by the names of the slots and the values under each, how an entry that is put changes both.
+-- What a payload's items list, put together one after the other, and what that means; and, by the names of the slots and the values under each, how an entry
+-- that is put changes both.
 use mathlib.Core.Path.{_≡_}
 use mathlib.Core.Bool.{Bool, true, false, cond, not, _&&_}
 use mathlib.Core.List.{List, [], _∷_, _++_, map, foldl}
@@ -7,11 +8,7 @@ use Rattle.base_lists.specs.Lists.{all, same}
 use Rattle.base_bytes.specs.Bytes.{isSpace}
 use Rattle.text_escapes.specs.Unescape.{unescape}
 use Rattle.block_grammar.specs.Grammar.{Item, Placed}
-use Rattle.block_grammar.specs.Meaning.{Entry, idName, className, langName, orWhole}
-
--- "Keys `id` and `class` .. go to the id and the classes"
-unfoldable pub isClass : List ℕ → Bool
-isClass n = same n className
+use Rattle.block_grammar.specs.Meaning.{Entry, idName, className, langName, isClass, lookup, classesOnce, orWhole}
 
 -- ---- "A class value, unescaped first if quoted, is split at the five ASCII whitespace bytes .."
 
@@ -59,19 +56,19 @@ puts m es = foldl put m es
 unfoldable pub entriesOf : List Placed → List Entry
 entriesOf is = map (λ p. said (p .item)) is
 
+-- "Reading and merging still list every class, as the Rust does"
+unfoldable pub listed : List Placed → List Entry
+listed is = puts [] (entriesOf is)
+
+-- what they mean: "a class equal byte for byte to an earlier one doesn't count, the first place stays."
 unfoldable pub meaning : List Placed → List Entry
-meaning is = puts [] (entriesOf is)
+meaning is = classesOnce (listed is)
 
 -- no slot has the name
 unfoldable pub absent : List ℕ → List Entry → Bool
 absent n m = all (λ e. not (same (e .name) n)) m
 
--- ---- the parts of a meaning
-
--- the values under a name, none where it isn't there
-unfoldable pub lookup : List ℕ → List Entry → List (List ℕ)
-lookup n [] = []
-lookup n (e ∷ m) = cond (same (e .name) n) (e .values) (lookup n m)
+-- ---- the parts of a meaning, and of what is listed
 
 -- the slots by name
 unfoldable pub slotNames : List Entry → List (List ℕ)
@@ -82,7 +79,7 @@ unfoldable pub distinct : List Entry → Bool
 distinct [] = true
 distinct (e ∷ m) = absent (e .name) m && distinct m
 
--- "The last id and the last value of a key win."; classes are joined
+-- "The last id and the last value of a key win."; of what is listed, so classes are joined
 abbrev pub LastValueStays : Type 0
 LastValueStays = (m : List Entry) (new : Entry) → lookup (new .name) (put m new) ≡ cond (isClass (new .name)) (lookup (new .name) m ++ new .values) (new .values)
 

@@ -3,11 +3,12 @@
 use mathlib.Core.Path.{_≡_, refl, _∙_, ap}
 use mathlib.Core.List.{map}
 use Rattle.set_table.specs.Types.{Texts, rangeBytes, nameBytes, valueBytes, zeroRow}
-use Rattle.set_table.specs.Rows.{Rows, slotEntry, meant, meaningOf}
+use Rattle.set_table.specs.Rows.{Rows, slotEntry, meant, meaningOf, listedOf}
 use Rattle.set_table.specs.declared.Slot.{Slot}
 use Rattle.set_table.specs.declared.Slot.the-variants.{Id, Class, Key}
 use Rattle.proved_origins.specs.Meaning.{rowName, rowValue, BytesMean}
 use Rattle.proved_origins.proofs.Pairs.{same-map, same-at}
+use Rattle.block_grammar.specs.Meaning.{classesOnce}
 pub use Rattle.proved_origins.specs.Meaning.{SameBytes}
 
 module _ {t t′ : Texts} {s s′ : Rows} (h : SameBytes t t′ s s′) where
@@ -30,5 +31,5 @@ module _ {t t′ : Texts} {s s′ : Rows} (h : SameBytes t t′ s s′) where
   rows-mean = ap (map (slotEntry t′ s′)) (h .order) ∙ same-map (slotEntry t′ s′) (slotEntry t s) slot-means (s .order)
 
 pub bytes-mean : BytesMean
-unfolding meaningOf
-bytes-mean t t′ a a′ h = rows-mean h
+unfolding meaningOf listedOf
+bytes-mean t t′ a a′ h = ap classesOnce (rows-mean h)

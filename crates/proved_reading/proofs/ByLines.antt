@@ -1,6 +1,6 @@
 -- Lines, blocks and runs are answered as the table's rules give, and in no other way: the numbers, and the meaning of what is read.
 -- Assumes nothing.
-use mathlib.Core.Path.{_≡_, refl, _∙_}
+use mathlib.Core.Path.{_≡_, refl, _∙_, ap}
 use mathlib.Core.Bool.{Bool, true, false, cond}
 use mathlib.Core.List.{List, [], map}
 use Prim.Native.Nat.{ℕ, _≤_}
@@ -22,7 +22,7 @@ use Rattle.text_line_start.specs.declared.Start as starts
 use Rattle.text_line_start.specs.declared.Start.the-variants as start
 use Rattle.text_line_start.specs.Starts.{begun, startAt, onStart}
 use Rattle.block_grammar.specs.Grammar.{Placed, Reading}
-use Rattle.block_grammar.specs.Meaning.{Entry}
+use Rattle.block_grammar.specs.Meaning.{Entry, classesOnce}
 use Rattle.proved_grammar.specs.Meaning.{entriesOf, meaning}
 use Rattle.block_chain.specs.Chain.{Blocks, goodLine}
 use Rattle.block_chain.specs.Computed.{readBlocks}
@@ -45,7 +45,7 @@ use Rattle.proved_grammar.proofs.Merged.{line-merges}
 use Rattle.proved_grammar.proofs.Stands.{read-stands}
 use Rattle.proved_sets.specs.Limits.{Exactly, SizeGiven, Utf8Given, LimitGiven}
 use Rattle.proved_sets.proofs.Counts.{class-fill, key-fill}
-use Rattle.proved_sets.proofs.Items.{rows-mean, rows-shaped}
+use Rattle.proved_sets.proofs.Items.{rows-list, rows-shaped}
 use Rattle.proved_sets.proofs.Limits.{Only, exactly, size-exactly, text-exactly, limit-exactly}
 use Rattle.proved_sets.proofs.TableMeant.{shaped-none}
 use Rattle.proved_sets.proofs.TableWhole.{empty-means}
@@ -77,10 +77,11 @@ module _ (t : List ℕ) (from to : ℕ) where
 
   good-exactly : {is : List Placed} (p : Blocks Loose from (slice from to t) is)
       → Exactly (LimitGiven (entriesOf is) (merged [] (map meaning (blockItems p)))) (read t from to .outcome) (meaningOf (one t) (read t from to .set))
+  unfolding meaning
   good-exactly {is} p =
       let e = complete p in
       let h = read-stands Loose t from to is e in
-      rw e (limit-exactly (rows-shaped h (shaped-none (one t))) (entriesOf is) (class-fill h) (key-fill h) (rows-mean h ∙ line-merges p))
+      rw e (limit-exactly (rows-shaped h (shaped-none (one t))) (entriesOf is) (class-fill h) (key-fill h) (ap classesOnce (rows-list h) ∙ line-merges p))
 
   read-exactly : Exactly (BlocksGiven t from to) (read t from to .outcome) (meaningOf (one t) (read t from to .set))
   read-exactly = go (readBlocks Loose from (slice from to t)) refl

@@ -19,8 +19,8 @@ use Rattle.base_refusals.specs.declared.Refusal.{Refusal}
 use Rattle.base_refusals.specs.declared.Refusal.the-variants.{NothingThere, NoClose, NoReading, TooManyClasses, TooManyKeys}
 use Rattle.block_grammar.specs.Grammar.{Placed, Payload, Reading}
 use Rattle.block_grammar.specs.Computed.{readPayload}
-use Rattle.block_grammar.specs.Meaning.{Entry}
-use Rattle.proved_grammar.specs.Meaning.{entriesOf, meaning}
+use Rattle.block_grammar.specs.Meaning.{Entry, classesOnce}
+use Rattle.proved_grammar.specs.Meaning.{entriesOf, meaning, listed}
 use Rattle.block_grammar.specs.Close.{Closes}
 use Rattle.block_grammar.specs.ComputedClose.{findClose}
 use Rattle.block_grammar.specs.declared.Place.{Place}
@@ -28,10 +28,10 @@ use Rattle.block_grammar.specs.declared.Place.the-variants.{Nothing, At}
 use Rattle.block_grammar.proofs.Payload.{sound, complete}
 use Rattle.block_grammar.proofs.Close.{found, payload-is}
 use Rattle.set_table.specs.Types.{one, emptySet, maxClasses, maxKeys, maxSlots, zeroValue, zeroRow, zeroSlot}
-use Rattle.set_table.specs.Rows.{Rows, noRows, withPuts, held, tableOf, meaningOf}
+use Rattle.set_table.specs.Rows.{Rows, noRows, withPuts, held, tableOf, meaningOf, listedOf}
 use Rattle.set_table.specs.Puts.{putsIn}
 use Rattle.proved_sets.proofs.TableMeant.{shaped-none}
-use Rattle.proved_sets.proofs.Items.{rows-mean, rows-shaped}
+use Rattle.proved_sets.proofs.Items.{rows-list, rows-shaped}
 use Rattle.set_table.proofs.Table.{padded-length}
 use Rattle.set_table.specs.Filled.{limited}
 use Rattle.set_fill.specs.Fill as fills
@@ -39,7 +39,7 @@ use Rattle.proved_sets.proofs.Zeroed.{table-zeroed}
 use Rattle.proved_sets.proofs.Limited.{over-classes, over-keys, fits}
 use Rattle.proved_sets.proofs.Limits.{exactly, not-utf8}
 use Rattle.proved_sets.proofs.Slots.{slots-fit}
-use Rattle.proved_sets.proofs.TableWhole.{table-means, empty-table, empty-means}
+use Rattle.proved_sets.proofs.TableWhole.{table-means, empty-table, empty-means, table-lists}
 use Rattle.read_brace.specs.declared.Answer.{Answer}
 use Rattle.read_brace.specs.declared.Answer.the-variants.{Refused, Next}
 use Rattle.read_brace.specs.declared.Read.{Read}
@@ -126,6 +126,7 @@ module _ (m : Mode) (t : List ℕ) (i : ℕ) where
   without g e = rw (e, empty-means (one t)) g
 
   with-items : {e : ℕ} {is : List Placed} → Reads m t i e is → Right m t i (readAttrsAt m t i)
+  unfolding meaning
   with-items {e} {is} h = go (ltb maxClasses (classCount (entriesOf is))) refl (ltb maxKeys (keyCount (entriesOf is))) refl
     where
       go : (x : Bool) → ltb maxClasses (classCount (entriesOf is)) ≡ x → (y : Bool) → ltb maxKeys (keyCount (entriesOf is)) ≡ y → Right m t i (readAttrsAt m t i)
@@ -137,7 +138,7 @@ module _ (m : Mode) (t : List ℕ) (i : ℕ) where
       go false p false q =
           let l = ltb-false maxClasses (classCount (entriesOf is)) p in
           let k = ltb-false maxKeys (keyCount (entriesOf is)) q in
-          rw (reads-set h l k, table-means (withPuts (one t) noRows (putsIn is)) (one t), rows-mean (st h)) (Given.read h l k)
+          rw (reads-set h l k, table-means (withPuts (one t) noRows (putsIn is)) (one t), rows-list (st h)) (Given.read h l k)
 
   with-block : {e : ℕ} → BlockAt t i e → Right m t i (readAttrsAt m t i)
   unfolding finished fills.filledOf
@@ -194,6 +195,7 @@ module _ {m : Mode} {t : List ℕ} {i : ℕ} where
 
 module _ {m : Mode} {t : List ℕ} {i : ℕ} where
   pub only : {a : Answer} {s : List Entry} → Given m t i a s → AnswersSo m t i a s
+  unfolding meaning
   only g = let z = exact g in record { answer = answers z; means = meant z }
     where
       answers : {a : Answer} {s : List Entry} {r : Read} → Out m t i a s r → r .answer ≡ a
@@ -202,7 +204,7 @@ module _ {m : Mode} {t : List ℕ} {i : ℕ} where
 
       meant : {a : Answer} {s : List Entry} {r : Read} → Out m t i a s r → meaningOf (one t) (r .set) ≡ s
       meant (Out.no r) = empty-means (one t)
-      meant (Out.yes {is = is} h l k) = table-means (withPuts (one t) noRows (putsIn is)) (one t) ∙ rows-mean (st h)
+      meant (Out.yes {is = is} h l k) = table-means (withPuts (one t) noRows (putsIn is)) (one t) ∙ ap classesOnce (rows-list (st h))
 
 pub brace-by-rules : BraceByRules
 brace-by-rules m t i = exactly (λ a s g. let z = only g in (z .answer, z .means)) (given m t i)
@@ -232,6 +234,12 @@ module _ {m : Mode} {t : List ℕ} {i : ℕ} where
 
   pub read-means : {n : ℕ} → readAttrsAt m t i .answer ≡ Next n → Means m t i n (meaningOf (one t) (readAttrsAt m t i .set))
   read-means {n} e = by-next (given m t i) n e
+
+-- the set lists what they list
+pub set-lists : (m : Mode) (t : List ℕ) (i : ℕ) {n : ℕ} (e : readAttrsAt m t i .answer ≡ Next n) → listedOf (one t) (readAttrsAt m t i .set) ≡ listed (read-means e .items)
+set-lists m t i e =
+    let r = read-means e in
+    ap (λ x. listedOf (one t) (x .set)) (reads-set (r .reads) (r .classes) (r .keys)) ∙ table-lists (withPuts (one t) noRows (putsIn (r .items))) (one t) ∙ rows-list (st (r .reads))
 
 -- ======== the set as it is handed out
 

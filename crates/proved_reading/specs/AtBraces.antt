@@ -9,22 +9,28 @@ use Rattle.base_bytes.specs.declared.Mode.the-variants.{Strict}
 use Rattle.base_refusals.specs.Numbers.{maxText, tooLong}
 use Rattle.base_refusals.specs.declared.Refusal.the-variants.{TextTooLong, NothingThere}
 use Rattle.text_utf8.specs.Computed.{isUtf8}
+use Rattle.block_grammar.specs.Grammar.{Placed}
 use Rattle.block_grammar.specs.Meaning.{Entry}
+use Rattle.proved_grammar.specs.Meaning.{listed}
 use Rattle.set_canon.specs.Canon.{canon}
 use Rattle.proved_sets.specs.Formed.{wf}
 use Rattle.set_table.specs.Types.{one}
-use Rattle.set_table.specs.Rows.{meaningOf}
+use Rattle.set_table.specs.Rows.{listedOf, meaningOf}
 use Rattle.read_brace.specs.declared.Answer.{Answer}
 use Rattle.read_brace.specs.declared.Answer.the-variants.{Next}
 use Rattle.read_brace.specs.declared.Read.{Read}
 use Rattle.read_brace.specs.Brace.{bracePaper, refusingRead, braceAt, readTo, readAttrsAt}
 use Rattle.proved_grammar.specs.Close.{lastClose, searchWith}
-use Rattle.proved_reading.specs.Table.{Given}
+use Rattle.proved_reading.specs.Table.{Reads, Given}
 use Rattle.proved_sets.specs.Limits.{Exactly}
 
 -- what the set means that reading at i hands out
 abbrev pub meantAt : Mode → List ℕ → ℕ → List Entry
 meantAt m t i = meaningOf (one t) (readAttrsAt m t i .set)
+
+-- "Reading .. still list[s] every class": the set lists what the payload's items list
+abbrev pub BraceLists : Type 0
+BraceLists = (m : Mode) (t : List ℕ) (i n e : ℕ) (is : List Placed) → readAttrsAt m t i .answer ≡ Next n → Reads m t i e is → listedOf (one t) (readAttrsAt m t i .set) ≡ listed is
 
 -- reading at i answers a, with a set that means s
 pub record AnswersSo (m : Mode) (t : List ℕ) (i : ℕ) (a : Answer) (s : List Entry) : Type 0 where

@@ -1,5 +1,5 @@
 -- Reading at a brace without sizes, limits and UTF-8, with which canonical text is read back; the table of refusals is proved_reading/specs/Table.
--- `readAt` answers what the rules of `AtBrace` say and nothing else: 3, 4, 5 or a meaning, each given exactly when document 01 gives it.
+-- `readAt` answers what the rules of `AtBrace` say and nothing else: 3, 4, 5 or what is listed, each given exactly when document 01 gives it.
 -- Assumes nothing.
 use mathlib.Core.Path.{_≡_, refl, ap, sym}
 use mathlib.Core.Bool.{Bool, true, false, cond}
@@ -12,7 +12,7 @@ use Rattle.base_bytes.specs.declared.Mode.{Mode}
 use Rattle.block_grammar.specs.Grammar.{Placed, Payload, Reading}
 use Rattle.block_grammar.specs.Computed.{readPayload}
 use Rattle.block_grammar.specs.Meaning.{Entry}
-use Rattle.proved_grammar.specs.Meaning.{meaning}
+use Rattle.proved_grammar.specs.Meaning.{listed}
 use Rattle.block_grammar.specs.declared.Place.{Place}
 use Rattle.block_grammar.specs.declared.Place.the-variants.{Nothing, At}
 use Rattle.block_grammar.specs.Close.{Closes}
@@ -22,7 +22,7 @@ use Rattle.block_grammar.proofs.Close.{found, payload-is}
 use Rattle.proved_grammar.proofs.Close.{close-complete, no-close}
 use Rattle.proved_grammar.proofs.Payload.{no-reading}
 
--- a refusal by its number, or the meaning and the place behind the close
+-- a refusal by its number, or what the items list and the place behind the close
 pub data Answer : Type 0 where
   refused : ℕ → Answer
   read : List Entry → ℕ → Answer
@@ -35,12 +35,12 @@ pub data AtBrace (m : Mode) (s : List ℕ) (i : ℕ) : Answer → Type 0 where
   unclosed : getD s i 0 ≡ 123 → ((e : ℕ) → Closes (drop (suc i) s) (suc i) e → ⊥) → AtBrace m s i (Answer.refused 4)
   -- "at a brace, no reading of the payload exists"
   unread : {e : ℕ} → getD s i 0 ≡ 123 → (c : Closes (drop (suc i) s) (suc i) e) → ((is : List Placed) → Payload m (suc i) (c .inside) is → ⊥) → AtBrace m s i (Answer.refused 5)
-  read : {e : ℕ} {is : List Placed} → getD s i 0 ≡ 123 → (c : Closes (drop (suc i) s) (suc i) e) → Payload m (suc i) (c .inside) is → AtBrace m s i (Answer.read (meaning is) (suc e))
+  read : {e : ℕ} {is : List Placed} → getD s i 0 ≡ 123 → (c : Closes (drop (suc i) s) (suc i) e) → Payload m (suc i) (c .inside) is → AtBrace m s i (Answer.read (listed is) (suc e))
 
 -- by computing
 abbrev pub answer : Reading → ℕ → Answer
 answer Reading.refused next = Answer.refused 5
-answer (Reading.items is) next = Answer.read (meaning is) next
+answer (Reading.items is) next = Answer.read (listed is) next
 
 abbrev pub readTo : Mode → List ℕ → ℕ → Place → Answer
 readTo m s from Nothing = Answer.refused 4

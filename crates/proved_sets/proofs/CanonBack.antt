@@ -1,4 +1,4 @@
--- The canonical text of a well-formed meaning, not empty, is read back to its last byte, and means the same. So two such texts are equal only where the
+-- The canonical text of a well-formed meaning, not empty, is read back to its last byte, and lists the same. So two such texts are equal only where the
 -- meanings are.
 -- Assumes nothing.
 use mathlib.Core.Path.{_≡_, refl, ap, sym, _∙_}
@@ -16,8 +16,8 @@ use Rattle.base_bytes.specs.Bytes.{isBlank, within, isLetter, isDigit, isAlnum,
 use Rattle.text_names.specs.Names.{isKey}
 use Rattle.block_grammar.specs.Grammar.{Item, Placed, IsToken}
 use Rattle.block_grammar.specs.Computed.{readFrom, readPayload}
-use Rattle.block_grammar.specs.Meaning.{Entry}
-use Rattle.proved_grammar.specs.Meaning.{isClass, said, puts, entriesOf, meaning}
+use Rattle.block_grammar.specs.Meaning.{Entry, isClass}
+use Rattle.proved_grammar.specs.Meaning.{said, puts, entriesOf, listed}
 use Rattle.block_grammar.specs.declared.Place.the-variants.{At}
 use Rattle.block_grammar.specs.Close.{fresh, Covered, noLf}
 use Rattle.block_grammar.specs.ComputedClose.{scanStep, closeFrom, findClose}
@@ -154,7 +154,7 @@ pairs-some (a ∷ m) h n e = go (a .values) (some-value (okay a (split-wf a m h 
 
 -- ======== reading back
 back-pairs : (ps : List Pair) (m : List Entry) → (ps ≡ [] → ⊥) → Sures ps → puts [] (pairEntries ps) ≡ m → readAt Strict (123 ∷ (pairsText ps ++ (125 ∷ []))) 0 ≡ Answer.read m (suc (suc (length (pairsText ps))))
-unfolding readAt findClose pairsText meaning
+unfolding readAt findClose pairsText listed
 back-pairs [] m n h e = absurd (n refl)
 back-pairs (p ∷ ps) m n (Sures.and h hs) e =
     let t = pairText p ++ moreText ps in

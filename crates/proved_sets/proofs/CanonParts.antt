@@ -7,8 +7,8 @@ use Prim.Native.Nat.{ℕ}
 use Rattle.base_lists.specs.Lists.{all, isSome}
 use Rattle.base_lists.proofs.Scan.{both}
 use Rattle.text_names.specs.Names.{isKey}
-use Rattle.block_grammar.specs.Meaning.{Entry}
-use Rattle.proved_grammar.specs.Meaning.{isClass, absent, distinct}
+use Rattle.block_grammar.specs.Meaning.{Entry, isClass}
+use Rattle.proved_grammar.specs.Meaning.{absent, distinct}
 use Rattle.block_grammar.specs.Close.{noLf}
 use Rattle.set_canon.specs.Canon.{isClassValue}
 use Rattle.proved_sets.specs.Formed.{isOne, valuesOk, entryOk, wf}

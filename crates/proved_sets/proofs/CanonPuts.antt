@@ -9,8 +9,8 @@ use Rattle.base_lists.specs.Lists.{all, same}
 use Rattle.base_lists.proofs.Scan.{both}
 use Rattle.base_lists.proofs.Same.{same-refl}
 use Rattle.base_lists.proofs.More.{contra, same-sym}
-use Rattle.block_grammar.specs.Meaning.{Entry}
-use Rattle.proved_grammar.specs.Meaning.{isClass, put, puts, absent}
+use Rattle.block_grammar.specs.Meaning.{Entry, isClass}
+use Rattle.proved_grammar.specs.Meaning.{put, puts, absent}
 use Rattle.proved_grammar.proofs.Views.{put-new, puts-append}
 use Rattle.set_canon.specs.Canon.{Pair, pairsOf, pairs}
 use Rattle.proved_sets.specs.Formed.{isOne, wf}

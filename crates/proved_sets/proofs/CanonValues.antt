@@ -11,8 +11,8 @@ use Rattle.base_lists.proofs.Scan.{both}
 use Rattle.base_bytes.specs.Bytes.{isPunct, isSpace, within, isMarked}
 use Rattle.text_escapes.specs.Unescape.{unescapeFrom, unescape}
 use Rattle.block_grammar.specs.Grammar.{Inside}
-use Rattle.block_grammar.specs.Meaning.{orWhole}
-use Rattle.proved_grammar.specs.Meaning.{flush, piecesFrom, classesOf, isClass, valuesOf}
+use Rattle.block_grammar.specs.Meaning.{orWhole, isClass}
+use Rattle.proved_grammar.specs.Meaning.{flush, piecesFrom, classesOf, valuesOf}
 use Rattle.set_canon.specs.Canon.{marked, escape, isClassValue}
 
 pub inside-escape : (v : List ℕ) → Inside 34 (escape v)

@@ -16,8 +16,8 @@ use Rattle.text_names.specs.Names.{isName, isKey}
 use Rattle.text_escapes.specs.Unescape.{unescape}
 use Rattle.text_escapes.proofs.Pieces.{no-lf}
 use Rattle.block_grammar.specs.Grammar.{Item, Placed, IsToken, Payload}
-use Rattle.block_grammar.specs.Meaning.{Entry, langName, idName, className, orWhole}
-use Rattle.proved_grammar.specs.Meaning.{isClass, flush, piecesFrom, classesOf, valuesOf, said, withValues, put, puts, entriesOf, meaning, distinct}
+use Rattle.block_grammar.specs.Meaning.{Entry, langName, idName, className, orWhole, isClass}
+use Rattle.proved_grammar.specs.Meaning.{flush, piecesFrom, classesOf, valuesOf, said, withValues, put, puts, entriesOf, listed, distinct}
 use Rattle.block_grammar.specs.Close.{noLf}
 use Rattle.block_grammar.proofs.Bytes.{name-parts, bare-key}
 use Rattle.block_grammar.proofs.Chain.{Chain, payload-chain}
@@ -189,8 +189,8 @@ entries-good (Chain.more {t = t} {s = s} {i = i} b h q p) f =
     let g = all-parts notLf t (b ∷ s) f in
     rw (said-good h (g .0)) (entries-good p (both (notLf b) (all notLf s) (g .1) .1))
 
-pub read-wf : {m : Mode} {at : ℕ} {s : List ℕ} {is : List Placed} → Payload m at s is → noLf s ≡ true → wf (meaning is) ≡ true
-unfolding meaning wf all distinct
+pub read-wf : {m : Mode} {at : ℕ} {s : List ℕ} {is : List Placed} → Payload m at s is → noLf s ≡ true → wf (listed is) ≡ true
+unfolding listed wf all distinct
 read-wf {is = is} p f = puts-wf [] (entriesOf is) refl (entries-good (payload-chain p) f)
 
 puts-some : (es m : List Entry) → (m ≡ [] → ⊥) → puts m es ≡ [] → ⊥
@@ -198,11 +198,11 @@ unfolding puts
 puts-some [] m n q = n q
 puts-some (e ∷ es) m n q = puts-some es (put m e) (put-some m e) q
 
-chain-some : {m : Mode} {at : ℕ} {s : List ℕ} {is : List Placed} → Chain m at s is → meaning is ≡ [] → ⊥
-unfolding meaning entriesOf puts
+chain-some : {m : Mode} {at : ℕ} {s : List ℕ} {is : List Placed} → Chain m at s is → listed is ≡ [] → ⊥
+unfolding listed entriesOf puts
 chain-some (Chain.blank h p) q = chain-some p q
 chain-some (Chain.last {i = i} t b) q = put-some [] (said i) q
 chain-some (Chain.more {i = i} {is = is} b t h p) q = puts-some (entriesOf is) (put [] (said i)) (put-some [] (said i)) q
 
-pub read-some : {m : Mode} {at : ℕ} {s : List ℕ} {is : List Placed} → Payload m at s is → meaning is ≡ [] → ⊥
+pub read-some : {m : Mode} {at : ℕ} {s : List ℕ} {is : List Placed} → Payload m at s is → listed is ≡ [] → ⊥
 read-some p q = chain-some (payload-chain p) q

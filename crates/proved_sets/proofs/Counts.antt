@@ -3,7 +3,7 @@
 use mathlib.Core.Path.{_≡_, refl, sym, _∙_, ap}
 use mathlib.Core.Bool.{Bool, true, false, cond, not, _&&_}
 use mathlib.Core.List.{List, [], _∷_, _++_, append-nil, map}
-use Prim.Native.Nat.{ℕ, zero, suc, _+_, _<_}
+use Prim.Native.Nat.{ℕ, zero, suc, _+_, _<_, _≤_}
 use native.Mathlib.Omega.{arith}
 use lib.ListN.{length, length-append, length-map}
 use borrow.Author.Tests.{not-true, ne-eqb, ltb-true}
@@ -12,8 +12,8 @@ use Rattle.base_lists.proofs.Scan.{both}
 use Rattle.base_lists.proofs.Same.{same-refl, same-true}
 use Rattle.base_lists.proofs.More.{same-sym}
 use Rattle.block_grammar.specs.Grammar.{Placed}
-use Rattle.block_grammar.specs.Meaning.{Entry, idName, className}
-use Rattle.proved_grammar.specs.Meaning.{isClass, withValues, put, puts, entriesOf, absent, meaning, distinct}
+use Rattle.block_grammar.specs.Meaning.{Entry, idName, className, isClass, freshAfter, onceIn, classesOnce}
+use Rattle.proved_grammar.specs.Meaning.{withValues, put, puts, entriesOf, absent, distinct, listed}
 use Rattle.proved_grammar.proofs.Views.{absent-put, put-distinct}
 use Rattle.proved_grammar.proofs.Places.{Standing}
 use Rattle.set_table.specs.Types.{Texts, one}
@@ -25,8 +25,10 @@ use Rattle.set_table.specs.declared.Slot.{Slot}
 use Rattle.set_table.specs.declared.Slot.the-variants.{Id, Class, Key}
 use Rattle.set_table.proofs.Slots.{slots-length, times-head, times-le}
 use Rattle.proved_sets.proofs.TableMeant.{shaped-none}
-use Rattle.proved_sets.proofs.Items.{rows-mean, rows-shaped}
+use Rattle.proved_sets.proofs.Items.{rows-list, rows-shaped}
 use Rattle.proved_sets.specs.Limits.{entryClasses, classCount, entryKeys, keyCount}
+use Rattle.block_grammar.proofs.Fresh.{fresh-length}
+use Rattle.proved_grammar.proofs.Once.{once-absent}
 
 -- ======== classes: each put adds its own
 class-over : (f e : Entry) → f .name ≡ e .name → entryClasses (withValues f (e .values)) ≡ entryClasses f + entryClasses e
@@ -121,14 +123,33 @@ key-distinct (e ∷ m) h = let g = both (absent (e .name) m) (distinct m) h in r
     go true = refl
     go false = refl
 
--- ======== so a meaning counts what its items do
-pub class-meaning : (is : List Placed) → classCount (meaning is) ≡ classCount (entriesOf is)
-unfolding classCount meaning
-class-meaning is = class-puts [] (entriesOf is) ∙ omega arith
+-- ======== so what is listed counts what its items do
+pub class-listed : (is : List Placed) → classCount (listed is) ≡ classCount (entriesOf is)
+unfolding classCount listed
+class-listed is = class-puts [] (entriesOf is) ∙ omega arith
 
-pub key-meaning : (is : List Placed) → keyCount (meaning is) ≡ keyCount (entriesOf is)
-unfolding meaning distinct
-key-meaning is = key-puts [] (entriesOf is) refl
+pub key-listed : (is : List Placed) → keyCount (listed is) ≡ keyCount (entriesOf is)
+unfolding listed distinct
+key-listed is = key-puts [] (entriesOf is) refl
+
+-- ======== and a meaning no more classes, and the same keys
+in-classes : (e : Entry) → entryClasses (onceIn e) ≤ entryClasses e
+unfolding onceIn
+in-classes e = go (isClass (e .name))
+  where
+    go : (b : Bool) → cond b (length (cond b (freshAfter [] (e .values)) (e .values))) 0 ≤ cond b (length (e .values)) 0
+    go true = fresh-length [] (e .values)
+    go false = omega arith
+
+pub once-classes : (m : List Entry) → classCount (classesOnce m) ≤ classCount m
+unfolding classCount classesOnce
+once-classes [] = omega arith
+once-classes (e ∷ m) = omega (arith, in-classes e, once-classes m)
+
+pub once-keys : (m : List Entry) → keyCount (classesOnce m) ≡ keyCount m
+unfolding keyCount classesOnce onceIn
+once-keys [] = refl
+once-keys (e ∷ m) = rw (once-absent (e .name) m, once-keys m)
 
 -- ======== the rows of a set
 abbrev many : ℕ → ℕ → ℕ
@@ -191,8 +212,8 @@ module _ {w : List ℕ} {is : List Placed} (h : Standing w is) where
   shaped = rows-shaped h (shaped-none (one w))
 
   pub class-fill : length (withPuts (one w) noRows (putsIn is) .classes) ≡ classCount (entriesOf is)
-  class-fill = sym (class-rows shaped) ∙ ap classCount (rows-mean h) ∙ class-meaning is
+  class-fill = sym (class-rows shaped) ∙ ap classCount (rows-list h) ∙ class-listed is
 
   pub key-fill : length (withPuts (one w) noRows (putsIn is) .keys) ≡ keyCount (entriesOf is)
-  unfolding meaning distinct
-  key-fill = sym (key-rows shaped (rw (rows-mean h) (puts-distinct [] (entriesOf is) refl))) ∙ ap keyCount (rows-mean h) ∙ key-meaning is
+  unfolding listed distinct
+  key-fill = sym (key-rows shaped (rw (rows-list h) (puts-distinct [] (entriesOf is) refl))) ∙ ap keyCount (rows-list h) ∙ key-listed is

@@ -1,4 +1,4 @@
--- What the items of a payload put, as ranges of a text that they stand in, is what they say: so the rows of what was read mean the fold of the items.
+-- What the items of a payload put, as ranges of a text that they stand in, is what they say: so the rows of what was read list the fold of the items.
 -- Assumes nothing.
 use mathlib.Core.Path.{_≡_, refl, sym, _∙_, ap}
 use mathlib.Core.Bool.{Bool, true, false, cond}
@@ -16,12 +16,12 @@ use Rattle.base_bytes.specs.declared.Mode.{Mode}
 use Rattle.text_escapes.specs.Unescape.{unescape}
 use Rattle.block_grammar.specs.Grammar.{Item, Placed, Reading}
 use Rattle.block_grammar.specs.Computed.{text, readFrom, readPayload}
-use Rattle.block_grammar.specs.Meaning.{Entry, PieceAt, pieceRanges, idName, className, orWhole}
-use Rattle.proved_grammar.specs.Meaning.{piecesFrom, classesOf, valuesOf, isClass, said, withValues, put, puts, entriesOf, meaning}
+use Rattle.block_grammar.specs.Meaning.{Entry, PieceAt, pieceRanges, idName, className, orWhole, isClass, lookup, freshAfter}
+use Rattle.proved_grammar.specs.Meaning.{piecesFrom, classesOf, valuesOf, said, withValues, put, puts, entriesOf, listed, meaning}
 use Rattle.block_grammar.proofs.Payload.{sound}
 use Rattle.proved_grammar.proofs.Pieces.{cut, cut-pieces, unescapes, pieces-unescape}
 use Rattle.proved_grammar.proofs.Views.{puts-append, put-same, put-other, put-slots}
-use Rattle.proved_sets.specs.Read.{LastWins, ReadMeans}
+use Rattle.proved_sets.specs.Read.{LastWins, ReadLists}
 use Rattle.proved_grammar.proofs.Places.{Standing, standing}
 use Rattle.set_table.specs.Types.{one, rangeBytes, nameBytes, textBytes, valueBytes}
 use Rattle.set_table.specs.Rows.{Rows, Put, noRows, withPuts, meant}
@@ -34,6 +34,9 @@ use Rattle.set_table.specs.declared.Name.the-variants as name
 use Rattle.set_table.proofs.Puts.{isAllowed}
 use Rattle.proved_sets.proofs.Shaping.{putEntry}
 use Rattle.proved_sets.proofs.TableMeant.{shaped-none, shaped-puts, puts-meant}
+use Rattle.block_grammar.proofs.Fresh.{kept-twice, kept-joined}
+use Rattle.block_grammar.proofs.Once.{once-lookup}
+use Rattle.proved_grammar.proofs.Once.{once-slots, once-absent}
 
 -- ======== classes put one by one
 abbrev pub entry : List ℕ → List (List ℕ) → Entry
@@ -140,7 +143,7 @@ items-mean Standing.none m = refl
 items-mean {w} (Standing.and {p = p} {is = is} rest d h) m =
     rw (map-append, puts-append, says w (p .at) (p .item) rest d .means m) (items-mean h (put m (said (p .item))))
 
--- items put into a set add what they say to what it means
+-- items put into a set add what they say to what it lists
 module _ {w : List ℕ} {is : List Placed} (h : Standing w is) where
   pub rows-more : {s : Rows} → Shaped (one w) s → meant (one w) (withPuts (one w) s (putsIn is)) ≡ puts (meant (one w) s) (entriesOf is)
   rows-more {s} g = puts-meant g (putsIn is) (items-allowed h) ∙ items-mean h (meant (one w) s)
@@ -148,9 +151,9 @@ module _ {w : List ℕ} {is : List Placed} (h : Standing w is) where
   pub rows-shaped : {s : Rows} → Shaped (one w) s → Shaped (one w) (withPuts (one w) s (putsIn is))
   rows-shaped g = shaped-puts g (putsIn is) (items-allowed h)
 
-  pub rows-mean : meant (one w) (withPuts (one w) noRows (putsIn is)) ≡ meaning is
-  unfolding meaning meant
-  rows-mean = rows-more (shaped-none (one w))
+  pub rows-list : meant (one w) (withPuts (one w) noRows (putsIn is)) ≡ listed is
+  unfolding listed meant
+  rows-list = rows-more (shaped-none (one w))
 
 -- ======== a payload that is read from `at` up to `end` of a text
 payload-long : (m : Mode) (at : ℕ) (s : List ℕ) (is : List Placed) → readPayload m at s ≡ Reading.items is → 0 < length s
@@ -165,18 +168,27 @@ payload-stands m t at end is e =
     ∙ ap (λ l. (l ++ slice at end t) ++ drop end t) (sym (take-take at end t (omega arith))) ∙ (rw (take-append-drop at (take end t), take-append-drop end t)) in
     rw w at (standing (sound m at (slice at end t) is e) (take at t) (drop end t) (length-take-le at t (h .1)))
 
-pub read-mean : ReadMeans
-read-mean m t at end is e = rows-mean (payload-stands m t at end is e)
+pub read-lists : ReadLists
+read-lists m t at end is e = rows-list (payload-stands m t at end is e)
 
 -- ======== what one item more changes
-more-meaning : (is : List Placed) (p : Placed) → meaning (is ++ (p ∷ [])) ≡ put (meaning is) (said (p .item))
-unfolding meaning entriesOf puts
-more-meaning is p = rw (map-append, puts-append)
+more-listed : (is : List Placed) (p : Placed) → listed (is ++ (p ∷ [])) ≡ put (listed is) (said (p .item))
+unfolding listed entriesOf puts
+more-listed is p = rw (map-append, puts-append)
+
+-- what is said under its own name, each class once
+own-once : (xs ys : List (List ℕ)) (b : Bool) → cond b (freshAfter [] (cond b (xs ++ ys) ys)) (cond b (xs ++ ys) ys) ≡ cond b (freshAfter [] (cond b (freshAfter [] xs) xs ++ ys)) ys
+own-once xs ys true = sym (kept-joined xs ys) ∙ (rw (kept-twice xs) at (kept-joined (freshAfter [] xs) ys))
+own-once xs ys false = refl
 
 pub last-wins : LastWins
+unfolding meaning
 last-wins is p =
+    let e = said (p .item) in
+    let m = listed is in
+    let n = e .name in
     record {
-      own = rw (more-meaning is p) (put-same (meaning is) (said (p .item)));
-      others = λ n h. rw (more-meaning is p) (put-other (meaning is) (said (p .item)) n h);
-      slots = rw (more-meaning is p) (put-slots (meaning is) (said (p .item)));
+      own = rw (more-listed is p, once-lookup n (put m e), once-lookup n m, put-same m e) (own-once (lookup n m) (e .values) (isClass n));
+      others = λ k h. rw (more-listed is p, once-lookup k (put m e), once-lookup k m, put-other m e k h);
+      slots = rw (more-listed is p, once-slots (put m e), once-slots m, once-absent n m) (put-slots m e);
     }

@@ -15,6 +15,7 @@ pub mod CanonValues
 pub mod CanonParts
 pub mod CanonPuts
 pub mod CanonWellFormed
+pub mod CanonOnce
 pub mod CanonBack
 pub mod CanonAgain
 -- ---- well-formed tables

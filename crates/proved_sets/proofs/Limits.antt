@@ -18,7 +18,7 @@ use Rattle.text_utf8.specs.Computed.{isUtf8}
 use Rattle.proved_texts.specs.Utf8Rules.{WellFormed}
 use Rattle.text_checks.specs.Check.{checkOf}
 use Rattle.proved_texts.proofs.Utf8Grammar as utf8
-use Rattle.block_grammar.specs.Meaning.{Entry}
+use Rattle.block_grammar.specs.Meaning.{Entry, classesOnce}
 use Rattle.set_table.specs.Types.{Texts, maxClasses, maxKeys}
 use Rattle.set_table.specs.Rows.{Rows, meant, meaningOf}
 use Rattle.set_table.specs.Shape.{Shaped}
@@ -81,7 +81,7 @@ module _ (t : List ℕ) {G : Outcome → List Entry → Type 0} (f : Outcome →
   text-exactly = size-exactly t (λ b. f (cond b (Refused TextTooLong) (coded (isUtf8 t)))) (λ b. g (cond b (Refused TextTooLong) (coded (isUtf8 t)))) (e TextTooLong) utf8-exactly
 
 -- ---- 6 and 7: rows that have as many classes and keys as es says
-module _ {t : Texts} {s : Rows} (h : Shaped t s) (es : List Entry) (c : length (s .classes) ≡ classCount es) (k : length (s .keys) ≡ keyCount es) {m : List Entry} (e : meant t s ≡ m) where
+module _ {t : Texts} {s : Rows} (h : Shaped t s) (es : List Entry) (c : length (s .classes) ≡ classCount es) (k : length (s .keys) ≡ keyCount es) {m : List Entry} (e : classesOnce (meant t s) ≡ m) where
   limit-only : Only (LimitGiven es m) (limited s .outcome) (meaningOf t (limited s .set))
   limit-only p u (LimitGiven.classes l) = rw (over-classes s (omega (arith, c, l))) (refl, empty-means t)
   limit-only p u (LimitGiven.keys l j) = rw (over-keys s (omega (arith, c, l)) (omega (arith, k, j))) (refl, empty-means t)

@@ -10,7 +10,7 @@ use lib.Seq.{slice}
 use Rattle.base_lists.proofs.More.{contra}
 use Rattle.block_grammar.specs.Grammar.{Placed, Reading}
 use Rattle.block_grammar.specs.Computed.{readPayload}
-use Rattle.proved_grammar.specs.Meaning.{meaning}
+use Rattle.proved_grammar.specs.Meaning.{meaning, listed}
 use Rattle.block_chain.specs.Computed.{readBlocks}
 use Rattle.proved_grammar.proofs.Stands.{read-stands}
 use Rattle.proved_grammar.proofs.Merged.{line-merges}
@@ -18,16 +18,17 @@ use Rattle.proved_grammar.proofs.Blocks.{complete}
 use Rattle.base_refusals.specs.declared.Refusal.the-variants.{TextTooLong, TooManyClasses, TooManyKeys}
 use Rattle.base_refusals.specs.Numbers.{maxText}
 use Rattle.set_table.specs.Types.{one, maxClasses, maxKeys}
-use Rattle.set_table.specs.Rows.{Rows, noRows, withPuts, tableOf, meaningOf}
+use Rattle.set_table.specs.Rows.{Rows, noRows, withPuts, tableOf, meaningOf, listedOf}
 use Rattle.set_table.specs.Puts.{putsIn}
-use Rattle.proved_sets.proofs.Items.{rows-mean, payload-stands}
+use Rattle.proved_sets.proofs.Items.{rows-list, payload-stands}
 use Rattle.proved_grammar.proofs.Places.{Standing}
-use Rattle.proved_sets.specs.Read.{FillMeans, LineMeans}
-use Rattle.proved_sets.proofs.TableWhole.{table-means}
+use Rattle.proved_sets.specs.Read.{FillLists, LineLists, FillMeans, LineMeans}
+use Rattle.proved_sets.proofs.TableWhole.{table-lists}
 use Rattle.set_table.specs.declared.Filled.{Filled}
 use Rattle.set_table.specs.Filled.{refusing, limited}
 use Rattle.base_refusals.specs.declared.Outcome.the-variants.{Passed}
 use Rattle.set_fill.specs.Fill.{filledBy, filledOf, fillAt, chainAt}
+use Rattle.block_grammar.specs.Meaning.{classesOnce}
 
 -- what is handed out is the table of the rows
 done : (s : Rows) → limited s .outcome ≡ Passed → limited s .set ≡ tableOf s
@@ -44,23 +45,31 @@ done s = go (ltb maxClasses (length (s .classes))) (ltb maxKeys (length (s .keys
     go false false e = refl
 
 -- the set of a reading whose items stand in the text
-filled-means : (t : List ℕ) (x : Bool) (r : Reading) {is : List Placed} → r ≡ Reading.items is → Standing t is
-    → cond x (refusing TextTooLong) (filledBy (one t) r) .outcome ≡ Passed → meaningOf (one t) (cond x (refusing TextTooLong) (filledBy (one t) r) .set) ≡ meaning is
-filled-means t x r {is} e h d = rw e (go x (rw e at d))
+filled-lists : (t : List ℕ) (x : Bool) (r : Reading) {is : List Placed} → r ≡ Reading.items is → Standing t is
+    → cond x (refusing TextTooLong) (filledBy (one t) r) .outcome ≡ Passed → listedOf (one t) (cond x (refusing TextTooLong) (filledBy (one t) r) .set) ≡ listed is
+filled-lists t x r {is} e h d = rw e (go x (rw e at d))
   where
     s : Rows
     s = withPuts (one t) noRows (putsIn is)
 
-    go : (x : Bool) → cond x (refusing TextTooLong) (limited s) .outcome ≡ Passed → meaningOf (one t) (cond x (refusing TextTooLong) (limited s) .set) ≡ meaning is
+    go : (x : Bool) → cond x (refusing TextTooLong) (limited s) .outcome ≡ Passed → listedOf (one t) (cond x (refusing TextTooLong) (limited s) .set) ≡ listed is
     go true q = contra true refl (cc)
-    go false q = ap (meaningOf (one t)) (done s q) ∙ table-means s (one t) ∙ rows-mean h
+    go false q = ap (listedOf (one t)) (done s q) ∙ table-lists s (one t) ∙ rows-list h
+
+pub fill-lists : FillLists
+unfolding fillAt filledOf
+fill-lists m t at end is d e = filled-lists t (ltb maxText (length t)) (readPayload m at (slice at end t)) e (payload-stands m t at end is e) d
 
 pub fill-means : FillMeans
-unfolding fillAt filledOf
-fill-means m t at end is d e = filled-means t (ltb maxText (length t)) (readPayload m at (slice at end t)) e (payload-stands m t at end is e) d
+unfolding meaning meaningOf
+fill-means m t at end is d e = ap classesOnce (fill-lists m t at end is d e)
+
+pub line-lists : LineLists
+unfolding chainAt
+line-lists m t from to is d p =
+    let e = complete p in
+    filled-lists t (ltb maxText (length t)) (readBlocks m from (slice from to t)) e (read-stands m t from to is e) d
 
 pub line-merged : LineMeans
-unfolding chainAt
-line-merged m t from to is d p =
-    let e = complete p in
-    filled-means t (ltb maxText (length t)) (readBlocks m from (slice from to t)) e (read-stands m t from to is e) d ∙ line-merges p
+unfolding meaningOf meaning
+line-merged m t from to is d p = ap classesOnce (line-lists m t from to is d p) ∙ line-merges p

@@ -23,11 +23,11 @@ use Rattle.proved_texts.proofs.Utf8Boundaries.{ascii, slice-utf8}
 use Rattle.text_checks.proofs.Texts as texts
 use Rattle.text_escapes.specs.Unescape.{unescape, unescapeFrom}
 use Rattle.block_grammar.specs.Close.{noLf}
-use Rattle.block_grammar.specs.Meaning.{Entry, idName, className}
+use Rattle.block_grammar.specs.Meaning.{Entry, idName, className, isClass, freshAfter, onceIn, classesOnce}
 use Rattle.block_grammar.proofs.Bytes.{key-parts}
 use Rattle.set_canon.specs.Canon.{marked, escape, Pair, pairText, moreText, pairsText, pairsOf, pairs, canon}
 use Rattle.set_table.specs.Types.{Texts, textAt, rangeBytes, textBytes, valueBytes, zeroRow}
-use Rattle.set_table.specs.Rows.{Ident, Rows, isThere, idValues, slotEntry, meant, rowsIn, meaningOf}
+use Rattle.set_table.specs.Rows.{Ident, Rows, isThere, idValues, slotEntry, meant, rowsIn, meaningOf, listedOf}
 use Rattle.set_table.specs.Shape.{isPresent}
 use Rattle.set_table.specs.declared.Attrs.{Attrs}
 use Rattle.set_table.specs.declared.Origin.{Origin}
@@ -44,6 +44,7 @@ use Rattle.set_wellformed.proofs.Shape.{slots-named, Passed, keyed, table-passe
 use Rattle.proved_sets.specs.Formed.{entryUtf8, NamesUtf8, WrittenUtf8, MeansUtf8}
 use Rattle.proved_sets.proofs.WellFormedMeans.{class-value}
 use Rattle.proved_sets.proofs.WellFormedShape.{formed-parts}
+use Rattle.block_grammar.proofs.Fresh.{fresh-all}
 
 -- ---- a character is one ASCII byte, or bytes that are all above ASCII
 abbrev isHigh : ℕ → Bool
@@ -229,6 +230,19 @@ module _ (t : Texts) (u : (o : Origin) → isUtf8 (textAt t o) ≡ true) where
     slots-utf8 [] h = refl
     slots-utf8 (x ∷ o) h = let z = both (isPresent s x) (all (isPresent s) o) h in rw (slot-utf8 x (z .0)) (slots-utf8 o (z .1))
 
+in-utf8 : (e : Entry) → entryUtf8 e ≡ true → entryUtf8 (onceIn e) ≡ true
+unfolding onceIn
+in-utf8 e h = let g = both (isUtf8 (e .name)) (all isUtf8 (e .values)) h in rw (g .0) (go (isClass (e .name)) (g .1))
+  where
+    go : (b : Bool) → all isUtf8 (e .values) ≡ true → all isUtf8 (cond b (freshAfter [] (e .values)) (e .values)) ≡ true
+    go true k = fresh-all isUtf8 [] (e .values) k
+    go false k = k
+
+once-utf8 : (m : List Entry) → all entryUtf8 m ≡ true → all entryUtf8 (classesOnce m) ≡ true
+unfolding all classesOnce
+once-utf8 [] h = refl
+once-utf8 (e ∷ m) h = let g = both (entryUtf8 e) (all entryUtf8 m) h in rw (in-utf8 e (g .0)) (once-utf8 m (g .1))
+
 -- ======== of a table
 module _ (t : Texts) (a : Attrs) (e : wellFormed t a ≡ true) where
   pub text-utf8 : (o : Origin) → isUtf8 (textAt t o) ≡ true
@@ -236,8 +250,8 @@ module _ (t : Texts) (a : Attrs) (e : wellFormed t a ≡ true) where
   text-utf8 Second = texts.text-utf8 (t .second) (formed-parts t a e .1)
 
   pub means-utf8 : NamesUtf8 t a
-  unfolding meaningOf meant
-  means-utf8 = let p = table-passed t a (formed-parts t a e .2) in slots-utf8 t text-utf8 p (rowsIn a .order) (slots-named (rowsIn a) (p .slots))
+  unfolding meaningOf listedOf meant
+  means-utf8 = let p = table-passed t a (formed-parts t a e .2) in once-utf8 (meant t (rowsIn a)) (slots-utf8 t text-utf8 p (rowsIn a .order) (slots-named (rowsIn a) (p .slots)))
 
   pub written-utf8 : WrittenUtf8 t a
   written-utf8 = canon-utf8 (meaningOf t a) means-utf8

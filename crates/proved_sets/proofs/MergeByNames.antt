@@ -9,8 +9,8 @@ use Rattle.base_lists.specs.Lists.{all, same}
 use Rattle.base_lists.proofs.Scan.{both}
 use Rattle.base_lists.proofs.Same.{same-true}
 use Rattle.base_lists.proofs.More.{same-sym}
-use Rattle.block_grammar.specs.Meaning.{Entry, className}
-use Rattle.proved_grammar.specs.Meaning.{isClass, withValues, put, puts, absent, lookup, slotNames, distinct}
+use Rattle.block_grammar.specs.Meaning.{Entry, className, isClass, lookup}
+use Rattle.proved_grammar.specs.Meaning.{withValues, put, puts, absent, slotNames, distinct}
 use Rattle.proved_grammar.proofs.Views.{put-same, put-other, put-slots, put-new}
 use Rattle.proved_sets.specs.Merged.{newSlots}
 use Rattle.proved_sets.proofs.CanonPuts.{strange, strange-append, nothing-strange}

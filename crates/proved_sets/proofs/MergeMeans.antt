@@ -1,15 +1,15 @@
--- What a merge comes to: the set that it hands out means the one meaning put into the other, and is well-formed; a set with nothing in it merges as
--- nothing.
+-- What a merge comes to: the set that it hands out lists the one put into the other, means that with each class once, and is well-formed; a set with nothing
+-- in it merges as nothing.
 -- Assumes nothing.
-use mathlib.Core.Path.{_≡_, refl, _∙_, ap}
+use mathlib.Core.Path.{_≡_, refl, _∙_, ap, sym}
 use mathlib.Core.Bool.{Bool, true, false, cond}
-use mathlib.Core.List.{List, [], _∷_, flatMap}
+use mathlib.Core.List.{List, [], _∷_, flatMap, _++_}
 use Prim.Native.Nat.{ℕ, zero, suc, _≤_, _<_}
 use native.Mathlib.Omega.{arith}
 use lib.Dec.{ltb}
 use lib.ListN.{length, getD}
 use borrow.Author.Tests.{ltb-false, le-ltb}
-use Rattle.base_lists.specs.Lists.{all}
+use Rattle.base_lists.specs.Lists.{all, same}
 use Rattle.base_lists.proofs.Scan.{both}
 use Rattle.base_refusals.specs.declared.Refusal.{Refusal}
 use Rattle.text_checks.specs.Check.{bothOf}
@@ -17,10 +17,10 @@ use Rattle.base_refusals.specs.declared.Outcome.{Outcome}
 use Rattle.base_refusals.specs.declared.Outcome.the-variants.{Passed, Refused}
 use Rattle.base_refusals.specs.declared.Outcome.the-variants as outcome
 use Rattle.proved_sets.specs.Formed.{entryOk, wf, HasNothing}
-use Rattle.block_grammar.specs.Meaning.{className}
-use Rattle.proved_grammar.specs.Meaning.{puts, lookup, slotNames, distinct}
+use Rattle.block_grammar.specs.Meaning.{className, lookup, Entry, isClass, freshAfter, classesOnce}
+use Rattle.proved_grammar.specs.Meaning.{puts, slotNames, distinct}
 use Rattle.set_table.specs.Types.{Texts, maxClasses, maxKeys, zeroRow}
-use Rattle.set_table.specs.Rows.{Rows, Put, noRows, isNamed, putRow, withPut, withPuts, tableOf, rowsIn, meant, meaningOf}
+use Rattle.set_table.specs.Rows.{Rows, Put, noRows, isNamed, putRow, withPut, withPuts, tableOf, rowsIn, meant, meaningOf, listedOf}
 use Rattle.set_table.specs.Shape.{Shaped}
 use Rattle.set_table.specs.declared.Attrs.{Attrs}
 use Rattle.set_table.specs.declared.Name.{Name}
@@ -32,7 +32,7 @@ use Rattle.set_table.proofs.Whole.{rows-table}
 use Rattle.set_wellformed.specs.WellFormed.{rowsOk, tableOk, wellFormed}
 use Rattle.set_wellformed.proofs.Shape.{table-passed, shaped}
 use Rattle.proved_sets.proofs.PutsKept.{putOk, rows-puts, table-ok, nothing-rows, empty-formed}
-use Rattle.proved_sets.specs.Merged.{mergeMeaning, MergeGives, EmptyMerges}
+use Rattle.proved_sets.specs.Merged.{mergeMeaning, MergeGives, EmptyMerges, newSlots}
 use Rattle.set_table.specs.declared.Filled.{Filled}
 use Rattle.set_table.specs.Filled.{limited}
 use Rattle.set_table.proofs.Puts.{isAllowed, put-grows}
@@ -41,10 +41,13 @@ use Rattle.set_merge.proofs.Rest.{count-classes}
 use Rattle.set_merge.proofs.Whole.{few}
 use Rattle.proved_sets.proofs.MergeByNames.{valuesMerged, puts-lookup, merged-classes, puts-slots, puts-none}
 use Rattle.proved_sets.proofs.MergePuts.{good-puts, says, all-allowed}
-use Rattle.proved_sets.proofs.TableWhole.{table-means}
+use Rattle.proved_sets.proofs.TableWhole.{table-lists}
 use Rattle.proved_sets.proofs.MergeRest.{own-keys}
-use Rattle.proved_sets.proofs.WellFormedMeans.{means-wf}
+use Rattle.proved_sets.proofs.WellFormedMeans.{means-wf, lists-wf}
 use Rattle.proved_sets.proofs.WellFormedShape.{passed-rows, formed-parts, both-pass, both-texts}
+use Rattle.block_grammar.proofs.Once.{once-lookup, once-twice}
+use Rattle.proved_grammar.proofs.Once.{puts-once, once-slots}
+use Rattle.proved_grammar.specs.Merged.{joinedMeaning}
 
 -- ---- what puts do to the names of rows that are there
 module _ (t : Texts) (k : ℕ) where
@@ -99,9 +102,9 @@ module _ (t : Texts) (a b : Attrs) where
     whole-good : rowsOk t whole ≡ true
     whole-good = rows-puts t (rowsIn a) (putsBy (rowsIn b)) (passed-rows (table-passed t a f)) good
 
-    pub whole-means : meant t whole ≡ puts (meaningOf t a) (meaningOf t b)
-    unfolding meaningOf
-    whole-means = puts-meant (shaped t a f) (putsBy (rowsIn b)) allowed ∙ says (table-passed t b g) (meant t (rowsIn a))
+    pub whole-lists : meant t whole ≡ puts (listedOf t a) (listedOf t b)
+    unfolding listedOf
+    whole-lists = puts-meant (shaped t a f) (putsBy (rowsIn b)) allowed ∙ says (table-passed t b g) (meant t (rowsIn a))
 
 abbrev Done : Filled → Type 0
 Done f = f .outcome ≡ outcome.Passed
@@ -128,16 +131,24 @@ module _ (t : Texts) (a b : Attrs) where
 
   -- ======== the set that is handed out
   module _ (d : Done (mergeOf t a b)) where
-    pub merge-means : mergeMeaning t a b ≡ puts (meaningOf t a) (meaningOf t b)
-    merge-means = let g = gave d in ap (meaningOf t) (g .is) ∙ table-means (whole t a b) t ∙ whole-means t a b (g .first) (g .second)
+    merge-lists : listedOf t (mergeOf t a b .set) ≡ puts (listedOf t a) (listedOf t b)
+    merge-lists = let g = gave d in ap (listedOf t) (g .is) ∙ table-lists (whole t a b) t ∙ whole-lists t a b (g .first) (g .second)
+
+    -- each class once: before the merge or behind it
+    pub merge-means : mergeMeaning t a b ≡ joinedMeaning (meaningOf t a) (meaningOf t b)
+    unfolding meaningOf joinedMeaning
+    merge-means = ap classesOnce merge-lists ∙ sym (puts-once (listedOf t a) (listedOf t b))
 
     second-distinct : distinct (meaningOf t b) ≡ true
     unfolding wf
     second-distinct = both (all entryOk (meaningOf t b)) (distinct (meaningOf t b)) (means-wf t b (gave d .second)) .1
 
     -- by names: what b has of a name wins, its classes are joined; what it hasn't stays
-    merge-values : (n : List ℕ) → lookup n (mergeMeaning t a b) ≡ valuesMerged n (meaningOf t a) (meaningOf t b)
-    merge-values n = ap (lookup n) merge-means ∙ puts-lookup n (meaningOf t b) (meaningOf t a) second-distinct
+    merge-values : (n : List ℕ) → lookup n (mergeMeaning t a b) ≡ cond (isClass n) (freshAfter [] (valuesMerged n (meaningOf t a) (meaningOf t b))) (valuesMerged n (meaningOf t a) (meaningOf t b))
+    unfolding joinedMeaning
+    merge-values n =
+        let m = puts (meaningOf t a) (meaningOf t b) in
+        ap (lookup n) merge-means ∙ once-lookup n m ∙ ap (λ v. cond (isClass n) (freshAfter [] v) v) (puts-lookup n (meaningOf t b) (meaningOf t a) second-distinct)
 
     formed : wellFormed t (mergeOf t a b .set) ≡ true
     unfolding wellFormed
@@ -146,14 +157,25 @@ module _ (t : Texts) (a b : Attrs) where
         let z = both-texts t (g .text) in
         rw (z .0, z .1, g .is) (table-ok t (whole t a b) (whole-good t a b (g .first) (g .second)) (g .classes) (g .keys))
 
+-- what a meaning has under a name is each once already
+own-values : (t : Texts) (a : Attrs) (n : List ℕ) → cond (isClass n) (freshAfter [] (lookup n (meaningOf t a))) (lookup n (meaningOf t a)) ≡ lookup n (meaningOf t a)
+unfolding meaningOf
+own-values t a n = sym (once-lookup n (classesOnce (listedOf t a))) ∙ ap (lookup n) (once-twice (listedOf t a))
+
+joined-slots : (m n : List Entry) → distinct n ≡ true → slotNames (joinedMeaning m n) ≡ slotNames m ++ newSlots m n
+unfolding joinedMeaning
+joined-slots m n d = once-slots (puts m n) ∙ puts-slots n m d
+
 pub merge-gives : MergeGives
+unfolding isClass same
 merge-gives t a b d =
     record {
+      lists = merge-lists t a b d;
       means = merge-means t a b d;
       later-wins = λ n q c. merge-values t a b d n ∙ (rw (q, c));
-      earlier-stays = λ n q. merge-values t a b d n ∙ (rw q);
-      classes-joined = merge-values t a b d className ∙ merged-classes (meaningOf t a) (meaningOf t b);
-      new-behind = ap slotNames (merge-means t a b d) ∙ puts-slots (meaningOf t b) (meaningOf t a) (second-distinct t a b d);
+      earlier-stays = λ n q. merge-values t a b d n ∙ (rw q) ∙ own-values t a n;
+      classes-joined = merge-values t a b d className ∙ ap (freshAfter []) (merged-classes (meaningOf t a) (meaningOf t b));
+      new-behind = ap slotNames (merge-means t a b d) ∙ joined-slots (meaningOf t a) (meaningOf t b) (second-distinct t a b d);
       rows-kept = λ k l. rw (gave t a b d .is, rows-table (whole t a b)) (puts-names t k (rowsIn a) (putsBy (rowsIn b)) l);
       formed = formed t a b d;
     }
@@ -176,12 +198,15 @@ module _ (t : Texts) {e : Attrs} (n : HasNothing e) (a : Attrs) (p : bothOf (t .
       let k : length (w .keys) ≤ maxKeys = rw (nothing-rows n) (omega (arith, own-keys t (rowsIn a) (shaped t a h), l)) in
       rw (p, h, empty-formed t e n, le-ltb maxClasses (length (w .classes)) c, le-ltb maxKeys (length (w .keys)) k)
 
-  no-meaning : meaningOf t e ≡ []
-  unfolding meaningOf meant
-  no-meaning = rw (nothing-rows n)
+  lists-none : listedOf t e ≡ []
+  unfolding listedOf meant
+  lists-none = rw (nothing-rows n)
 
-  empty-keeps : mergeMeaning t e a ≡ meaningOf t a
-  empty-keeps = merge-means t e a empty-merge ∙ (rw no-meaning (puts-none (meaningOf t a) (second-distinct t e a empty-merge)))
+  empty-keeps : listedOf t (mergeOf t e a .set) ≡ listedOf t a
+  unfolding wf
+  empty-keeps =
+      let d = both (all entryOk (listedOf t a)) (distinct (listedOf t a)) (lists-wf t a h) .1 in
+      merge-lists t e a empty-merge ∙ (rw lists-none (puts-none (listedOf t a) d))
 
 pub empty-merges : EmptyMerges
 empty-merges t e a n w =

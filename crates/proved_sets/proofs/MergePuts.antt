@@ -1,4 +1,4 @@
--- What a well-formed set puts may be put, and says what the set means.
+-- What a well-formed set puts may be put, and says what the set lists.
 -- Assumes nothing.
 use mathlib.Core.Path.{_≡_, refl}
 use mathlib.Core.Bool.{true, false}

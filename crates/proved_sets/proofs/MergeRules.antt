@@ -1,4 +1,5 @@
--- A merge answers what the table's rules give, and nothing else: 1, 2, 11, 6 and 7 by the counts of both meanings, or the one put into the other.
+-- A merge answers what the table's rules give, and nothing else: 1, 2, 11, 6 and 7 by the counts of what both list, or the one meaning put into the other,
+-- each class once.
 -- Assumes nothing.
 use mathlib.Core.Path.{_≡_, refl, sym, _∙_, ap}
 use mathlib.Core.Bool.{Bool, true, false}
@@ -14,11 +15,11 @@ use Rattle.text_checks.specs.Outcomes.{orElse}
 use Rattle.text_checks.proofs.CheckNumbers.{both-is}
 use Rattle.text_checks.proofs.Texts.{is-text}
 use Rattle.proved_texts.proofs.Utf8Grammar as utf8
-use Rattle.block_grammar.specs.Meaning.{Entry}
+use Rattle.block_grammar.specs.Meaning.{Entry, classesOnce}
 use Rattle.proved_grammar.specs.Meaning.{puts, distinct}
 use Rattle.proved_sets.specs.Formed.{entryOk, wf}
 use Rattle.set_table.specs.Types.{Texts, emptySet}
-use Rattle.set_table.specs.Rows.{meant, meaningOf}
+use Rattle.set_table.specs.Rows.{meant, meaningOf, listedOf}
 use Rattle.set_table.specs.declared.Attrs.{Attrs}
 use Rattle.set_wellformed.specs.WellFormed.{tableOk, wellFormed}
 use Rattle.set_merge.specs.Merge.{mergedBy, mergeOf}
@@ -26,30 +27,32 @@ use Rattle.proved_sets.specs.Limits.{classCount, keyCount, Exactly, Limi
 use Rattle.proved_sets.specs.Merged.{MergeGiven, MergeByRules}
 use Rattle.proved_sets.proofs.Counts.{class-puts, class-append, class-rows, key-puts, key-rows, puts-distinct}
 use Rattle.proved_sets.proofs.Limits.{Only, exactly, text-exactly, limit-exactly}
-use Rattle.proved_sets.proofs.MergeMeans.{whole, whole-shaped, whole-means}
+use Rattle.proved_sets.proofs.MergeMeans.{whole, whole-shaped, whole-lists}
 use Rattle.proved_sets.proofs.TableWhole.{empty-means}
-use Rattle.proved_sets.proofs.WellFormedMeans.{means-wf}
+use Rattle.proved_sets.proofs.WellFormedMeans.{lists-wf}
 use Rattle.proved_sets.proofs.WellFormedShape.{formed-whole}
+use Rattle.proved_grammar.proofs.Once.{puts-once}
+use Rattle.proved_grammar.specs.Merged.{joinedMeaning}
 
--- ---- the rows of two well-formed sets have as many classes and keys as both meanings say
+-- ---- the rows of two well-formed sets have as many classes and keys as both list
 module _ (t : Texts) (a b : Attrs) (f : tableOk t a ≡ true) (g : tableOk t b ≡ true) where
   abbrev first : List Entry
-  first = meaningOf t a
+  first = listedOf t a
 
   abbrev second : List Entry
-  second = meaningOf t b
+  second = listedOf t b
 
   apart : distinct first ≡ true
   unfolding wf
-  apart = both (all entryOk first) (distinct first) (means-wf t a f) .1
+  apart = both (all entryOk first) (distinct first) (lists-wf t a f) .1
 
   class-both : length (whole t a b .classes) ≡ classCount (first ++ second)
-  class-both = sym (class-rows (whole-shaped t a b f g)) ∙ ap classCount (whole-means t a b f g) ∙ class-puts first second ∙ sym (class-append first second)
+  class-both = sym (class-rows (whole-shaped t a b f g)) ∙ ap classCount (whole-lists t a b f g) ∙ class-puts first second ∙ sym (class-append first second)
 
   key-both : length (whole t a b .keys) ≡ keyCount (first ++ second)
   key-both =
-      let d : distinct (meant t (whole t a b)) ≡ true = rw (whole-means t a b f g) (puts-distinct first second apart) in
-      sym (key-rows (whole-shaped t a b f g) d) ∙ ap keyCount (whole-means t a b f g) ∙ key-puts first second apart
+      let d : distinct (meant t (whole t a b)) ≡ true = rw (whole-lists t a b f g) (puts-distinct first second apart) in
+      sym (key-rows (whole-shaped t a b f g) d) ∙ ap keyCount (whole-lists t a b f g) ∙ key-puts first second apart
 
 -- ---- of two texts that give neither 1 nor 2
 module _ (t : Texts) (a b : Attrs) (x : isText (t .first) ≡ true) (y : isText (t .second) ≡ true) where
@@ -57,9 +60,11 @@ module _ (t : Texts) (a b : Attrs) (x : isText (t .first) ≡ true) (y : isText 
   formed-is c = formed-whole t c x y
 
   merged-limits : (f : tableOk t a ≡ true) (g : tableOk t b ≡ true)
-      → Exactly (LimitGiven (meaningOf t a ++ meaningOf t b) (puts (meaningOf t a) (meaningOf t b))) (mergedBy Passed t a b .outcome) (meaningOf t (mergedBy Passed t a b .set))
+      → Exactly (LimitGiven (listedOf t a ++ listedOf t b) (joinedMeaning (meaningOf t a) (meaningOf t b))) (mergedBy Passed t a b .outcome) (meaningOf t (mergedBy Passed t a b .set))
+  unfolding meaningOf joinedMeaning
   merged-limits f g =
-      rw (f, g) (limit-exactly (whole-shaped t a b f g) (meaningOf t a ++ meaningOf t b) (class-both t a b f g) (key-both t a b f g) (whole-means t a b f g))
+      let m : classesOnce (meant t (whole t a b)) ≡ _ = ap classesOnce (whole-lists t a b f g) ∙ sym (puts-once (listedOf t a) (listedOf t b)) in
+      rw (f, g) (limit-exactly (whole-shaped t a b f g) (listedOf t a ++ listedOf t b) (class-both t a b f g) (key-both t a b f g) m)
 
   merged-only : Only (MergeGiven t a b) (mergedBy Passed t a b .outcome) (meaningOf t (mergedBy Passed t a b .set))
   merged-only p u (MergeGiven.malformed n) = go (tableOk t a) refl (tableOk t b) refl

@@ -14,8 +14,8 @@ use Rattle.base_lists.specs.Lists.{same, isSome}
 use Rattle.base_lists.proofs.Scan.{both}
 use Rattle.base_lists.proofs.Same.{same-true, same-of}
 use Rattle.base_lists.proofs.More.{contra, same-sym}
-use Rattle.block_grammar.specs.Meaning.{Entry, idName, className}
-use Rattle.proved_grammar.specs.Meaning.{isClass, withValues}
+use Rattle.block_grammar.specs.Meaning.{Entry, idName, className, isClass}
+use Rattle.proved_grammar.specs.Meaning.{withValues}
 use Rattle.set_table.specs.Types.{Texts, nameBytes, valueBytes, zeroRow}
 use Rattle.set_table.specs.Rows.{Rows, Put, isThere, hasKey, keyAt, putRow, slotUnless, withPut, slotEntry}
 use Rattle.set_table.specs.Shape.{isSlot, isPresent, nameAt, isFree, Shaped}

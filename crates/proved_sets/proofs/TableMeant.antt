@@ -1,4 +1,4 @@
--- Rows built by puts mean what the puts say, one put after the other.
+-- Rows built by puts list what the puts say, one put after the other.
 -- Assumes nothing.
 use mathlib.Core.Path.{_≡_, refl, sym, _∙_, ap}
 use mathlib.Core.Bool.{Bool, true, false, cond}

@@ -1,4 +1,4 @@
--- A table means what the rows mean that it was made of, and what lies past its counts is zero, as is an id that isn't given.
+-- A table lists what the rows list that it was made of, and what lies past its counts is zero, as is an id that isn't given.
 -- Assumes nothing.
 use Prim.Native.Nat.{ℕ, zero, suc, _+_, _≤_, _-_}
 use mathlib.Core.Path.{_≡_, refl, ap}
@@ -9,8 +9,9 @@ use lib.ListN.{length, getD, replicate, length-map}
 use lib.Seq.{getD-append-add}
 use Rattle.base_lists.proofs.More.{contra}
 use Rattle.set_table.specs.Types.{Texts, maxClasses, maxKeys, maxSlots, zeroValue, zeroRow, zeroSlot, emptySet}
-use Rattle.set_table.specs.Rows.{Ident, Rows, noRows, isThere, padded, held, idOr, tableOf, rowsIn, meant, meaningOf}
+use Rattle.set_table.specs.Rows.{Ident, Rows, noRows, isThere, padded, held, idOr, tableOf, rowsIn, meant, meaningOf, listedOf}
 use Rattle.set_table.proofs.Whole.{rows-table}
+use Rattle.block_grammar.specs.Meaning.{classesOnce}
 
 module _ {A : Type 0} (n : ℕ) (z : A) where
   pub padded-past : (xs : List A) (k : ℕ) → length xs ≤ k → getD (padded n z xs) k z ≡ z
@@ -23,9 +24,13 @@ module _ {A : Type 0} (n : ℕ) (z : A) where
       none (suc m) (suc j) = none m j
 
 module _ (s : Rows) where
-  pub table-means : (t : Texts) → meaningOf t (tableOf s) ≡ meant t s
+  pub table-lists : (t : Texts) → listedOf t (tableOf s) ≡ meant t s
+  unfolding listedOf
+  table-lists t = ap (meant t) (rows-table s)
+
+  pub table-means : (t : Texts) → meaningOf t (tableOf s) ≡ classesOnce (meant t s)
   unfolding meaningOf
-  table-means t = ap (meant t) (rows-table s)
+  table-means t = ap classesOnce (table-lists t)
 
   pub past-id : tableOf s .given ≡ false → tableOf s .id ≡ zeroValue
   unfolding tableOf
@@ -54,5 +59,5 @@ unfolding tableOf padded
 empty-table = refl
 
 pub empty-means : (t : Texts) → meaningOf t emptySet ≡ []
-unfolding meaningOf rowsIn meant
+unfolding meaningOf listedOf rowsIn meant classesOnce
 empty-means t = refl

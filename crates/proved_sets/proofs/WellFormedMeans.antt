@@ -14,14 +14,14 @@ use Rattle.base_lists.proofs.More.{contra, same-sym, all-weaker}
 use Rattle.base_bytes.specs.Bytes.{within, isLetter, isDigit, isAlnum, isKeyStart, isNamePart}
 use Rattle.text_names.specs.Names.{isKey}
 use Rattle.block_grammar.specs.Close.{noLf}
-use Rattle.block_grammar.specs.Meaning.{idName, className}
-use Rattle.proved_grammar.specs.Meaning.{isClass, absent, distinct}
+use Rattle.block_grammar.specs.Meaning.{idName, className, isClass, classesOnce}
+use Rattle.proved_grammar.specs.Meaning.{absent, distinct}
 use Rattle.set_canon.specs.Canon.{isClassValue}
-use Rattle.proved_sets.specs.Formed.{entryOk, wf, MeansFormed, MeansNothing, CountsZero}
+use Rattle.proved_sets.specs.Formed.{entryOk, wf, MeansFormed, MeansNothing, CountsZero, wfOnce}
 use Rattle.proved_sets.proofs.CanonParts.{entry-ok, classes-ok, value-ok, joined}
 use Rattle.proved_sets.proofs.Shaping.{free-parts}
 use Rattle.set_table.specs.Types.{Texts, valueBytes, zeroRow}
-use Rattle.set_table.specs.Rows.{Ident, Rows, noRows, isThere, idValues, slotEntry, meant, rowsIn, meaningOf}
+use Rattle.set_table.specs.Rows.{Ident, Rows, noRows, isThere, idValues, slotEntry, meant, rowsIn, meaningOf, listedOf}
 use Rattle.set_table.specs.Shape.{times, isSlot, isPresent, nameAt, Shaped}
 use Rattle.set_table.specs.declared.Attrs.{Attrs}
 use Rattle.set_table.specs.declared.Row.{Row}
@@ -32,6 +32,10 @@ use Rattle.set_table.proofs.Slots.{times-le, times-head}
 use Rattle.set_values.specs.Values.{textOk, valueOk, identOk, classOk, keyOk}
 use Rattle.base_lists.proofs.Each.{all-map, all-at}
 use Rattle.set_wellformed.proofs.Shape.{slots-named, Passed, keyed, passed-shaped, table-passed, shaped}
+use Rattle.block_grammar.proofs.Once.{once-empty}
+use Rattle.proved_grammar.proofs.Once.{apart-once}
+use Rattle.set_wellformed.specs.WellFormed.{tableOk}
+use Rattle.proved_sets.proofs.CanonOnce.{once-wf}
 
 flat : (t : Texts) (v : Value) → valueOk t v ≡ true → noLf (valueBytes t v) ≡ true
 unfolding valueOk
@@ -159,15 +163,23 @@ passed-wf {t} {s} p =
     let a = slots-named s (p .slots) in
     joined (map (slotEntry t s) (s .order)) (entries p (s .order) a) (slots-distinct (passed-shaped p) (s .order) a (once-most (passed-shaped p)))
 
-module _ (t : Texts) (a : Attrs) where
-  pub means-wf : MeansFormed t a
+module _ (t : Texts) (a : Attrs) (e : tableOk t a ≡ true) where
+  pub lists-wf : wf (listedOf t a) ≡ true
+  unfolding listedOf
+  lists-wf = passed-wf (table-passed t a e)
+
+  pub means-wf : wf (meaningOf t a) ≡ true
   unfolding meaningOf
-  means-wf e = passed-wf (table-passed t a e)
+  means-wf = once-wf (listedOf t a) lists-wf
+
+pub means-formed : MeansFormed
+unfolding meaningOf wfOnce
+means-formed t a e = (lists-wf t a e, rw (means-wf t a e) (apart-once (listedOf t a)))
 
 -- the meaning is empty just where there are no rows
 pub means-none : MeansNothing
-unfolding meaningOf meant
-means-none t a e = (λ q. empty-rows (shaped t a e) (none (rowsIn a .order) q), λ q. rw q)
+unfolding meaningOf listedOf meant classesOnce
+means-none t a e = (λ q. empty-rows (shaped t a e) (none (rowsIn a .order) (once-empty (listedOf t a) q)), λ q. rw q)
   where
     none : (o : List Slot) → map (slotEntry t (rowsIn a)) o ≡ [] → o ≡ []
     none [] q = refl

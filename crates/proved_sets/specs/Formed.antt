@@ -9,12 +9,13 @@ use Rattle.base_refusals.specs.declared.Outcome.the-variants.{Passed}
 use Rattle.text_utf8.specs.Computed.{isUtf8}
 use Rattle.text_checks.specs.Check.{checkOf}
 use Rattle.text_names.specs.Names.{isKey}
-use Rattle.block_grammar.specs.Meaning.{Entry}
-use Rattle.proved_grammar.specs.Meaning.{isClass, distinct}
+use Rattle.block_grammar.specs.Meaning.{Entry, isClass}
+use Rattle.proved_grammar.specs.Meaning.{distinct}
+use Rattle.proved_grammar.specs.Once.{classesDiffer}
 use Rattle.block_grammar.specs.Close.{noLf}
 use Rattle.set_canon.specs.Canon.{canon, isClassValue}
 use Rattle.set_table.specs.Types.{Texts, maxClasses, maxKeys, maxSlots, zeroValue, zeroRow}
-use Rattle.set_table.specs.Rows.{Rows, Put, noRows, withPuts, tableOf, rowsIn, meaningOf}
+use Rattle.set_table.specs.Rows.{Rows, Put, noRows, withPuts, tableOf, rowsIn, listedOf, meaningOf}
 use Rattle.set_table.specs.Shape.{Shaped}
 use Rattle.set_table.specs.declared.Attrs.{Attrs}
 use Rattle.set_values.specs.Values.{valueOk, identOk, classOk, keyOk}
@@ -58,9 +59,13 @@ entryOk e = isKey (e .name) && (all noLf (e .values) && valuesOk (e .name) (e .v
 unfoldable pub wf : List Entry → Bool
 wf m = all entryOk m && distinct m
 
--- What a well-formed table means is a meaning of which canonical text is read back (Canonical).
-abbrev pub MeansFormed : Texts → Attrs → Type 0
-MeansFormed t a = tableOk t a ≡ true → wf (meaningOf t a) ≡ true
+-- and whose classes differ
+unfoldable pub wfOnce : List Entry → Bool
+wfOnce m = wf m && all classesDiffer m
+
+-- What a well-formed table lists is well-formed, and what it means is too, with classes that differ: canonical text of it is read back (Canonical).
+abbrev pub MeansFormed : Type 0
+MeansFormed = (t : Texts) (a : Attrs) → tableOk t a ≡ true → (wf (listedOf t a) ≡ true) × (wfOnce (meaningOf t a) ≡ true)
 
 abbrev pub entryUtf8 : Entry → Bool
 entryUtf8 e = isUtf8 (e .name) && all isUtf8 (e .values)

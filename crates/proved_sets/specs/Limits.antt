@@ -10,8 +10,8 @@ use Rattle.base_refusals.specs.declared.Refusal.the-variants.{TextTooLong, NotU
 use Rattle.base_refusals.specs.declared.Outcome.{Outcome}
 use Rattle.base_refusals.specs.declared.Outcome.the-variants.{Passed, Refused}
 use Rattle.proved_texts.specs.Utf8Rules.{WellFormed}
-use Rattle.block_grammar.specs.Meaning.{Entry}
-use Rattle.proved_grammar.specs.Meaning.{isClass, absent}
+use Rattle.block_grammar.specs.Meaning.{Entry, isClass}
+use Rattle.proved_grammar.specs.Meaning.{absent}
 use Rattle.set_table.specs.Types.{Texts, maxClasses, maxKeys}
 use Rattle.set_table.specs.Shape.{isFree}
 

@@ -7,10 +7,11 @@ use lib.ListN.{length, getD}
 use Rattle.base_refusals.specs.declared.Refusal.the-variants.{NotWellFormed}
 use Rattle.base_refusals.specs.declared.Outcome.{Outcome}
 use Rattle.base_refusals.specs.declared.Outcome.the-variants.{Passed, Refused}
-use Rattle.block_grammar.specs.Meaning.{Entry, className}
-use Rattle.proved_grammar.specs.Meaning.{isClass, puts, lookup, slotNames, absent}
+use Rattle.block_grammar.specs.Meaning.{Entry, className, isClass, lookup, freshAfter}
+use Rattle.proved_grammar.specs.Meaning.{puts, slotNames, absent}
+use Rattle.proved_grammar.specs.Merged.{joinedMeaning}
 use Rattle.set_table.specs.Types.{Texts, zeroRow}
-use Rattle.set_table.specs.Rows.{tableOf, rowsIn, meaningOf}
+use Rattle.set_table.specs.Rows.{tableOf, rowsIn, listedOf, meaningOf}
 use Rattle.set_table.specs.declared.Attrs.{Attrs}
 use Rattle.set_wellformed.specs.WellFormed.{wellFormed}
 use Rattle.set_merge.specs.Merge.{mergeOf}
@@ -27,13 +28,15 @@ abbrev pub mergeMeaning : Texts → Attrs → Attrs → List Entry
 mergeMeaning t a b = meaningOf t (mergeOf t a b .set)
 
 pub record MergedWell (t : Texts) (a b : Attrs) : Type 0 where
-  -- all at once: what b means is put into what a means
-  pub means : mergeMeaning t a b ≡ puts (meaningOf t a) (meaningOf t b)
+  -- "Reading and merging still list every class": what b lists is put into what a lists
+  pub lists : listedOf t (mergeOf t a b .set) ≡ puts (listedOf t a) (listedOf t b)
+  -- all at once: what b means is put into what a means, each class once
+  pub means : mergeMeaning t a b ≡ joinedMeaning (meaningOf t a) (meaningOf t b)
   -- "Merging: a later id wins, .., later key values win"
   pub later-wins : (n : List ℕ) → absent n (meaningOf t b) ≡ false → isClass n ≡ false → lookup n (mergeMeaning t a b) ≡ lookup n (meaningOf t b)
   pub earlier-stays : (n : List ℕ) → absent n (meaningOf t b) ≡ true → lookup n (mergeMeaning t a b) ≡ lookup n (meaningOf t a)
-  -- "classes are joined"
-  pub classes-joined : lookup className (mergeMeaning t a b) ≡ lookup className (meaningOf t a) ++ lookup className (meaningOf t b)
+  -- "classes are joined", each once
+  pub classes-joined : lookup className (mergeMeaning t a b) ≡ freshAfter [] (lookup className (meaningOf t a) ++ lookup className (meaningOf t b))
   -- "new slots go behind"
   pub new-behind : slotNames (mergeMeaning t a b) ≡ slotNames (meaningOf t a) ++ newSlots (meaningOf t a) (meaningOf t b)
   -- "a key met again keeps its row and first name"
@@ -48,9 +51,9 @@ MergeGives = (t : Texts) (a b : Attrs) → mergeOf t a b .outcome ≡ Passed →
 pub data MergeGiven (t : Texts) (a b : Attrs) : Outcome → List Entry → Type 0 where
   -- 11: "table not well-formed over its texts"
   malformed : (wellFormed t a ≡ true → wellFormed t b ≡ true → ⊥) → MergeGiven t a b (Refused NotWellFormed) []
-  -- 6 and 7, counted over both meanings; else the one put into the other
+  -- 6 and 7, counted over what both list; else the one meaning put into the other
   formed : {o : Outcome} {s : List Entry} → wellFormed t a ≡ true → wellFormed t b ≡ true
-      → LimitGiven (meaningOf t a ++ meaningOf t b) (puts (meaningOf t a) (meaningOf t b)) o s → MergeGiven t a b o s
+      → LimitGiven (listedOf t a ++ listedOf t b) (joinedMeaning (meaningOf t a) (meaningOf t b)) o s → MergeGiven t a b o s
 
 abbrev pub MergeByRules : Type 0
 MergeByRules = (t : Texts) (a b : Attrs) → Exactly (TextsGiven t (MergeGiven t a b)) (mergeOf t a b .outcome) (mergeMeaning t a b)
@@ -59,9 +62,9 @@ MergeByRules = (t : Texts) (a b : Attrs) → Exactly (TextsGiven t (MergeGiven t
 pub record AsNothing (t : Texts) (e a : Attrs) : Type 0 where
   -- merged into a set it leaves that as it is, but for rows past the counts, which are zero in what is handed out
   pub behind : mergeOf t a e ≡ record { outcome = Passed; set = tableOf (rowsIn a) }
-  -- a set that is merged into it isn't refused, and keeps its meaning
+  -- a set that is merged into it isn't refused, and keeps all that it lists
   pub passes : mergeOf t e a .outcome ≡ Passed
-  pub keeps : mergeMeaning t e a ≡ meaningOf t a
+  pub keeps : listedOf t (mergeOf t e a .set) ≡ listedOf t a
 
 abbrev pub EmptyMerges : Type 0
 EmptyMerges = (t : Texts) (e a : Attrs) → HasNothing e → wellFormed t a ≡ true → AsNothing t e a

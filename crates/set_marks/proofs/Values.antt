@@ -7,11 +7,12 @@ use Prim.Native.Nat.{ℕ, suc, _+_, _-_, _<_, _≤_, zero-le}
 use native.Mathlib.Nat.{add-zero}
 use native.Mathlib.Numerals.{add-one}
 use native.Mathlib.Omega.{arith}
-use borrow.Author.Tests.{leb-true, leb-false}
+use borrow.Author.Tests.{leb-true, leb-false, eq-eqb, ne-eqb}
 use lib.Dec.{leb}
 use lib.ListN.{length, getD, drop, drop-of-length-le, length-append, length-take}
 use lib.Seq.{drop-cons}
 use Rattle.base_bytes.specs.Bytes.{isMarked}
+use Rattle.base_lists.specs.Lists.{same}
 use Rattle.base_lists.proofs.Parts.{slice-part}
 use Rattle.text_escapes.specs.declared.Piece.{Piece}
 use Rattle.text_escapes.specs.declared.Piece.the-variants.{End, Byte}
@@ -63,11 +64,13 @@ bytes-short false s = omega arith
 pub record Stands (q : Bool) (s : List ℕ) (i b next : ℕ) : Type 0 where
   pub ahead : i < next
   pub within : next ≤ length s
+  pub bytes : bytesIn q (drop i s) ≡ b ∷ bytesIn q (drop next s)
   pub rest : escape (bytesIn q (drop i s)) ≡ marked b ++ escape (bytesIn q (drop next s))
   pub few : length (marked b) ≤ 2
 
 -- nothing is at i or behind it
 pub record Ends (q : Bool) (s : List ℕ) (i : ℕ) : Type 0 where
+  pub bytes : bytesIn q (drop i s) ≡ []
   pub rest : escape (bytesIn q (drop i s)) ≡ []
 
 module _ {s : List ℕ} {i : ℕ} {r : Piece} where
@@ -75,7 +78,7 @@ module _ {s : List ℕ} {i : ℕ} {r : Piece} where
   unfolding pieceIn
   byte-in true {b} {next} e p =
       let z = byte-at e p in
-      record { ahead = z .ahead; within = z .within; rest = rw (z .rest) (escape-cons b (unescape (drop next s))); few = marked-short b }
+      record { ahead = z .ahead; within = z .within; bytes = z .rest; rest = rw (z .rest) (escape-cons b (unescape (drop next s))); few = marked-short b }
   byte-in false {b} {next} e p = go (leb (length s) i) refl (sym e ∙ p)
     where
       go : (x : Bool) → leb (length s) i ≡ x → cond x End (Byte (getD s i 0) (i + 1)) ≡ Byte b next → Stands false s i b next
@@ -84,15 +87,15 @@ module _ {s : List ℕ} {i : ℕ} {r : Piece} where
           let l = leb-false (length s) i h in
           let n : next ≡ i + 1 = cc in
           let v : b ≡ getD s i 0 = cc in
-          record { ahead = omega arith; within = omega arith; rest = rw (drop-cons s i 0 l, v, n, add-one) (escape-cons (getD s i 0) (drop (suc i) s)); few = marked-short b }
+          record { ahead = omega arith; within = omega arith; bytes = rw (drop-cons s i 0 l, v, n, add-one); rest = rw (drop-cons s i 0 l, v, n, add-one) (escape-cons (getD s i 0) (drop (suc i) s)); few = marked-short b }
 
   pub end-in : (q : Bool) → r ≡ pieceIn q s i → r ≡ End → Ends q s i
   unfolding pieceIn escape flatMap
-  end-in true e p = record { rest = rw (end-at e p .rest) }
+  end-in true e p = record { bytes = end-at e p .rest; rest = rw (end-at e p .rest) }
   end-in false e p = go (leb (length s) i) refl (sym e ∙ p)
     where
       go : (x : Bool) → leb (length s) i ≡ x → cond x End (Byte (getD s i 0) (i + 1)) ≡ End → Ends false s i
-      go true h z = record { rest = rw (drop-of-length-le s (leb-true (length s) i h)) }
+      go true h z = record { bytes = drop-of-length-le s (leb-true (length s) i h); rest = rw (drop-of-length-le s (leb-true (length s) i h)) }
       go false h z = let z : _≡_ {A = ℕ} 0 1 = cc in absurd (omega arith)
 
 -- ---- counting: n bytes were counted, the others stand from i on
@@ -116,6 +119,36 @@ module _ {q : Bool} {s : List ℕ} {n i : ℕ} (inv : Counts q s n i) where
   pub counts-end : Ends q s i → n ≡ length (escape (bytesIn q s))
   counts-end p = sym (add-zero n) ∙ (rw (p .rest) at (inv .rest))
 
+-- ---- comparing: the answer for the rests, from i and from j on, is the answer for the whole
+pub record Equals (p : Bool) (s : List ℕ) (q : Bool) (t : List ℕ) (i j : ℕ) : Type 0 where
+  pub rest : same (bytesIn p (drop i s)) (bytesIn q (drop j t)) ≡ same (bytesIn p s) (bytesIn q t)
+
+pub equals-start : (p : Bool) (s : List ℕ) (q : Bool) (t : List ℕ) → Equals p s q t 0 0
+equals-start p s q t = record { rest = refl }
+
+module _ {p : Bool} {s : List ℕ} {q : Bool} {t : List ℕ} {i j : ℕ} (inv : Equals p s q t i j) where
+  pub equals-end : Ends p s i → Ends q t j → true ≡ same (bytesIn p s) (bytesIn q t)
+  unfolding same
+  equals-end e f = rw (e .bytes, f .bytes) at (inv .rest)
+
+  pub equals-shorter : {b next : ℕ} → Ends p s i → Stands q t j b next → false ≡ same (bytesIn p s) (bytesIn q t)
+  unfolding same
+  equals-shorter e f = rw (e .bytes, f .bytes) at (inv .rest)
+
+  module _ {b next : ℕ} (e : Stands p s i b next) where
+    pub equals-longer : Ends q t j → false ≡ same (bytesIn p s) (bytesIn q t)
+    unfolding same
+    equals-longer f = rw (e .bytes, f .bytes) at (inv .rest)
+
+    module _ {c after : ℕ} (f : Stands q t j c after) where
+      pub equals-stop : (b ≡ c → ⊥) → false ≡ same (bytesIn p s) (bytesIn q t)
+      unfolding same
+      equals-stop n = rw (e .bytes, f .bytes, ne-eqb b c n) at (inv .rest)
+
+      pub equals-go : b ≡ c → Equals p s q t next after
+      unfolding same
+      equals-go n = record { rest = rw (e .bytes, f .bytes, eq-eqb b c n) at (inv .rest) }
+
 -- ---- a value of a set
 
 pub raw-value : (t : Texts) (v : Value) → bytesIn (isQuoted v) (rawBytes t v) ≡ valueBytes t v
@@ -134,3 +167,11 @@ range-short t o from to = rw (slice-part from to (textAt t o)) (omega (arith, le
 
 pub range-fits : (t : Texts) (o : Origin) (from to : ℕ) {s : List ℕ} → s ≡ rangeBytes t o from to → to ≤ maxText → length s ≤ maxText
 range-fits t o from to e h = rw e (omega (arith, range-short t o from to))
+
+-- two values by their raw texts
+module _ (t : Texts) (a b : Value) {x y : List ℕ} {p q r : Bool} (e : x ≡ rawBytes t a) (f : y ≡ rawBytes t b) (g : p ≡ isQuoted a) (h : q ≡ isQuoted b) where
+  pub by-pieces : r ≡ same (bytesIn p x) (bytesIn q y) → r ≡ same (valueBytes t a) (valueBytes t b)
+  by-pieces z = z ∙ (rw (e, f, g, h, raw-value t a, raw-value t b))
+
+  pub by-bytes : p ≡ false → q ≡ false → r ≡ same x y → r ≡ same (valueBytes t a) (valueBytes t b)
+  by-bytes i j z = by-pieces (z ∙ (rw (i, j)))

@@ -5,10 +5,11 @@ use text_escapes::Piece;
 ghost use mathlib.Core.Path.{_≡_};
 ghost use Prim.Native.Nat.{_≤_};
 ghost use lib.ListN.{length};
+ghost use Rattle.base_lists.specs.Lists.{same};
 ghost use Rattle.base_refusals.specs.Numbers.{maxText};
 ghost use Rattle.text_escapes.specs.Unescape.{piecePaper};
 ghost use Rattle.set_canon.specs.Canon.{marked, escape};
-ghost use Rattle.set_table.specs.Types.{two};
+ghost use Rattle.set_table.specs.Types.{two, valueBytes};
 ghost use Rattle.set_marks.specs.Marks.{bytesIn, pieceIn, rawBytes, isQuoted};
 ghost use Rattle.base_bytes.specs.Bytes.{isMarked};
 
@@ -86,4 +87,48 @@ pub fn is_quoted(value: Value) -> bool
         Text::Quoted(_, _, _) => true,
         Text::Empty => false,
     }
+}
+
+// Whether two raw texts stand for the same bytes, each quoted or not.
+fn same_pieces(x: &[u8], p: bool, y: &[u8], q: bool) -> bool
+    ensures { λ r. ⌜ r ≡ same (bytesIn p (now (x .entry))) (bytesIn q (now (y .entry))) ⌝ }
+{
+    let mut i = 0;
+    let mut j = 0;
+    'pieces: loop {
+        match value_piece(x, i, p) {
+            Piece::End => match value_piece(y, j, q) {
+                Piece::End => return true,
+                Piece::Byte(_, _) => return false,
+            },
+            Piece::Byte(b, next) => match value_piece(y, j, q) {
+                Piece::End => return false,
+                Piece::Byte(c, after) => {
+                    if b != c {
+                        return false;
+                    }
+                    i = next;
+                    j = after;
+                    continue 'pieces;
+                }
+            },
+        }
+    }
+}
+
+// Whether two values stand for the same bytes: as they stand where neither is quoted, else byte by byte.
+pub fn same_values<'a>(first: &'a [u8], second: &'a [u8], a: Value, b: Value) -> bool
+    ensures { λ r. ⌜ r ≡ same (valueBytes (two (now (first .entry)) (now (second .entry))) a) (valueBytes (two (now (first .entry)) (now (second .entry))) b) ⌝ }
+{
+    let x = raw_bytes(first, second, a);
+    let y = raw_bytes(first, second, b);
+    let p = is_quoted(a);
+    let q = is_quoted(b);
+    if p {
+        return same_pieces(x, p, y, q);
+    }
+    if q {
+        return same_pieces(x, p, y, q);
+    }
+    base_lists::same_bytes(x, y)
 }

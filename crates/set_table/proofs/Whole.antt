@@ -6,8 +6,9 @@ use mathlib.Core.List.{List, [], map, map-map, map-id}
 use Prim.Native.Nat.{ℕ, _-_}
 use lib.ListN.{length, take, replicate, length-map}
 use lib.Seq.{take-append-seam}
+use Rattle.block_grammar.specs.Meaning.{classesOnce}
 use Rattle.set_table.specs.Types.{Texts, maxClasses, maxKeys, maxSlots, zeroValue, zeroRow, zeroSlot}
-use Rattle.set_table.specs.Rows.{Rows, Ident, isThere, idOr, padded, held, slotIn, tableOf, rowsIn, meant, meaningOf}
+use Rattle.set_table.specs.Rows.{Rows, Ident, isThere, idOr, padded, held, slotIn, tableOf, rowsIn, meant, listedOf, meaningOf}
 use Rattle.set_table.specs.declared.Attrs.{Attrs}
 
 module _ {A : Type 0} (n : ℕ) (z : A) where
@@ -29,5 +30,5 @@ module _ (s : Rows) where
   rows-table = rw (padded-front maxClasses zeroValue (s .classes), padded-front maxKeys zeroRow (s .keys), order-back, id-back (s .ident))
 
 pub none-means : (t : Texts) (a : Attrs) → a .norder ≡ 0 → meaningOf t a ≡ []
-unfolding meaningOf meant rowsIn
+unfolding meaningOf listedOf meant rowsIn classesOnce
 none-means t a e = rw e

@@ -4,7 +4,7 @@ use mathlib.Core.Bool.{Bool, true, false, cond, _||_}
 use mathlib.Core.List.{List, [], _∷_, _++_, map, foldl}
 use lib.ListN.{length, getD, take, replicate}
 use Rattle.base_lists.specs.Lists.{isSome, same}
-use Rattle.block_grammar.specs.Meaning.{Entry, idName, className}
+use Rattle.block_grammar.specs.Meaning.{Entry, idName, className, classesOnce}
 use Rattle.set_table.specs.Types.{Texts, nameBytes, valueBytes, maxClasses, maxKeys, maxSlots, zeroValue, zeroRow, zeroSlot}
 use Rattle.set_table.specs.declared.Value.{Value}
 use Rattle.set_table.specs.declared.Name.{Name}
@@ -82,6 +82,7 @@ slotEntry t s slot.Id = record { name = idName; values = idValues t (s .ident) }
 slotEntry t s slot.Class = record { name = className; values = map (valueBytes t) (s .classes) }
 slotEntry t s (slot.Key k) = record { name = nameBytes t (getD (s .keys) k zeroRow .name); values = valueBytes t (getD (s .keys) k zeroRow .value) ∷ [] }
 
+-- what rows list, slot by slot
 unfoldable pub meant : Texts → Rows → List Entry
 meant t s = map (slotEntry t s) (s .order)
 
@@ -119,6 +120,10 @@ slotIn r = r .slot
 unfoldable pub rowsIn : Attrs → Rows
 rowsIn a = record { ident = cond (a .given) (Ident.given (a .id)) Ident.missing; classes = take (a .nclass) (a .classes); keys = take (a .nkey) (a .keys); order = map slotIn (take (a .norder) (a .order)) }
 
--- what a table means over its texts
+-- what a table lists over its texts: "Reading and merging still list every class"
+unfoldable pub listedOf : Texts → Attrs → List Entry
+listedOf t a = meant t (rowsIn a)
+
+-- and what it means: "a class equal byte for byte to an earlier one doesn't count"
 unfoldable pub meaningOf : Texts → Attrs → List Entry
-meaningOf t a = meant t (rowsIn a)
+meaningOf t a = classesOnce (listedOf t a)

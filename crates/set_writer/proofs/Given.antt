@@ -22,6 +22,7 @@ use Rattle.set_writer.specs.declared.Wrote.{Wrote}
 use Rattle.set_writer.specs.declared.Wrote.the-variants.{Refused}
 use Rattle.set_writer.specs.Write.{wroteOf, contentAfter, writable, attrsWrote, attrsContent}
 use Rattle.set_writer.proofs.Walks.{slots-length}
+use Rattle.set_writer.proofs.Kept.{means-length}
 
 module _ (t : Texts) (a : Attrs) (buf : List ℕ) where
   abbrev pub Answers : Wrote → List ℕ → Type 0
@@ -44,4 +45,4 @@ module _ (t : Texts) (a : Attrs) (buf : List ℕ) where
 
         pub passed : length (a .order) ≡ maxSlots → (a .norder ≡ 0 → ⊥) → {w : Wrote} {b : List ℕ} → w ≡ wroteOf (canon (meaningOf t a)) (length buf) → b ≡ contentAfter buf (canon (meaningOf t a)) → Answers w b
         unfolding writable attrsWrote attrsContent
-        passed l z g h = rw (sym e, p, f, is-some (meaningOf t a) (omega (arith, slots-length t a l))) (g, h)
+        passed l z g h = rw (sym e, p, f, is-some (meaningOf t a) (omega (arith, means-length t a, slots-length t a l))) (g, h)

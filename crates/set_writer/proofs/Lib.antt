@@ -4,5 +4,6 @@ pub mod Writes
 pub mod Items
 pub mod Walks
 pub mod Room
+pub mod Kept
 pub mod Given
 pub mod Numbers

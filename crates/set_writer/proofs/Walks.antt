@@ -15,7 +15,7 @@ use Rattle.base_refusals.specs.declared.Refusal.the-variants.{CanonTooLong}
 use Rattle.block_grammar.specs.Meaning.{Entry, className, langName}
 use Rattle.set_canon.specs.Canon.{Pair, pairsOf, pairs, canon}
 use Rattle.set_table.specs.Types.{Texts, rangeBytes, nameBytes, valueBytes, maxClasses, maxKeys, maxSlots, zeroValue, zeroRow, zeroSlot}
-use Rattle.set_table.specs.Rows.{slotEntry, meant, rowsIn, slotIn, meaningOf}
+use Rattle.set_table.specs.Rows.{slotEntry, meant, rowsIn, slotIn, listedOf}
 use Rattle.set_table.specs.declared.Value.{Value}
 use Rattle.set_table.specs.declared.Name.{Name}
 use Rattle.set_table.specs.declared.Origin.{Origin}
@@ -122,18 +122,18 @@ pairs-step m p d h = rw (drop-cons m p d h, add-one p)
 
 module _ (t : Texts) (a : Attrs) where
   abbrev entries : List Entry
-  entries = meaningOf t a
+  entries = listedOf t a
 
   -- the items of a slot
   abbrev pub slotPairs : Slot → List Pair
   slotPairs x = pairsOf (slotEntry t (rowsIn a) x .name) (slotEntry t (rowsIn a) x .values)
 
   pub slots-length : length (a .order) ≡ maxSlots → length entries ≡ min (a .norder) maxSlots
-  unfolding meaningOf meant rowsIn
+  unfolding listedOf meant rowsIn
   slots-length l = simp length-map (rw (length-take, l))
 
   slot-at : (p : ℕ) → p < a .norder → getD entries p (slotEntry t (rowsIn a) (slotIn zeroSlot)) ≡ slotEntry t (rowsIn a) (getD (a .order) p zeroSlot .slot)
-  unfolding meaningOf meant rowsIn
+  unfolding listedOf meant rowsIn
   slot-at p h =
       List·getD-map (slotEntry t (rowsIn a)) (map slotIn (take (a .norder) (a .order))) p (slotIn zeroSlot)
       ∙ ap (slotEntry t (rowsIn a)) (List·getD-map slotIn (take (a .norder) (a .order)) p zeroSlot ∙ ap slotIn (getD-take (a .norder) (a .order) p zeroSlot h))
@@ -162,53 +162,53 @@ module _ (t : Texts) (a : Attrs) where
 -- p slots are written
 pub record Walks (t : Texts) (a : Attrs) (really : Bool) (buf₀ : List ℕ) (cap : ℕ) (buf : List ℕ) (n p : ℕ) : Type 0 where
   pub long : length (a .order) ≡ maxSlots
-  pub fits : really ≡ true → length (canon (meaningOf t a)) ≤ cap
-  pub fills : Fills really buf₀ 0 (canon (meaningOf t a)) buf n (textFrom n (pairs (drop p (meaningOf t a))))
+  pub fits : really ≡ true → length (canon (listedOf t a)) ≤ cap
+  pub fills : Fills really buf₀ 0 (canon (listedOf t a)) buf n (textFrom n (pairs (drop p (listedOf t a))))
 
 module _ (t : Texts) (a : Attrs) (really : Bool) (buf : List ℕ) (cap : ℕ) where
-  pub walks-start : length (a .order) ≡ maxSlots → cap ≤ length buf → (really ≡ true → length (canon (meaningOf t a)) ≤ cap) → Walks t a really buf cap buf 0 0
+  pub walks-start : length (a .order) ≡ maxSlots → cap ≤ length buf → (really ≡ true → length (canon (listedOf t a)) ≤ cap) → Walks t a really buf cap buf 0 0
   walks-start l h r =
       record {
         long = l;
         fits = r;
-        fills = subst (λ (xs : List ℕ). Fills really buf 0 (canon (meaningOf t a)) buf 0 xs) (sym (from-front (meaningOf t a))) (fills-start really buf 0 (canon (meaningOf t a)) (λ y. omega (arith, r y)));
+        fills = subst (λ (xs : List ℕ). Fills really buf 0 (canon (listedOf t a)) buf 0 xs) (sym (from-front (listedOf t a))) (fills-start really buf 0 (canon (listedOf t a)) (λ y. omega (arith, r y)));
       }
 
 module _ {t : Texts} {a : Attrs} {really : Bool} {buf₀ : List ℕ} {cap : ℕ} {buf : List ℕ} {n p : ℕ} (inv : Walks t a really buf₀ cap buf n p) where
   -- more than fits was measured: nothing is written
-  pub walks-over : cap < n → (Refused CanonTooLong ≡ wroteTo cap (length (canon (meaningOf t a)))) × (buf ≡ putIf really buf₀ 0 (canon (meaningOf t a)))
+  pub walks-over : cap < n → (Refused CanonTooLong ≡ wroteTo cap (length (canon (listedOf t a)))) × (buf ≡ putIf really buf₀ 0 (canon (listedOf t a)))
   unfolding wroteTo putIf
-  walks-over h = (rw (lt-leb (length (canon (meaningOf t a))) cap (omega (arith, inv .fills .left))), go really refl (inv .fits) (inv .fills))
+  walks-over h = (rw (lt-leb (length (canon (listedOf t a))) cap (omega (arith, inv .fills .left))), go really refl (inv .fits) (inv .fills))
     where
-      go : (y : Bool) → really ≡ y → (y ≡ true → length (canon (meaningOf t a)) ≤ cap) → Fills y buf₀ 0 (canon (meaningOf t a)) buf n (textFrom n (pairs (drop p (meaningOf t a)))) → buf ≡ cond y (sets buf₀ 0 (canon (meaningOf t a))) buf₀
+      go : (y : Bool) → really ≡ y → (y ≡ true → length (canon (listedOf t a)) ≤ cap) → Fills y buf₀ 0 (canon (listedOf t a)) buf n (textFrom n (pairs (drop p (listedOf t a)))) → buf ≡ cond y (sets buf₀ 0 (canon (listedOf t a))) buf₀
       go true e f z = absurd (omega (arith, f refl, z .left))
       go false e f z = z .same
 
   module _ (h : min (a .norder) maxSlots ≤ p) where
-    none : textFrom n (pairs (drop p (meaningOf t a))) ≡ closingBytes n ++ []
+    none : textFrom n (pairs (drop p (listedOf t a))) ≡ closingBytes n ++ []
     unfolding pairs flatMap
-    none = rw (drop-of-length-le (meaningOf t a) {i = p} (omega (arith, slots-length t a (inv .long)))) (sym (append-nil (closingBytes n)))
+    none = rw (drop-of-length-le (listedOf t a) {i = p} (omega (arith, slots-length t a (inv .long)))) (sym (append-nil (closingBytes n)))
 
     pub close-room : cap ≤ length buf₀ → really ≡ true → (n + length (closingBytes n) ≤ length buf) × (n + length (closingBytes n) ≤ cap)
     close-room l y = (fills-room (inv .fills) (closingBytes n) [] none y, omega (arith, fills-within (inv .fills) (closingBytes n) [] none, inv .fits y))
 
     pub walks-end : {r : Wrote} {buf′ : List ℕ} → r ≡ wroteTo cap (n + length (closingBytes n)) → buf′ ≡ putIf really buf n (closingBytes n)
-        → (r ≡ wroteTo cap (length (canon (meaningOf t a)))) × (buf′ ≡ putIf really buf₀ 0 (canon (meaningOf t a)))
+        → (r ≡ wroteTo cap (length (canon (listedOf t a)))) × (buf′ ≡ putIf really buf₀ 0 (canon (listedOf t a)))
     walks-end e f =
         let z = fills-end (fills-go (inv .fills) (closingBytes n) [] none refl f) refl in
-        (e ∙ ap (wroteTo cap) (z .0 ∙ zero-add (length (canon (meaningOf t a)))), z .1)
+        (e ∙ ap (wroteTo cap) (z .0 ∙ zero-add (length (canon (listedOf t a)))), z .1)
 
   module _ {ps : List Pair} (h : p < min (a .norder) maxSlots) (e : ps ≡ slotPairs t a (getD (a .order) p zeroSlot .slot)) where
-    slot-step : textFrom n (pairs (drop p (meaningOf t a))) ≡ itemsText n ps ++ textFrom (n + length (itemsText n ps)) (pairs (drop (p + 1) (meaningOf t a)))
-    slot-step = rw (slots-step t a p (inv .long) h, sym e) (from-append n ps (pairs (drop (p + 1) (meaningOf t a))))
+    slot-step : textFrom n (pairs (drop p (listedOf t a))) ≡ itemsText n ps ++ textFrom (n + length (itemsText n ps)) (pairs (drop (p + 1) (listedOf t a)))
+    slot-step = rw (slots-step t a p (inv .long) h, sym e) (from-append n ps (pairs (drop (p + 1) (listedOf t a))))
 
     pub walks-room : really ≡ true → n + length (itemsText n ps) ≤ length buf
-    walks-room = fills-room (inv .fills) (itemsText n ps) (textFrom (n + length (itemsText n ps)) (pairs (drop (p + 1) (meaningOf t a)))) slot-step
+    walks-room = fills-room (inv .fills) (itemsText n ps) (textFrom (n + length (itemsText n ps)) (pairs (drop (p + 1) (listedOf t a)))) slot-step
 
     pub walks-go : {n′ : ℕ} {buf′ : List ℕ} → n′ ≡ n + length (itemsText n ps) → buf′ ≡ putIf really buf n (itemsText n ps) → Walks t a really buf₀ cap buf′ n′ (p + 1)
     walks-go {n′} f g =
         record {
           long = inv .long;
           fits = inv .fits;
-          fills = fills-go (inv .fills) (itemsText n ps) (textFrom n′ (pairs (drop (p + 1) (meaningOf t a)))) (slot-step ∙ ap (λ (j : ℕ). itemsText n ps ++ textFrom j (pairs (drop (p + 1) (meaningOf t a)))) (sym f)) f g;
+          fills = fills-go (inv .fills) (itemsText n ps) (textFrom n′ (pairs (drop (p + 1) (listedOf t a)))) (slot-step ∙ ap (λ (j : ℕ). itemsText n ps ++ textFrom j (pairs (drop (p + 1) (listedOf t a)))) (sym f)) f g;
         }

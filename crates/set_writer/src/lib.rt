@@ -9,6 +9,9 @@ use set_table::Slot;
 use set_table::Text;
 use set_table::Value;
 use text_escapes::Piece;
+
+mod once;
+
 ghost use mathlib.Core.Path.{_≡_};
 ghost use mathlib.Core.Bool.{true};
 ghost use mathlib.Core.List.{[], _∷_};
@@ -19,7 +22,7 @@ ghost use Rattle.base_refusals.specs.Numbers.{maxText};
 ghost use Rattle.base_refusals.specs.Orders.{onPaper};
 ghost use Rattle.set_canon.specs.Canon.{marked, escape, canon};
 ghost use Rattle.set_table.specs.Types.{two, valueBytes, zeroRow};
-ghost use Rattle.set_table.specs.Rows.{meaningOf};
+ghost use Rattle.set_table.specs.Rows.{listedOf, meaningOf};
 ghost use Rattle.set_writer.specs.Write.{wrotePaper, roomOrder, wroteOf, contentAfter, writerOrder, attrsWrote, attrsContent};
 ghost use Rattle.set_marks.specs.Marks.{bytesIn};
 ghost use Rattle.set_writer.specs.Inner.{leadByte, itemText, itemsText, closingBytes, putIf, wroteTo, maxItem, maxItems, idPairs, keyPairs, classPairs};
@@ -265,9 +268,9 @@ fn walk<'a>(
     really: bool,
 ) -> Wrote
     requires { ⌜ (cap ≤ maxText) × (cap ≤ length (now out)) ⌝ }
-    requires { ⌜ (really ≡ true → length (canon (meaningOf (two (now first) (now second)) set)) ≤ cap) ⌝ }
-    ensures { λ r. ⌜ r ≡ wroteTo cap (length (canon (meaningOf (two (now (first .entry)) (now (second .entry))) set))) ⌝ }
-    ensures { λ r. ⌜ now (out .exit) ≡ putIf really (now (out .entry)) 0 (canon (meaningOf (two (now (first .entry)) (now (second .entry))) set)) ⌝ }
+    requires { ⌜ (really ≡ true → length (canon (listedOf (two (now first) (now second)) set)) ≤ cap) ⌝ }
+    ensures { λ r. ⌜ r ≡ wroteTo cap (length (canon (listedOf (two (now (first .entry)) (now (second .entry))) set))) ⌝ }
+    ensures { λ r. ⌜ now (out .exit) ≡ putIf really (now (out .entry)) 0 (canon (listedOf (two (now (first .entry)) (now (second .entry))) set)) ⌝ }
 {
     let slots = least(set.norder as usize, Attrs::SLOTS);
     let keys = least(set.nkey as usize, Attrs::KEYS);
@@ -306,17 +309,29 @@ fn walk<'a>(
     }
 }
 
-// The canonical text of a set at the front of lent memory, where it has room.
-pub fn write_set<'a>(first: &'a [u8], second: &'a [u8], set: Attrs, out: &mut [u8]) -> Wrote
-    ensures { λ r. ⌜ r ≡ wroteOf (canon (meaningOf (two (now (first .entry)) (now (second .entry))) set)) (length (now (out .entry))) ⌝ }
-    ensures { λ r. ⌜ now (out .exit) ≡ contentAfter (now (out .entry)) (canon (meaningOf (two (now (first .entry)) (now (second .entry))) set)) ⌝ }
-    ensures { λ r. ⌜ wrotePaper r ≡ onPaper (roomOrder (canon (meaningOf (two (now (first .entry)) (now (second .entry))) set)) (length (now (out .entry)))) (length (canon (meaningOf (two (now (first .entry)) (now (second .entry))) set)) ∷ []) ⌝ }
+// The canonical text of a set with every class that it lists, where it has room.
+fn write_listed<'a>(first: &'a [u8], second: &'a [u8], set: Attrs, out: &mut [u8]) -> Wrote
+    ensures { λ r. ⌜ r ≡ wroteOf (canon (listedOf (two (now (first .entry)) (now (second .entry))) set)) (length (now (out .entry))) ⌝ }
+    ensures { λ r. ⌜ now (out .exit) ≡ contentAfter (now (out .entry)) (canon (listedOf (two (now (first .entry)) (now (second .entry))) set)) ⌝ }
 {
     let cap = least(out.len(), base_refusals::MAX_TEXT);
     match walk(first, second, set, out, cap, false) {
         Wrote::Refused(why) => Wrote::Refused(why),
         Wrote::Bytes(_) => walk(first, second, set, out, cap, true),
     }
+}
+
+// The canonical text of a set at the front of lent memory, where it has room. Where fewer than two classes are listed there is nothing to compare.
+pub fn write_set<'a>(first: &'a [u8], second: &'a [u8], set: Attrs, out: &mut [u8]) -> Wrote
+    ensures { λ r. ⌜ r ≡ wroteOf (canon (meaningOf (two (now (first .entry)) (now (second .entry))) set)) (length (now (out .entry))) ⌝ }
+    ensures { λ r. ⌜ now (out .exit) ≡ contentAfter (now (out .entry)) (canon (meaningOf (two (now (first .entry)) (now (second .entry))) set)) ⌝ }
+    ensures { λ r. ⌜ wrotePaper r ≡ onPaper (roomOrder (canon (meaningOf (two (now (first .entry)) (now (second .entry))) set)) (length (now (out .entry)))) (length (canon (meaningOf (two (now (first .entry)) (now (second .entry))) set)) ∷ []) ⌝ }
+{
+    if set.nclass < 2 {
+        return write_listed(first, second, set, out);
+    }
+    let kept = once::classes_once(first, second, set);
+    write_listed(first, second, kept, out)
 }
 
 // The writer: the canonical text of a well-formed set at the front of lent memory, where it has room.

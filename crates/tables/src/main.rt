@@ -5,6 +5,7 @@ mod changed;
 mod full;
 mod good;
 mod pairs;
+mod repeats;
 mod texts;
 
 use base_refusals::Outcome;
@@ -122,6 +123,7 @@ fn two(first: &[u8]) {
     let second = b"tyre grip\xC3\xA9\n\"\\ side id class";
     texts::run(first, second);
     pairs::run(first, second);
+    repeats::run(first, second);
 }
 
 // 0 `v17`, 4 `wheel`, 10 `side`, 15 `left`, 20 `id`, 23 `class`, 29 `9x`, 32 `a`, 34 `b`, 35 a character of two bytes, 37 LF, 38 a double

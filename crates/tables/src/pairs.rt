@@ -116,14 +116,17 @@ fn longer() {
 // `{class="`, `" class="` and `"}` are 19 bytes.
 fn longer_into<'a>(first: &'a [u8], second: &'a [u8], out: &mut [u8]) {
     say(b"a class of each text, 65,536 bytes of canonical text: ");
-    joined(first, second, 32759, out);
+    joined(first, second, 32758, 32759, out);
     say(b"a class of each text, 65,535 bytes of canonical text: ");
-    joined(first, second, 32758, out);
+    joined(first, second, 32758, 32758, out);
+    // one of them is not written, and `{class="` and `"}` are ten bytes
+    say(b"the same class of 65,525 bytes in each text: ");
+    joined(first, first, 65525, 65525, out);
 }
 
 // How long the merge is when written, with the memory as it was where that is refused; and what it comes to.
-fn joined<'a>(first: &'a [u8], second: &'a [u8], n: u16, out: &mut [u8]) {
-    let a = class_of(Origin::First, 32758);
+fn joined<'a>(first: &'a [u8], second: &'a [u8], m: u16, n: u16, out: &mut [u8]) {
+    let a = class_of(Origin::First, m);
     let b = class_of(Origin::Second, n);
     let merged = set_merge::merge_attrs(first, second, a, b);
     say_length(set_writer::write_attrs(first, second, merged.set, out));
