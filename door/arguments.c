@@ -40,6 +40,7 @@ int main(void)
     EXPECT(bridlesnow_ends_in_refused_brace_run(NULL, 0, NULL, 0, NULL, 0) == 0);
     EXPECT(bridlesnow_report_start(NULL, 0, NULL, 0, NULL, 0, NULL, 0) == 9);
     EXPECT(bridlesnow_report_part(NULL, 0, 0, 0, NULL, 0, NULL, 0, NULL, 0) == 9);
+    EXPECT(bridlesnow_variants(NULL, 0, NULL, 0, NULL, 0, NULL, 0) == 9);
 
     /* No memory to write into, and none to join in. */
     EXPECT(bridlesnow_read_attrs_at(block, 4, 0, 0, NULL, 0, NULL, 0) == 10);
@@ -92,6 +93,23 @@ int main(void)
     EXPECT(bridlesnow_report_part(block, 4, 4, 6, lines, sizeof lines, report, sizeof report, told, 3) == 3);
     EXPECT(bridlesnow_report_start((const uint8_t *)"\377", 1, lines, sizeof lines, report, sizeof report, told, 3) == 2);
     EXPECT(told[0] == 14 && told[2] == 0 && memcmp(report, "refused\t0\t0\t2\n", 14) == 0);
+
+    /* The dealers' table: whole, one cell short, and untouched where it is refused. */
+    static const char one[] = "{variant=30 wheel=rear-right valve=0}\n", two[] = "{variant=30 wheel=rear-right valve=0}\n{valve=1\n b}\n";
+    uint16_t cells[BRIDLESNOW_CELLS + 1];
+    size_t i;
+    for (i = 0; i <= BRIDLESNOW_CELLS; i++)
+        cells[i] = 777;
+    EXPECT(bridlesnow_variants((const uint8_t *)two, sizeof two - 1, lines, sizeof lines, cells, BRIDLESNOW_CELLS, told, 3) == 20);
+    EXPECT(told[0] == 2 && told[1] == 2 && told[2] == 0 && memcmp(lines, "{valve=1 b}", 12) == 0);
+    EXPECT(bridlesnow_variants((const uint8_t *)one, sizeof one - 1, lines, sizeof lines - 1, cells, BRIDLESNOW_CELLS, told, 3) == 9);
+    for (i = 0; i <= BRIDLESNOW_CELLS; i++)
+        EXPECT(cells[i] == 777);
+    EXPECT(bridlesnow_variants((const uint8_t *)one, sizeof one - 1, lines, sizeof lines, cells, BRIDLESNOW_CELLS - 1, NULL, 0) == 0);
+    EXPECT(cells[0] == BRIDLESNOW_UNFILLED && cells[118] == BRIDLESNOW_UNFILLED && cells[119] == 777);
+    EXPECT(bridlesnow_variants((const uint8_t *)one, sizeof one - 1, lines, sizeof lines, cells, BRIDLESNOW_CELLS + 1, told, 3) == 0);
+    EXPECT(told[0] == 0 && told[1] == 0 && told[2] == 0);
+    EXPECT(cells[118] == BRIDLESNOW_UNFILLED && cells[119] == 0 && cells[120] == 777);
 
     /* Room for fewer numbers than there are: the rest is untouched. */
     told[1] = 99;

@@ -10,17 +10,18 @@
  *     3  nothing is there to read                  10  the canonical text has more than 65,535 bytes, or more than `out`
  *     4  no close                                  11  (never given here: a set that isn't well-formed)
  *     5  no reading                                12  (never given here: an empty set)
- *     6  more than 32 classes
+ *     6  more than 32 classes                      20  one or two of `variant`, `wheel` and `valve`, or a value out of range
+ *                                                  21  a variant has one valve at two wheels
  *
  * A set is handed out as its canonical text at the front of `out`, such as {id="v17" class="wheel" side="left"}. A class that is listed again is
- * written once, at its first place. After a number other than 0 `out` is untouched, but for bridlesnow_report_start, whose 1 and 2 lay a line.
- * Numbers besides are told in `told`, in the order that the function's comment gives: as many as `told_len` has room for, the rest of it
+ * written once, at its first place. After a number other than 0 `out` and `cells` are untouched, but for bridlesnow_report_start, whose 1 and 2 lay
+ * a line. Numbers besides are told in `told`, in the order that the function's comment gives: as many as `told_len` has room for, the rest of it
  * untouched. So a caller who wants none passes NULL and 0. They are told on a refusal too; the length of the canonical text is 0 where none is
  * written, so 10 doesn't tell how much is needed.
  *
  * What the caller owes: each pointer with a length other than 0 points to that many elements, and memory that a call writes (`join`, `other_join`,
- * `out`, `told`) overlaps no other memory of that call. A pointer with length 0 may be NULL. Any other argument gets an answer: a place or a line
- * that isn't there is 3 (for a refused run: no), a buffer too short is 9 or 10.
+ * `out`, `cells`, `told`) overlaps no other memory of that call. A pointer with length 0 may be NULL. Any other argument gets an answer: a place or
+ * a line that isn't there is 3 (for a refused run: no), a `join` or an `out` too short is 9 or 10.
  *
  * Lines end at LF, a CR before it is dropped, and are counted from 1. `join` is where the lines of a wrapped block are joined; 65,535 bytes are
  * enough for any text.
@@ -41,6 +42,12 @@ extern "C" {
 
 /* No line of a report is longer. */
 #define BRIDLESNOW_LINE 65600
+
+/* The dealers' table: its variants, its wheels, the cells of both, and what an unfilled cell holds. */
+#define BRIDLESNOW_VARIANTS 30
+#define BRIDLESNOW_WHEELS 4
+#define BRIDLESNOW_CELLS 120
+#define BRIDLESNOW_UNFILLED 256
 
 /* Whether the bytes are UTF-8. */
 bool bridlesnow_is_utf8(const uint8_t *text, size_t text_len);
@@ -132,6 +139,15 @@ uint8_t bridlesnow_report_start(const uint8_t *text, size_t text_len, uint8_t *j
                                 uint8_t *out, size_t out_len, size_t *told, size_t told_len);
 uint8_t bridlesnow_report_part(const uint8_t *text, size_t text_len, size_t at, size_t line, uint8_t *join, size_t join_len,
                                uint8_t *out, size_t out_len, size_t *told, size_t told_len);
+
+/* Lays the dealers' table of a sheet at the front of `cells`, variant by variant from 1 on, in each front-left, front-right, rear-left, rear-right: a
+ * valve from 0 to 255, or BRIDLESNOW_UNFILLED. As many cells are laid as `cells_len` has room for, the rest of it untouched; the sheet is read to its
+ * end all the same. `join` has at least BRIDLESNOW_MAX bytes, else 9.
+ * Order: 1, 2, 9, then of one block after the other 6, 7, 20; last 21.
+ * Tells: the first line and the line count of the block that is refused, 0 and 0 where no block is, as with 1, 2, 9 and 21; with 21 the first variant
+ * that has one valve at two wheels, else 0. */
+uint8_t bridlesnow_variants(const uint8_t *text, size_t text_len, uint8_t *join, size_t join_len,
+                            uint16_t *cells, size_t cells_len, size_t *told, size_t told_len);
 
 #ifdef __cplusplus
 }

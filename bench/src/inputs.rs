@@ -31,6 +31,11 @@ fn filled(size: usize, mut next: impl FnMut(usize) -> String) -> Vec<u8> {
     text
 }
 
+/// A setting of a valve on every line.
+pub fn settings(size: usize) -> Vec<u8> {
+    filled(size, |_| "{variant=1 wheel=front-left valve=1}\n".into())
+}
+
 /// A commissioning sheet: headings, prose, a block before each paragraph, some of them wrapped or quoted.
 pub fn typical(size: usize) -> Vec<u8> {
     const WHEELS: [&str; 4] = ["front-left", "front-right", "rear-left", "rear-right"];

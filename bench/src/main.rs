@@ -296,6 +296,38 @@ fn hostile() {
     }
 }
 
+/// The dealers' table beside our own report, which reads the same blocks and writes them.
+fn dealers() {
+    println!("\n| variants | our report, 64 KB | variants, 64 KB | variants / report | variants, 64 KB / 32 KB | goal |\n|---|---|---|---|---|---|");
+    let inputs: [(&str, Make); 2] = [("typical sheet", inputs::typical), ("`{variant=1 wheel=front-left valve=1}` on every line", inputs::settings)];
+    let (mut m, mut n) = (Lent::new(), Lent::new());
+    for (name, make) in inputs {
+        let (text, half) = (make(inputs::MAX), make(inputs::MAX / 2));
+        // No block is refused, so all are read.
+        assert!([0, 21].contains(&ours::variants(&text, &mut m)), "{name}");
+        let (report, table) = both(
+            || {
+                ours::sheet(black_box(&text), &mut m);
+                black_box(&m.report);
+            },
+            || {
+                black_box(ours::variants(black_box(&text), &mut n));
+            },
+        );
+        let (whole, part) = both(
+            || {
+                black_box(ours::variants(black_box(&text), &mut m));
+            },
+            || {
+                black_box(ours::variants(black_box(&half), &mut n));
+            },
+        );
+        let (ratio, growth) = (table / report, whole / part);
+        let met = if growth <= 2.5 && ratio <= 0.9 { "met" } else { "missed" };
+        println!("| {name} | {} | {} | {ratio:.3} | {growth:.2} | 0.9 and 2.5, {met} |", time(report), time(table));
+    }
+}
+
 /// The names of the inputs, or one input through the entries of the tables on our side; for a run under a small stack.
 fn stack(input: Option<String>) {
     let Some(input) = input else {
@@ -313,6 +345,7 @@ fn stack(input: Option<String>) {
     black_box(ours::parse_standalone_attrs(&text, 1, &mut m));
     black_box(ours::parse_block(&text, 1, &mut m));
     black_box(ours::merge_lines(&text, 1, 1, &mut m));
+    black_box(ours::variants(&text, &mut m));
 }
 
 fn main() {
@@ -325,4 +358,5 @@ fn main() {
     by_line();
     whole_job();
     hostile();
+    dealers();
 }

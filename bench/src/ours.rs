@@ -33,6 +33,10 @@ extern "C" {
         text: *const u8, len: usize, at: usize, line: usize, join: *mut u8, join_len: usize,
         out: *mut u8, out_len: usize, told: *mut usize, told_len: usize,
     ) -> u8;
+    fn bridlesnow_variants(
+        text: *const u8, len: usize, join: *mut u8, join_len: usize,
+        cells: *mut u16, cells_len: usize, told: *mut usize, told_len: usize,
+    ) -> u8;
     /// `read_brace::read_attrs_at_with`, which `bench/run` makes visible: it answers by a struct that the caller has room for, takes a slice by a
     /// pointer to its two words, and the mode by a pointer to its number.
     fn read_brace__read_attrs_at_with(answer: *mut u8, text: *const Slice, place: usize, mode: *const u8);
@@ -57,11 +61,12 @@ pub struct Lent {
     pub out: Vec<u8>,
     pub report: Vec<u8>,
     pub told: [usize; 5],
+    pub cells: [u16; 120],
 }
 
 impl Lent {
     pub fn new() -> Self {
-        Lent { join: vec![0; 65_535], out: vec![0; 1 << 18], report: Vec::with_capacity(1 << 20), told: [0; 5] }
+        Lent { join: vec![0; 65_535], out: vec![0; 1 << 18], report: Vec::with_capacity(1 << 20), told: [0; 5], cells: [0; 120] }
     }
 }
 
@@ -124,5 +129,13 @@ pub fn sheet(text: &[u8], m: &mut Lent) {
                 text.as_ptr(), text.len(), at, line, m.join.as_mut_ptr(), m.join.len(), m.out.as_mut_ptr(), m.out.len(), told, 3,
             )
         };
+    }
+}
+
+/// The dealers' table of a sheet, and its number.
+pub fn variants(text: &[u8], m: &mut Lent) -> u8 {
+    let told = m.told.as_mut_ptr();
+    unsafe {
+        bridlesnow_variants(text.as_ptr(), text.len(), m.join.as_mut_ptr(), m.join.len(), m.cells.as_mut_ptr(), m.cells.len(), told, 3)
     }
 }

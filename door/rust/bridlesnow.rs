@@ -9,6 +9,7 @@
 //! A [`Reader`] owns the memory that the calls are lent, 192 KB, and hands out canonical text as a part of it. A class that
 //! is listed again is written once, at its first place. What the functions answer is proved; that this file passes pointers, lengths and numbers on in the right order is not, and is tested below.
 
+use std::array::from_fn;
 use std::fmt;
 
 /// The longest text, and the longest canonical text.
@@ -16,6 +17,14 @@ pub const MAX: usize = 65_535;
 
 /// No line of a report is longer.
 pub const LINE: usize = 65_600;
+
+/// The dealers' table: its variants, its wheels, and what an unfilled cell holds.
+pub const VARIANTS: usize = 30;
+pub const WHEELS: usize = 4;
+pub const UNFILLED: u16 = 256;
+
+/// The valve of each wheel of each variant: front-left, front-right, rear-left, rear-right; `None` where the cell is unfilled.
+pub type Valves = [[Option<u8>; WHEELS]; VARIANTS];
 
 /// The functions of the library, as `door/bridlesnow.h` declares them.
 mod raw {
@@ -78,6 +87,10 @@ mod raw {
             text: *const u8, len: usize, at: usize, line: usize, join: *mut u8, join_len: usize,
             out: *mut u8, out_len: usize, told: *mut usize, told_len: usize,
         ) -> u8;
+        pub fn bridlesnow_variants(
+            text: *const u8, len: usize, join: *mut u8, join_len: usize,
+            cells: *mut u16, cells_len: usize, told: *mut usize, told_len: usize,
+        ) -> u8;
     }
 }
 
@@ -97,6 +110,8 @@ impl fmt::Display for Refusal {
             7 => "more than 32 keys",
             9 => "the next line to join doesn't fit",
             10 => "the canonical text is too long",
+            20 => "one or two of variant, wheel and valve, or a value out of range",
+            21 => "a variant has one valve at two wheels",
             _ => "refused",
         })
     }
@@ -167,6 +182,17 @@ pub enum BraceRun {
     Lines(usize),
     /// It isn't; a comment run was looked at over so many lines, `usize::MAX` where they reach to the end.
     No(usize),
+}
+
+/// Why a sheet has no table, and where.
+#[derive(Clone, Copy, Debug, PartialEq, Eq)]
+pub struct NoTable {
+    pub refusal: Refusal,
+    /// The first line and the line count of the block that is refused, 0 and 0 where no block is.
+    pub line: usize,
+    pub lines: usize,
+    /// For 21 the first variant that has one valve at two wheels, else 0.
+    pub variant: usize,
 }
 
 /// Memory for the calls, to be used again and again.
@@ -385,6 +411,21 @@ impl Reader {
             };
         }
     }
+
+    /// The dealers' table of a sheet.
+    pub fn variants(&mut self, text: &[u8]) -> Result<Valves, NoTable> {
+        let mut cells = [UNFILLED; VARIANTS * WHEELS];
+        let mut told = [0usize; 3];
+        let number = unsafe {
+            raw::bridlesnow_variants(
+                text.as_ptr(), text.len(), self.join.as_mut_ptr(), self.join.len(),
+                cells.as_mut_ptr(), cells.len(), told.as_mut_ptr(), told.len(),
+            )
+        };
+        let [line, lines, variant] = told;
+        granted(number).map_err(|refusal| NoTable { refusal, line, lines, variant })?;
+        Ok(from_fn(|variant| from_fn(|wheel| u8::try_from(cells[variant * WHEELS + wheel]).ok())))
+    }
 }
 
 #[cfg(test)]
@@ -549,6 +590,108 @@ mod tests {
         assert_eq!(reported(&mut Reader::with_room(MAX, LINE - 1), b"\xff"), ("".into(), 1, Err(Refusal(2))));
     }
 
+    /// The line of a cell's block; variants are counted from 1, wheels from 0.
+    fn setting(variant: usize, wheel: usize, valve: usize) -> String {
+        let name = ["front-left", "front-right", "rear-left", "rear-right"][wheel];
+        format!("{{variant={variant} wheel={name} valve={valve}}}\n")
+    }
+
+    #[test]
+    fn variants() {
+        let mut reader = Reader::new();
+        // Every cell, the last first: valves from 0 on in one sheet, to 255 in the other.
+        for low in [0, 136] {
+            let sheet = (0..VARIANTS * WHEELS).rev().map(|i| setting(i / WHEELS + 1, i % WHEELS, low + i)).collect::<String>();
+            let table: Valves = from_fn(|variant| from_fn(|wheel| u8::try_from(low + variant * WHEELS + wheel).ok()));
+            assert_eq!(reader.variants(sheet.as_bytes()), Ok(table));
+        }
+        let unfilled: Valves = [[None; WHEELS]; VARIANTS];
+        assert_eq!(reader.variants(b""), Ok(unfilled));
+        // A later block overrides, a block with none of the keys is passed over, and two variants may have one valve.
+        let mut table = unfilled;
+        (table[1][2], table[29][3]) = (Some(7), Some(7));
+        let sheet = format!("{}{{.a}}\n{}text\n{{valve=7 wheel=\"rear\\-right\"\n variant=30}}\n", setting(2, 2, 6), setting(2, 2, 7));
+        assert_eq!(reader.variants(sheet.as_bytes()), Ok(table));
+    }
+
+    /// The number, the memory for cells and that for numbers, as a caller from C sees them.
+    fn laid(text: &[u8], join: &mut [u8], room: usize) -> (u8, [u16; 121], [usize; 4]) {
+        let (mut cells, mut told) = ([777; 121], [99; 4]);
+        let number = unsafe {
+            raw::bridlesnow_variants(text.as_ptr(), text.len(), join.as_mut_ptr(), join.len(), cells.as_mut_ptr(), room, told.as_mut_ptr(), 4)
+        };
+        (number, cells, told)
+    }
+
+    #[test]
+    fn room_for_cells() {
+        let mut join = vec![0; MAX];
+        let sheet = format!("{}{}{}", setting(1, 1, 0), setting(1, 3, 255), setting(30, 3, 8));
+        let whole: [u16; 121] = from_fn(|i| match i {
+            1 => 0,
+            3 => 255,
+            119 => 8,
+            120 => 777,
+            _ => UNFILLED,
+        });
+        for room in 0..=121 {
+            let front = from_fn(|i| if i < room { whole[i] } else { 777 });
+            assert_eq!(laid(sheet.as_bytes(), &mut join, room), (0, front, [0, 0, 0, 99]));
+        }
+    }
+
+    #[test]
+    fn no_table() {
+        let many = |word: &str| (0..33).map(|i| format!(" {word}{i}")).collect::<String>();
+        let refused = |text: &[u8], told: (u8, usize, usize, usize)| {
+            let (number, line, lines, variant) = told;
+            assert_eq!(laid(text, &mut vec![0; MAX], 121), (number, [777; 121], [line, lines, variant, 99]));
+            assert_eq!(Reader::new().variants(text), Err(NoTable { refusal: Refusal(number), line, lines, variant }));
+        };
+        refused(&vec![b'a'; MAX + 1], (1, 0, 0, 0));
+        refused(b"{variant=1}\n\xff", (2, 0, 0, 0));
+        let good = setting(1, 0, 1);
+        refused(format!("{good}\n{{{}\n b}}\n{{valve=1}}\n", many(".c")).as_bytes(), (6, 3, 2, 0));
+        refused(format!("{good}{{{}}}\n", many("k")).as_bytes(), (7, 2, 1, 0));
+        // One or two of the keys, and values out of range.
+        refused(format!("{good}text\n{{variant=1\n valve=2}}\n").as_bytes(), (20, 3, 2, 0));
+        for block in ["variant=1", "wheel=rear-left valve=1", "variant=1 wheel=rear valve=1", "variant=1 wheel=rear-left valve=01"] {
+            refused(format!("{good}{{{block}}}").as_bytes(), (20, 2, 1, 0));
+        }
+        refused(setting(0, 0, 1).as_bytes(), (20, 1, 1, 0));
+        refused(setting(31, 0, 1).as_bytes(), (20, 1, 1, 0));
+        refused(setting(1, 0, 256).as_bytes(), (20, 1, 1, 0));
+        // One valve at two wheels: the first such variant, unless a later block overrides it or is refused.
+        let pair = |variant: usize| format!("{}{}", setting(variant, 0, 5), setting(variant, 3, 5));
+        refused(format!("{}{}", pair(30), pair(7)).as_bytes(), (21, 0, 0, 7));
+        refused(format!("{}{}{}", pair(30), pair(7), setting(7, 3, 6)).as_bytes(), (21, 0, 0, 30));
+        refused(format!("{}{{valve=1}}", pair(7)).as_bytes(), (20, 3, 1, 0));
+        // A join buffer one byte short, which a text that isn't UTF-8 comes before.
+        assert_eq!(laid(good.as_bytes(), &mut vec![0; MAX - 1], 121), (9, [777; 121], [0, 0, 0, 99]));
+        assert_eq!(laid(b"\xff", &mut vec![0; MAX - 1], 121).0, 2);
+        let refusal = Refusal(9);
+        assert_eq!(Reader::with_room(MAX - 1, 0).variants(good.as_bytes()), Err(NoTable { refusal, line: 0, lines: 0, variant: 0 }));
+    }
+
+    #[test]
+    fn joined_for_the_table() {
+        let joined = |text: &[u8], len: usize| {
+            let mut join = vec![b'.'; len];
+            let number = laid(text, &mut join, 121).0;
+            let end = join.iter().rposition(|b| *b != b'.').map_or(0, |i| i + 1);
+            (number, String::from_utf8(join[..end].to_vec()).unwrap())
+        };
+        let wrapped = "{variant=1\n wheel=front-left\n valve=1}\n";
+        assert_eq!(joined(wrapped.as_bytes(), MAX), (0, "{variant=1 wheel=front-left valve=1}".into()));
+        // A later run writes over the front of it, up to and including the block that is refused.
+        assert_eq!(joined(format!("{wrapped}{{a\n b}}\n").as_bytes(), MAX), (0, "{a b}ant=1 wheel=front-left valve=1}".into()));
+        assert_eq!(joined(format!("{{valve=1\n .b}}\n{wrapped}").as_bytes(), MAX), (20, "{valve=1 .b}".into()));
+        // Nothing is joined where the text or the buffer is refused.
+        assert_eq!(joined(wrapped.as_bytes(), MAX - 1), (9, "".into()));
+        assert_eq!(joined(&[wrapped.as_bytes(), b"\xff"].concat(), MAX), (2, "".into()));
+        assert_eq!(joined(&[wrapped.as_bytes(), &vec![b'a'; MAX]].concat(), MAX), (1, "".into()));
+    }
+
     #[test]
     fn refused_runs() {
         let mut reader = Reader::new();
@@ -584,6 +727,9 @@ mod tests {
             assert_eq!(raw::bridlesnow_standalone_attrs_block_len(b"{a\n b}".as_ptr(), 6, 1, null_mut(), 0, null_mut(), 0), 9);
             assert_eq!(raw::bridlesnow_merge_lines(null(), 0, 1, 2, null_mut(), 0, null_mut(), 0), 3);
             assert_eq!(raw::bridlesnow_merge_blocks(null(), 0, 1, 2, null_mut(), 0, null_mut(), 0, null_mut(), 0, null_mut(), 0), 3);
+            assert_eq!(raw::bridlesnow_variants(null(), 0, null_mut(), 0, null_mut(), 0, null_mut(), 0), 9);
+            let mut join = vec![0u8; MAX];
+            assert_eq!(raw::bridlesnow_variants(null(), 0, join.as_mut_ptr(), MAX, null_mut(), 0, null_mut(), 0), 0);
             let mut out = [255u8; 12];
             let mut told = [77usize; 2];
             assert_eq!(raw::bridlesnow_read_attrs_at(b"{.a}".as_ptr(), 4, 0, 0, out.as_mut_ptr(), 12, told.as_mut_ptr(), 1), 0);

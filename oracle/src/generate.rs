@@ -4,13 +4,13 @@
 //!     generate exhaustive FAMILY LENGTH FROM COUNT  all strings of up to LENGTH atoms, in every request of the family
 //!     generate size FAMILY LENGTH                   how many requests that is
 //!
-//! FAMILIES are names parted by commas: leaves, brace, lines, refused, merge, sheet, rows, quick, merge2, repeats; `all`
-//! stands for these ten. The family `errors`, which is in no `all`, damages the request lines themselves.
+//! FAMILIES are names parted by commas: leaves, brace, lines, refused, merge, sheet, rows, quick, merge2, repeats,
+//! variants; `all` stands for these eleven. The family `errors`, which is in no `all`, damages the request lines themselves.
 //! Each request is made from the seed and its own number, so any part of the list can be made again.
 
 use std::io::{self, BufWriter, Write};
 
-const FAMILIES: [&str; 10] = ["leaves", "brace", "lines", "refused", "merge", "sheet", "rows", "quick", "merge2", "repeats"];
+const FAMILIES: [&str; 11] = ["leaves", "brace", "lines", "refused", "merge", "sheet", "rows", "quick", "merge2", "repeats", "variants"];
 const TEXT_LIMIT: usize = 65_535;
 
 // ---- Chance ----
@@ -623,6 +623,7 @@ fn random(family: &str, rng: &mut Rng, out: &mut Out) {
         "repeats" => repeats(rng, out),
         "rows" => rows(rng, out),
         "quick" => quick(rng, out),
+        "variants" => variants(rng, out),
         "errors" => errors(rng, out),
         _ => sheet(rng, out),
     }
@@ -1500,6 +1501,228 @@ fn long_sheet(rng: &mut Rng) -> String {
     text
 }
 
+// ---- Sheets of variants ----
+
+const WHEELS: &[&str] = &["front-left", "front-right", "rear-left", "rear-right"];
+/// What is no wheel, though some of it looks like one.
+const ODD_WHEELS: &[&str] = &[
+    "", "x", "front", "left", "Front-left", "REAR-RIGHT", "front_left", "front-lef", "front-leftx", "front-left ", " rear-left",
+    "front--left", "left-front", "middle-left", "front-left\0", "fr\u{f6}nt-left", "rear\u{2010}left", "0", "rear-right,front-left",
+];
+/// What is no number, though some of it looks like one.
+const ODD_NUMBERS: &[&str] = &[
+    "", "x", "+1", "-1", "-0", " 1", "1 ", "1.0", "1,", "1e1", "0x1", "1_0", "1a", "a1", "one", "1 2", "#1", "/", ":", "1/", "1:", "\u{661}", "\u{ff11}",
+    "\u{b2}", "1\0", "\u{feff}1", "1\t", "1\u{c}",
+];
+/// Names that are none of the three.
+const NEAR_NAMES: &[&str] = &["Variant", "variants", "varian", "VALVE", "valve-", "valve_", "valves", "valv", "Wheel", "wheels", "whee", "lang", "_valve"];
+
+/// How many of a hundred keys are missing or have a bad value, how many variants and valves there are to choose from.
+struct Care {
+    faults: usize,
+    variants: usize,
+    valves: usize,
+}
+
+/// A number in decimal that is mostly one of the first so many, at times the lowest or the highest that is allowed.
+fn allowed(rng: &mut Rng, low: usize, high: usize, choice: usize) -> String {
+    match rng.weighted(&[90, 4, 6]) {
+        0 => rng.between(low, (low + choice - 1).min(high)),
+        1 => low,
+        _ => high,
+    }
+    .to_string()
+}
+
+/// A value that isn't allowed: beyond an end, far beyond it, one that a narrower type would cut to a good one, one with
+/// leading zeros, or no number at all.
+fn beyond(rng: &mut Rng, low: usize, high: usize) -> String {
+    let good = rng.between(low, high);
+    match rng.weighted(&[20, 15, 15, 15, 35]) {
+        0 => (high + 1).to_string(),
+        1 => match low.checked_sub(1) {
+            Some(below) => below.to_string(),
+            None => rng.between(high + 1, high + 300).to_string(),
+        },
+        2 => {
+            let wraps = [1 << 8, 1 << 16, 1 << 32, 1 << 64, 1u128 << 127];
+            (wraps[rng.below(wraps.len())] + good as u128).to_string()
+        }
+        3 => match rng.below(4) {
+            0 => rng.pick(&["1000", "9999", "65535", "65536", "99999", "99999999999999999999", "18446744073709551615"]).to_string(),
+            1 => "1".repeat(rng.between(4, 40)),
+            2 => format!("{}{good}", "0".repeat(rng.between(1, 20))),
+            _ => format!("{good}{}", rng.below(1000) + 100),
+        },
+        _ => rng.pick(ODD_NUMBERS).to_string(),
+    }
+}
+
+/// The value as it stands in a block: plain where it may be, in quotes, or in quotes with a backslash before some of it.
+/// Before a hyphen the backslash is dropped, before a digit or a letter it stays.
+fn spelled_value(rng: &mut Rng, value: &str, faults: usize) -> String {
+    let plain = !value.is_empty() && !value.contains([' ', '\t', '\n', '\r', '\\', '"', '\'', '}', '|']);
+    if plain && rng.percent(60) {
+        return value.to_string();
+    }
+    let quote = rng.pick(&["\"", "\"", "'"]);
+    let mut out = quote.to_string();
+    for ch in value.chars() {
+        if ch == '-' && rng.percent(40) || rng.percent(faults) && rng.once_in(4) {
+            out.push('\\');
+        }
+        out.push(ch);
+    }
+    out + quote
+}
+
+/// One of the three keys with a value, or now and then bare.
+fn variant_key(rng: &mut Rng, key: usize, care: &Care) -> String {
+    let bad = rng.percent(care.faults);
+    if bad && rng.once_in(12) {
+        return ["variant", "wheel", "valve"][key].to_string();
+    }
+    let value = match (key, bad) {
+        (0, false) => allowed(rng, 1, 30, care.variants),
+        (0, true) => beyond(rng, 1, 30),
+        (1, false) => rng.pick(WHEELS).to_string(),
+        (1, true) => rng.pick(ODD_WHEELS).to_string(),
+        (_, false) => allowed(rng, 0, 255, care.valves),
+        (_, true) => beyond(rng, 0, 255),
+    };
+    format!("{}={}", ["variant", "wheel", "valve"][key], spelled_value(rng, &value, care.faults))
+}
+
+/// The tokens of a block for the table, in any order, some keys met again, others among them.
+fn variant_tokens(rng: &mut Rng, care: &Care) -> Vec<String> {
+    let mut list = Vec::new();
+    // Where there are faults, a key that is met again may have a bad value before its good one or, swapped, behind it.
+    let again = Care { faults: if care.faults == 0 { 0 } else { 50 }, ..*care };
+    for key in 0..3 {
+        if rng.percent(care.faults) {
+            continue;
+        }
+        if rng.once_in(12) {
+            list.push(variant_key(rng, key, &again));
+        }
+        list.push(variant_key(rng, key, care));
+    }
+    if list.is_empty() || rng.once_in(4) {
+        list.push(match rng.below(4) {
+            0 => format!("{}={}", rng.pick(NEAR_NAMES), rng.pick(&["1", "0", "x", "front-left", "'31'"])),
+            1 => rng.pick(&[".a", "#b", ":en", ":", "k", "k=1", "class='variant wheel'", "id=valve", ".valve", "lang=1", "k='valve=1'"]).to_string(),
+            _ => format!("{}={}", name(rng), quoted(rng)),
+        });
+    }
+    if !rng.once_in(3) {
+        return list;
+    }
+    // Each may stand anywhere.
+    for at in (1..list.len()).rev() {
+        list.swap(at, rng.below(at + 1));
+    }
+    list
+}
+
+/// 29 to 31 other keys around the three, or 31 to 33 classes, so that the limits are met from both sides.
+fn crowded_variant(rng: &mut Rng, care: &Care) -> Vec<String> {
+    let mut list = if rng.percent(60) { variant_tokens(rng, care) } else { Vec::new() };
+    let others: Vec<String> = match rng.below(3) {
+        0 => (0..rng.between(31, 33)).map(|n| format!(".c{n}")).collect(),
+        1 => (0..rng.between(28, 30) + 3 * usize::from(list.is_empty())).map(|n| format!("k{n}")).collect(),
+        _ => (0..33).map(|n| format!("k{}={n}", n % rng.between(26, 33))).collect(),
+    };
+    let at = rng.below(list.len() + 1);
+    drop(list.splice(at..at, others));
+    list
+}
+
+/// A part of such a sheet, mostly a block for the table.
+fn variant_part(rng: &mut Rng, care: &Care) -> String {
+    let others = if care.faults == 0 { 2 } else { 12 };
+    match rng.weighted(&[880, 40, 40, others, others]) {
+        0 => {
+            let list = variant_tokens(rng, care);
+            laid(rng, &list, 25)
+        }
+        1 => rng.pick(&["{k}", "{.a #b}", "{k\n m}", "{:en}", "text", "", "# Valves", "{k}{m}", "{}", "{", "}"]).to_string(),
+        2 => {
+            // It is text by what stands before or in it, or blanks around it are trimmed.
+            let list = variant_tokens(rng, care);
+            let before = rng.pick(&[" ", "\t", "x", "\u{feff}", "", "", "\u{c}", "\r"]);
+            let behind = rng.pick(&["", "", " ", "\t", "x", "}", "{", "{k=}", "\\"]);
+            format!("{before}{{{}}}{behind}", list.join(" "))
+        }
+        3 => {
+            let list = crowded_variant(rng, care);
+            laid(rng, &list, 25)
+        }
+        _ => sheet_part(rng),
+    }
+}
+
+/// A sheet of blocks for the table: mostly a few, at times many, seldom up to the text limit.
+fn variants(rng: &mut Rng, out: &mut Out) {
+    let care = Care {
+        faults: [0, 2, 12][rng.weighted(&[50, 35, 15])],
+        variants: [1, 2, 30][rng.weighted(&[40, 35, 25])],
+        valves: [2, 4, 9, 256][rng.weighted(&[15, 25, 35, 25])],
+    };
+    let mut text = String::new();
+    let parts = match rng.weighted(&[20, 930, 48, 2]) {
+        0 => 0,
+        1 => rng.between(1, 6),
+        2 => rng.between(7, 25),
+        _ => rng.between(60, 200),
+    };
+    for _ in 0..parts {
+        text.push_str(&variant_part(rng, &care));
+        text.push('\n');
+    }
+    if rng.once_in(4000) {
+        text = long_variants(rng, &care, text);
+    }
+    if rng.once_in(3) {
+        text.pop();
+    }
+    if rng.once_in(8) {
+        text = text.replace("\r\n", "\n").replace('\n', "\r\n");
+    }
+    let mut text = text.into_bytes();
+    damage(rng, &mut text, 25);
+    text.truncate(65_600);
+    let cap = match rng.below(100) {
+        0 => format!(" cap={}", TEXT_LIMIT - rng.below(3)),
+        1 => format!(" cap={}", rng.pick(&["0", "1", "65535", "30000", "65534"])),
+        _ => String::new(),
+    };
+    out.request("variants", &text, &cap);
+}
+
+/// A block for the table whose canonical text is too long, which counts all the same; a sheet of many blocks, or one with
+/// a block at its end, as long as the text limit or a little shorter or longer.
+fn long_variants(rng: &mut Rng, care: &Care, text: String) -> String {
+    let list = variant_tokens(rng, care).join(" ");
+    match rng.below(4) {
+        0 => {
+            let room = rng.between(32_700, 32_800);
+            format!("{{{list} k='{}'}}\n{text}", "\"".repeat(room))
+        }
+        1 => {
+            let room = rng.between(32_700, 32_800);
+            format!("{text}{{k='{}'\n {list}}}\n", "\"".repeat(room))
+        }
+        2 => {
+            let size = long_size(rng);
+            filled(size, &text, &format!("{{{list}}}\n"), "")
+        }
+        _ => {
+            let size = long_size(rng);
+            filled(size, &text, "x", &format!("\n{{{list}}}"))
+        }
+    }
+}
+
 /// A request with one fault in its line, or, now and then, none.
 fn errors(rng: &mut Rng, out: &mut Out) {
     // The last family has only requests that the others have too.
@@ -1636,6 +1859,56 @@ const EACH_BYTE: [&[u8]; 256] = {
     }
     atoms
 };
+
+const VARIANT_SECTIONS: &[Section] = &[
+    // Blocks with and without LF between them: the three keys right, each one missing, each out of range, none of them, and
+    // a wrapped block. Where no LF stands they are a chain.
+    Section {
+        atoms: &[
+            b"{variant=1 wheel=front-left valve=0}",
+            b"{wheel=front-right valve=0}",
+            b"{variant=1 valve=1}",
+            b"{variant=1 wheel=rear-left}",
+            b"{variant=31 wheel=front-left valve=0}",
+            b"{variant=1 wheel=Front-left valve=0}",
+            b"{variant=1 wheel=front-left valve=256}",
+            b"{k}",
+            b"{variant=1\n wheel=rear-right valve=0}",
+            b"\n",
+        ],
+        forms: &[("variants", b"", b"")],
+    },
+    // Blocks line by line: what overrides, heals, and makes pairs, in one variant and in two.
+    Section {
+        atoms: &[
+            b"{variant=1 wheel=front-left valve=0}\n",
+            b"{variant=1 wheel=front-left valve=255}\n",
+            b"{variant=1 wheel=front-right valve=0}\n",
+            b"{variant=1 wheel=rear-left valve=255}\n",
+            b"{variant=1 wheel=rear-right\n valve=0}\n",
+            b"{variant=30 wheel=front-left valve=0}\n",
+            b"{variant=30\n wheel=rear-right valve=0}\n",
+            b"{variant=30 wheel=rear-right}{valve=7}\n",
+            b"{valve=0}\n",
+            b"{k}\n",
+            b"\xFF",
+        ],
+        forms: &[("variants", b"", b""), ("variants", b"{variant=1 wheel=rear-left valve=0}\n", b"")],
+    },
+    // What stands in a value.
+    Section {
+        atoms: &[b"0", b"1", b"2", b"3", b"5", b"6", b"9", b"\\", b"-", b" ", b"+", b"\xC3\xA9"],
+        forms: &[
+            ("variants", b"{variant=\"", b"\" wheel=rear-left valve=1}"),
+            ("variants", b"{variant=1 wheel=front-right valve='", b"'}"),
+            ("variants", b"{variant=1 wheel=front-right valve=", b"}"),
+        ],
+    },
+    Section {
+        atoms: &[b"front", b"rear", b"left", b"right", b"-", b"\\-", b"\\", b"R", b" ", b"_"],
+        forms: &[("variants", b"{variant=2 wheel=\"", b"\" valve=3}"), ("variants", b"{variant=2 valve=3 wheel=", b"}")],
+    },
+];
 
 fn sections(family: &str) -> &'static [Section] {
     match family {
@@ -1788,6 +2061,7 @@ fn sections(family: &str) -> &'static [Section] {
             },
             Section { atoms: SPELLED_BLOCKS, forms: &[("parse_standalone_attrs 1", b"", b"")] },
         ],
+        "variants" => VARIANT_SECTIONS,
         _ => &[
             Section { atoms: &[b"{", b"}", b"a", b" ", b"\n", b"\r", b"\"", b"="], forms: &[("sheet", b"", b""), ("sheet", b"{", b"}\n{b}")] },
             Section { atoms: &[b"{a", b"}", b"}{.b", b"\n", b"\n ", b" ", b"c=\"", b"\"", b"{#d}", b"text", b"\r\n"], forms: &[("sheet", b"", b"")] },

@@ -732,39 +732,53 @@ pub fn canonical_over(attrs: &Attrs, bytes: &[u8]) -> Result<Vec<u8>, Number> {
     canonical(attrs)
 }
 
-// ---- The sheet program ----
+// ---- Whole sheets ----
 
-pub fn sheet(bytes: &[u8]) -> Vec<u8> {
+/// A block of a sheet: its first line, how many lines it takes, and its set, or 6 or 7.
+pub struct Found {
+    pub first: usize,
+    pub count: usize,
+    pub read: Result<Attrs, Number>,
+}
+
+/// The blocks of a sheet as the sheet program finds them: from line 1 on, past each block or, with none, on one line; or
+/// 1 or 2.
+pub fn blocks(bytes: &[u8]) -> Result<Vec<Found>, Number> {
+    let lines = lines_of(bytes)?;
     let mut out = Vec::new();
-    let lines = match lines_of(bytes) {
-        Ok(lines) => lines,
-        Err(number) => return format!("refused\t0\t0\t{number}\n").into_bytes(),
-    };
     let mut at = 0;
     while at < lines.len() {
         let Ok((_, count)) = block_of(Entry::Standalone, &lines[at..], TEXT_LIMIT).answer else {
             at += 1;
             continue;
         };
-        let read = match block_of(Entry::Block, &lines[at..], TEXT_LIMIT).answer {
-            Ok((attrs, read_count)) => {
-                assert_eq!(read_count, count, "reading and measuring agree");
-                canonical(&attrs)
-            }
-            Err(number) => Err(number),
-        };
-        match read {
+        let read = block_of(Entry::Block, &lines[at..], TEXT_LIMIT).answer.map(|(attrs, read_count)| {
+            assert_eq!(read_count, count, "reading and measuring agree");
+            attrs
+        });
+        assert!(matches!(read, Ok(_) | Err(6 | 7)), "a block that is measured is read, but for its limits");
+        out.push(Found { first: at + 1, count, read });
+        at += count;
+    }
+    Ok(out)
+}
+
+/// What the sheet program writes.
+pub fn sheet(bytes: &[u8]) -> Vec<u8> {
+    let mut out = Vec::new();
+    let blocks = match blocks(bytes) {
+        Ok(blocks) => blocks,
+        Err(number) => return format!("refused\t0\t0\t{number}\n").into_bytes(),
+    };
+    for Found { first, count, read } in blocks {
+        match read.and_then(|attrs| canonical(&attrs)) {
             Ok(text) => {
-                out.extend_from_slice(format!("block\t{}\t{count}\t", at + 1).as_bytes());
+                out.extend_from_slice(format!("block\t{first}\t{count}\t").as_bytes());
                 out.extend_from_slice(&text);
                 out.push(b'\n');
             }
-            Err(number) => {
-                assert!([6, 7, 10].contains(&number), "the sheet prints no other number");
-                out.extend_from_slice(format!("refused\t{}\t{count}\t{number}\n", at + 1).as_bytes());
-            }
+            Err(number) => out.extend_from_slice(format!("refused\t{first}\t{count}\t{number}\n").as_bytes()),
         }
-        at += count;
     }
     out
 }

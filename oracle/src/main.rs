@@ -1,5 +1,5 @@
-//! The oracle: reads request lines on standard input and writes one answer line for each. With the word `sheet` it is the
-//! sheet program instead: standard input is one sheet, and its report is written.
+//! The oracle: reads request lines on standard input and writes one answer line for each. With the word `sheet` or
+//! `variants` it is the program of that name instead: standard input is one sheet, and its report or table is written.
 
 mod ast;
 mod document;
@@ -8,17 +8,23 @@ mod parse;
 mod requests;
 mod rows;
 mod standins;
+mod variants;
 
 use std::io::{self, BufRead, BufReader, BufWriter, Read, Write};
 
 fn main() -> io::Result<()> {
     let mut input = BufReader::with_capacity(1 << 20, io::stdin().lock());
     let mut output = BufWriter::with_capacity(1 << 20, io::stdout().lock());
-    if std::env::args().nth(1).as_deref() == Some("sheet") {
+    let program: Option<fn(&[u8]) -> Vec<u8>> = match std::env::args().nth(1).as_deref() {
+        Some("sheet") => Some(layer::sheet),
+        Some("variants") => Some(variants::program),
+        _ => None,
+    };
+    if let Some(program) = program {
         // One byte above the limit is as many as it takes to refuse the text.
         let mut text = Vec::new();
         input.take(layer::TEXT_LIMIT as u64 + 1).read_to_end(&mut text)?;
-        output.write_all(&layer::sheet(&text))?;
+        output.write_all(&program(&text))?;
         return output.flush();
     }
     let mut request = Vec::new();

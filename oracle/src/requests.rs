@@ -6,6 +6,7 @@ use crate::layer::{self, Entry, MergeRefusal, Number, Refused, Trace, Traced};
 use crate::parse::attrs::door;
 use crate::rows::{Name, Rows, Slot};
 use crate::standins::*;
+use crate::variants;
 use std::io::Write;
 
 /// The longest text that a request may carry.
@@ -259,6 +260,15 @@ fn answer_known(request: &[u8], out: &mut Vec<u8>) -> Option<()> {
             out.extend_from_slice(b"sheet ");
             put_hex(&written, out);
         }
+        (b"variants", [text]) => match variants::table(&hex(text)?, cap) {
+            Ok(table) => {
+                out.extend_from_slice(b"table");
+                for &valve in table.iter().flatten() {
+                    put!(out, " {}", variants::cell(valve));
+                }
+            }
+            Err(refusal) => put_refused(refusal.number, out),
+        },
         _ => return None,
     }
     Some(())

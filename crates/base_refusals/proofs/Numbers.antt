@@ -6,14 +6,15 @@ use Prim.Native.Nat.{ℕ, _≤_}
 use native.Mathlib.Omega.{arith}
 use lib.ListN.{getD}
 use Rattle.base_refusals.specs.declared.Refusal.{Refusal}
-use Rattle.base_refusals.specs.declared.Refusal.the-variants.{TextTooLong, NotUtf8, NothingThere, NoClose, NoReading, TooManyClasses, TooManyKeys, JoinFull, CanonTooLong, NotWellFormed, EmptySet}
+use Rattle.base_refusals.specs.declared.Refusal.the-variants.{TextTooLong, NotUtf8, NothingThere, NoClose, NoReading, TooManyClasses, TooManyKeys, JoinFull, CanonTooLong, NotWellFormed, EmptySet, BadSetting, SharedValve}
 use Rattle.base_refusals.specs.Numbers.{lastNumber, numberOf}
 
--- each where its number says; none has the number 0 or 8
+-- each where its number says; none has the number 0, 8 or one of 13 to 19
 abbrev refusals : List Refusal
 refusals =
     TextTooLong ∷ TextTooLong ∷ NotUtf8 ∷ NothingThere ∷ NoClose ∷ NoReading ∷ TooManyClasses ∷ TooManyKeys ∷ TextTooLong
-    ∷ JoinFull ∷ CanonTooLong ∷ NotWellFormed ∷ EmptySet ∷ []
+    ∷ JoinFull ∷ CanonTooLong ∷ NotWellFormed ∷ EmptySet
+    ∷ TextTooLong ∷ TextTooLong ∷ TextTooLong ∷ TextTooLong ∷ TextTooLong ∷ TextTooLong ∷ TextTooLong ∷ BadSetting ∷ SharedValve ∷ []
 
 there : (r : Refusal) → getD refusals (numberOf r) TextTooLong ≡ r
 unfolding numberOf
@@ -28,6 +29,8 @@ there JoinFull = refl
 there CanonTooLong = refl
 there NotWellFormed = refl
 there EmptySet = refl
+there BadSetting = refl
+there SharedValve = refl
 
 -- so no two have the same
 pub number-own : (q r : Refusal) → numberOf q ≡ numberOf r → q ≡ r
@@ -52,6 +55,8 @@ number-among JoinFull = (omega arith, omega arith)
 number-among CanonTooLong = (omega arith, omega arith)
 number-among NotWellFormed = (omega arith, omega arith)
 number-among EmptySet = (omega arith, omega arith)
+number-among BadSetting = (omega arith, omega arith)
+number-among SharedValve = (omega arith, omega arith)
 
 -- two digits are enough
 pub number-le : (r : Refusal) → numberOf r ≤ 99

@@ -5,7 +5,7 @@ use mathlib.Core.List.{List, []}
 use lib.Dec.{ltb}
 use lib.ListN.{length}
 use Rattle.base_refusals.specs.declared.Refusal.{Refusal}
-use Rattle.base_refusals.specs.declared.Refusal.the-variants.{TextTooLong, NotUtf8, NothingThere, NoClose, NoReading, TooManyClasses, TooManyKeys, JoinFull, CanonTooLong, NotWellFormed, EmptySet}
+use Rattle.base_refusals.specs.declared.Refusal.the-variants.{TextTooLong, NotUtf8, NothingThere, NoClose, NoReading, TooManyClasses, TooManyKeys, JoinFull, CanonTooLong, NotWellFormed, EmptySet, BadSetting, SharedValve}
 use Rattle.base_refusals.specs.declared.Outcome.{Outcome}
 use Rattle.base_refusals.specs.declared.Outcome.the-variants.{Passed, Refused}
 
@@ -19,7 +19,7 @@ tooLong t = ltb maxText (length t)
 
 -- the last number of the table
 abbrev pub lastNumber : ℕ
-lastNumber = 12
+lastNumber = 21
 
 unfoldable pub numberOf : Refusal → ℕ
 -- "text above 65,535 bytes"
@@ -45,6 +45,10 @@ numberOf CanonTooLong = 10
 numberOf NotWellFormed = 11
 -- "empty set given to the writer"
 numberOf EmptySet = 12
+-- "20, one or two of the three keys missing or any out of range"
+numberOf BadSetting = 20
+-- "21, a valve at two wheels"
+numberOf SharedValve = 21
 
 -- the number of an outcome: 0 where nothing is refused
 abbrev pub outcomeNo : Outcome → ℕ

@@ -17,6 +17,8 @@ pub enum Refusal {
     CanonTooLong,
     NotWellFormed,
     EmptySet,
+    BadSetting,
+    SharedValve,
 }
 
 // Whether something is refused, and by what.
@@ -41,6 +43,8 @@ pub fn number(r: Refusal) -> u8
         Refusal::CanonTooLong => 10,
         Refusal::NotWellFormed => 11,
         Refusal::EmptySet => 12,
+        Refusal::BadSetting => 20,
+        Refusal::SharedValve => 21,
     }
 }
 

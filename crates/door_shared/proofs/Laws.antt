@@ -22,12 +22,12 @@ use Rattle.door_shared.specs.Tells.{toldIn, lenOf, outcomeOf, Said, setS
 
 -- ---- telling
 
-told-none : (buf : List ℕ) → toldIn buf [] ≡ buf
+pub told-none : (buf : List ℕ) → toldIn buf [] ≡ buf
 unfolding toldIn
 told-none [] = refl
 told-none (b ∷ buf) = refl
 
-told-more : (buf xs : List ℕ) (x : ℕ) → set (toldIn buf xs) (length xs) x ≡ toldIn buf (xs ++ (x ∷ []))
+pub told-more : (buf xs : List ℕ) (x : ℕ) → set (toldIn buf xs) (length xs) x ≡ toldIn buf (xs ++ (x ∷ []))
 unfolding toldIn
 told-more [] xs x = refl
 told-more (b ∷ buf) [] x = ap (λ l. x ∷ l) (sym (told-none buf))

@@ -35,7 +35,7 @@ use Rattle.block_trimmed_line.specs.Fronts.{frontOf, opensAt}
 use Rattle.read_blocks.specs.Blocks.{runFound, found}
 use Rattle.read_lengths.specs.Lengths.{flushLeft}
 use Rattle.sheet_blocks.specs.Sheets.{triesFrom, onlyBlocks, blocksOf}
-use Rattle.sheet_report.specs.Decimal.{placesIn, places, decimal}
+use Rattle.text_digits.specs.Decimal.{placesIn, places, decimal}
 use Rattle.sheet_report.specs.Report.{reportLine, refusedLine, canonLine, blockLine, reportOf, report}
 use Rattle.proved_demands.specs.Typed.{typed}
 use Rattle.proved_demands.specs.Cases.{ExampleReported}

@@ -1,8 +1,8 @@
 -- The numbers of a report have the fewest digits that hold them.
 -- Assumes nothing.
 use mathlib.Core.Path.{refl}
-use Rattle.sheet_report.specs.Decimal.{places, decimal}
-use Rattle.sheet_report.proofs.Decimals.{fewest}
+use Rattle.text_digits.specs.Decimal.{places, decimal}
+use Rattle.text_digits.proofs.Decimals.{fewest}
 use Rattle.proved_sheets.specs.Report.{FewestDigits}
 
 pub decimal-digits : FewestDigits

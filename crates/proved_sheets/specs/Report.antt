@@ -16,7 +16,7 @@ use Rattle.set_canon.specs.Canon.{canon}
 use Rattle.set_table.specs.Rows.{meaningOf}
 use Rattle.read_blocks.specs.Blocks.{linesOf, textsIn, filledFound}
 use Rattle.sheet_blocks.specs.Sheets.{Try, blocksOf}
-use Rattle.sheet_report.specs.Decimal.{decimal}
+use Rattle.text_digits.specs.Decimal.{decimal}
 use Rattle.sheet_report.specs.Report.{blockWord, reportLine, refusedLine, blockLine, report}
 use Rattle.sheet_report.specs.Parts.{maxLine}
 use Rattle.proved_sheets.specs.Order.{Each}

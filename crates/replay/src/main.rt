@@ -2,6 +2,7 @@
 mod ask;
 mod brace;
 mod by_line;
+mod dealers;
 mod fields;
 mod input;
 mod leaves;
@@ -92,8 +93,11 @@ fn reply_by(q: Ask, text: &[u8], b: &mut [u8], join: &mut [u8]) -> Reply {
     if word < ask::PAIRS {
         return by_line::answer_set(q, text, b);
     }
-    if word < ask::SHEET {
+    if word < ask::VARIANTS {
         return two_texts::answer(q, text, b, join);
+    }
+    if word < ask::SHEET {
+        return dealers::answer(text, b, join);
     }
     if word < ask::LEAF_AT {
         return leaves::answer(word, q.x, text, b);

@@ -149,7 +149,7 @@ pub fn range_of<'a>(
 }
 
 // Whether a name is the bytes given.
-fn is_named<'a>(first: &'a [u8], second: &'a [u8], name: Name, bytes: &[u8]) -> bool
+pub fn is_named<'a>(first: &'a [u8], second: &'a [u8], name: Name, bytes: &[u8]) -> bool
     ensures { λ r. ⌜ r ≡ same (nameBytes (two (now (first .entry)) (now (second .entry))) name) (now (bytes .entry)) ⌝ }
 {
     match name {

@@ -8,7 +8,8 @@ use native.Mathlib.Nat.{add-zero, zero-add}
 use native.Mathlib.Omega.{arith}
 use borrow.Author.Tests.{ltb-true, ltb-false, le-ltb}
 use lib.Dec.{ltb}
-use lib.ListN.{length, drop, length-map}
+use lib.ListN.{length, take, drop, length-map}
+use lib.Seq.{take-append-seam}
 use Rattle.base_refusals.specs.Numbers.{maxText}
 use Rattle.base_refusals.specs.declared.Refusal.the-variants.{NothingThere}
 use Rattle.text_lines.specs.Lines.{lines, lineFrom}
@@ -16,7 +17,7 @@ use Rattle.text_lines.specs.declared.Range.{Range}
 use Rattle.text_lines.proofs.Lines.{lines-end, line-at, next-beyond}
 use Rattle.run_lines.specs.Runs.{asIs, pastLines, runAt}
 use Rattle.run_lines.proofs.Bounds.{lines-le}
-use Rattle.read_blocks.specs.Blocks.{Found, linesOf, joinHolds, blockOf}
+use Rattle.read_blocks.specs.Blocks.{Found, linesOf, joinedIn, joinHolds, blockOf}
 use Rattle.read_lengths.specs.Lengths.{flushLeft}
 use Rattle.read_blocks.proofs.Places.{past-in}
 use Rattle.sheet_blocks.specs.declared.Next.{Next}
@@ -140,6 +141,23 @@ numbers t cap n m zero (r ∷ rs) buf = go (isBlock f) (numbers t cap (suc n) (s
 pub upto-join : (t : List ℕ) (cap n at : ℕ) (buf : List ℕ) → length t ≤ maxText → maxText ≤ cap → joinBehind buf (upToBlock (triesAt t cap n at)) ≡ joinBehind buf (nextTries t cap at)
 unfolding triesAt nextTries
 upto-join t cap n at buf k j = rw (le-ltb maxText (length t) k, le-ltb cap maxText j) (numbers t cap n 0 0 _ buf)
+
+-- ---- the joined bytes of a block stand at the front of the join buffer
+
+holds-front : (buf : List ℕ) (f : Found) → take (length (joinedIn f)) (joinHolds buf f) ≡ joinedIn f
+unfolding joinHolds
+holds-front buf f = take-append-seam (joinedIn f) (drop (length (joinedIn f)) buf)
+
+pub upto-front : (buf : List ℕ) (xs : List Try) {y : Try} {ys : List Try} → onlyBlocks xs ≡ y ∷ ys → take (length (joinedIn (y .found))) (joinBehind buf (upToBlock xs)) ≡ joinedIn (y .found)
+unfolding onlyBlocks upToBlock joinBehind
+upto-front buf [] e = let z : _≡_ {A = ℕ} 0 1 = cc in absurd (omega arith)
+upto-front buf (x ∷ xs) {y} {ys} e = go (isBlock (x .found)) e (upto-front (joinHolds buf (x .found)) xs)
+  where
+    go : (b : Bool) → cond b (x ∷ onlyBlocks xs) (onlyBlocks xs) ≡ y ∷ ys
+        → (onlyBlocks xs ≡ y ∷ ys → take (length (joinedIn (y .found))) (joinBehind (joinHolds buf (x .found)) (upToBlock xs)) ≡ joinedIn (y .found))
+        → take (length (joinedIn (y .found))) (joinBehind (joinHolds buf (x .found)) (cond b [] (upToBlock xs))) ≡ joinedIn (y .found)
+    go true e ih = let z : x ≡ y = cc in rw (← z) (holds-front buf (x .found))
+    go false e ih = ih e
 
 -- ---- what is handed out
 

@@ -1,6 +1,6 @@
 -- A join buffer as long as the text is long enough: the tries of a sheet don't depend on its length then, and 9 can't arise.
 -- Assumes nothing.
-use mathlib.Core.Path.{_≡_, refl, ap}
+use mathlib.Core.Path.{_≡_, refl, sym, _∙_, ap}
 use mathlib.Core.Bool.{Bool, true, false, cond, not, _&&_}
 use mathlib.Core.List.{List, [], _∷_, map}
 use Prim.Native.Nat.{ℕ, zero, suc, _-_, _≤_}
@@ -10,9 +10,9 @@ use lib.Dec.{eqb, ltb}
 use lib.ListN.{length, drop}
 use Rattle.base_lists.specs.Lists.{isIn}
 use Rattle.base_lists.proofs.More.{contra}
-use Rattle.base_refusals.specs.Numbers.{numberOf, outcomeNo}
+use Rattle.base_refusals.specs.Numbers.{numberOf, outcomeNo, maxText}
 use Rattle.base_refusals.specs.declared.Refusal.the-variants.{NoReading, JoinFull}
-use Rattle.text_lines.specs.Lines.{lines}
+use Rattle.text_lines.specs.Lines.{lines, ranges}
 use Rattle.text_lines.specs.declared.Range.{Range}
 use Rattle.run_scanners.specs.Scanners.{holdsOpen}
 use Rattle.run_joins.specs.Joins.{Lined, So, mayJoin, after}
@@ -21,7 +21,7 @@ use Rattle.base_refusals.specs.declared.Outcome.the-variants.{Passed, Refused}
 use Rattle.run_lines.proofs.Bounds.{never-full}
 use Rattle.read_blocks.specs.Blocks.{linesOf, runFound, found}
 use Rattle.read_lengths.specs.Lengths.{flushLeft}
-use Rattle.sheet_blocks.specs.Sheets.{triesFrom, triesAt}
+use Rattle.sheet_blocks.specs.Sheets.{triesFrom, triesAt, onlyBlocks, blocksOf}
 use Rattle.sheet_blocks.proofs.Tries.{try}
 
 -- a run that its buffer doesn't refuse is the same in a longer one
@@ -62,3 +62,8 @@ module _ (t : List ℕ) (cap : ℕ) (h : length t ≤ cap) where
   pub tries-same : (n at : ℕ) → triesAt t (length t) n at ≡ triesAt t cap n at
   unfolding triesAt
   tries-same n at = from-same n 0 _
+
+-- the blocks of a sheet are those that a caller finds from its first byte on
+pub blocks-are : (t : List ℕ) (cap : ℕ) → length t ≤ maxText → length t ≤ cap → blocksOf t ≡ onlyBlocks (triesAt t cap 1 0)
+unfolding blocksOf ranges triesAt
+blocks-are t cap k h = ap onlyBlocks (sym (from-same t maxText k 1 0 (ranges t)) ∙ from-same t cap h 1 0 (ranges t))

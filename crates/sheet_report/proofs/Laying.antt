@@ -4,14 +4,12 @@ use mathlib.Core.Path.{_≡_, refl, sym, _∙_, ap}
 use mathlib.Core.Bool.{Bool, true, false, cond, _&&_}
 use mathlib.Core.List.{List, [], _∷_, _++_, append-assoc, append-nil}
 use Prim.Native.Nat.{ℕ, suc, _+_, _-_, _^_, _≤_, _<_}
-use native.Mathlib.Numerals.{add-one}
 use native.Mathlib.Omega.{arith}
 use borrow.Author.Tests.{le-leb, leb-true, leb-false, le-ltb, lt-ltb, ltb-false}
 use lib.Dec.{leb, ltb}
 use lib.ListN.{length, take, drop, set, length-append, length-drop, drop-of-length-le}
 use lib.Seq.{sets, length-sets, sets-eq, take-all, drop-drop}
 use borrow.Rule.Slice.PartMut.{putMid, postOf, put-same}
-use Rattle.io.specs.Digits.{digits, Fewest}
 use Rattle.base_refusals.specs.Numbers.{maxText, numberOf}
 use Rattle.base_refusals.specs.declared.Refusal.{Refusal}
 use Rattle.base_refusals.specs.declared.Refusal.the-variants.{CanonTooLong}
@@ -27,16 +25,19 @@ use Rattle.set_writer.specs.declared.Wrote.the-variants.{Refused, Bytes}
 use Rattle.set_writer.specs.Write.{hasRoom, wroteOf, contentAfter}
 use Rattle.set_writer.specs.Inner.{putIf, wroteTo}
 use Rattle.base_lists.proofs.Sets.{sets-append, take-sets, drop-sets}
-use Rattle.sheet_report.specs.Decimal.{decimal}
+use Rattle.text_digits.specs.Decimal.{decimal}
 use Rattle.sheet_report.specs.Report.{blockWord, refusedWord, reportLine, refusedLine, canonLine, lineBy}
 use Rattle.sheet_report.specs.Parts.{maxLine}
 use Rattle.sheet_report.specs.Inner.{PutAt, lineFront, putShort}
-use Rattle.sheet_report.proofs.Decimals.{decimal-le, decimal-is, length-digits}
+use Rattle.text_digits.proofs.Decimals.{decimal-le}
 
 -- ---- one part behind the other
 
+pub put-so : (buf : List ℕ) (at : ℕ) (xs : List ℕ) {k : ℕ} {b : List ℕ} → k ≡ length xs → b ≡ sets buf at xs → PutAt buf at xs (at + k) b
+put-so buf at xs h e = record { behind = ap (λ (i : ℕ). at + i) h; content = e }
+
 pub put-is : (buf : List ℕ) (at : ℕ) (xs : List ℕ) {b : List ℕ} → b ≡ sets buf at xs → PutAt buf at xs (at + length xs) b
-put-is buf at xs e = record { behind = refl; content = e }
+put-is buf at xs e = put-so buf at xs refl e
 
 module _ {buf : List ℕ} {at : ℕ} {xs : List ℕ} {r : ℕ} {b : List ℕ} (p : PutAt buf at xs r b) where
   pub put-then : {ys : List ℕ} {r′ : ℕ} {b′ : List ℕ} → PutAt b r ys r′ b′ → PutAt buf at (xs ++ ys) r′ b′
@@ -51,21 +52,6 @@ module _ {buf : List ℕ} {at : ℕ} {xs : List ℕ} {r : ℕ} {b : List ℕ} (p
 
   pub put-long : length b ≡ length buf
   put-long = rw (p .content) (length-sets buf at xs)
-
--- ---- a number behind a tab
-
-module _ (buf : List ℕ) (at n : ℕ) {s : List ℕ} {k : ℕ} (f : Fewest 10 1 n k) (e : s ≡ digits 10 k n) where
-  is : s ≡ decimal n
-  is = e ∙ decimal-is n k f
-
-  long : k ≡ length (decimal n)
-  long = sym (length-digits k n) ∙ ap length (sym e ∙ is)
-
-  pub field-room : at + suc (length (decimal n)) ≤ length buf → at + 1 + k ≤ length buf
-  field-room h = omega (arith, long)
-
-  pub field-put : {b : List ℕ} → b ≡ sets (set buf at 9) (at + 1) s → PutAt buf at (9 ∷ decimal n) (at + 1 + k) b
-  field-put p = record { behind = omega (arith, long); content = rw (is, add-one) at p }
 
 -- ---- the lengths
 

@@ -8,7 +8,7 @@ use native.Mathlib.Nat.{sub-zero}
 use native.Mathlib.Omega.{arith}
 use borrow.Author.Tests.{le-ltb, lt-ltb}
 use lib.ListN.{length, take, drop, length-append}
-use lib.Seq.{slice, take-append-seam, take-at, drop-at, drop-drop, sets, sets-eq}
+use lib.Seq.{slice, take-at, drop-at, drop-drop, sets, sets-eq}
 use Rattle.base_lists.specs.Lists.{over}
 use Rattle.base_lists.proofs.Sets.{over-long}
 use Rattle.base_refusals.specs.Numbers.{maxText}
@@ -19,12 +19,12 @@ use Rattle.set_table.specs.Rows.{meaningOf}
 use Rattle.set_table.specs.declared.Attrs.{Attrs}
 use Rattle.base_refusals.specs.declared.Outcome as outcomes
 use Rattle.base_refusals.specs.declared.Outcome.the-variants as outcome
-use Rattle.read_blocks.specs.Blocks.{Found, joinedIn, joinHolds, blockOf}
+use Rattle.read_blocks.specs.Blocks.{Found, joinedIn, blockOf}
 use Rattle.read_lengths.specs.Lengths.{flushLeft}
 use Rattle.sheet_blocks.specs.declared.Next.{Next}
 use Rattle.sheet_blocks.specs.Sheets.{Try, triesAt, isBlock, onlyBlocks, joinBehind, upToBlock, nextOf, nextTries}
 use Rattle.sheet_blocks.proofs.Tries.{tries-end, try, tries-on, tries-past}
-use Rattle.sheet_blocks.proofs.Goes.{Goes, goes-on, stops, join-long, join-append, upto-join}
+use Rattle.sheet_blocks.proofs.Goes.{Goes, goes-on, stops, join-long, join-append, upto-join, upto-front}
 use Rattle.sheet_blocks.proofs.Rooms.{tries-same}
 use Rattle.sheet_report.specs.declared.Told.{Told}
 use Rattle.sheet_report.specs.declared.Told.the-variants.{More, Done}
@@ -81,23 +81,6 @@ lay-stop t cap n at {room} h l = go (isBlock (flushLeft t cap at)) refl
     go : (b : Bool) → isBlock (flushLeft t cap at) ≡ b → layFrom t room (triesAt t cap n at) ≡ stopped (try t cap n at)
     go true e = rw (tries-past t cap n at h e, lt-ltb room maxLine l)
     go false e = rw (tries-on t cap n at h e, lt-ltb room maxLine l)
-
--- ---- the joined bytes of a block stand at the front of the join buffer
-
-holds-front : (buf : List ℕ) (f : Found) → take (length (joinedIn f)) (joinHolds buf f) ≡ joinedIn f
-unfolding joinHolds
-holds-front buf f = take-append-seam (joinedIn f) (drop (length (joinedIn f)) buf)
-
-upto-front : (buf : List ℕ) (xs : List Try) {y : Try} {ys : List Try} → onlyBlocks xs ≡ y ∷ ys → take (length (joinedIn (y .found))) (joinBehind buf (upToBlock xs)) ≡ joinedIn (y .found)
-unfolding onlyBlocks upToBlock joinBehind
-upto-front buf [] e = let z : _≡_ {A = ℕ} 0 1 = cc in absurd (omega arith)
-upto-front buf (x ∷ xs) {y} {ys} e = go (isBlock (x .found)) e (upto-front (joinHolds buf (x .found)) xs)
-  where
-    go : (b : Bool) → cond b (x ∷ onlyBlocks xs) (onlyBlocks xs) ≡ y ∷ ys
-        → (onlyBlocks xs ≡ y ∷ ys → take (length (joinedIn (y .found))) (joinBehind (joinHolds buf (x .found)) (upToBlock xs)) ≡ joinedIn (y .found))
-        → take (length (joinedIn (y .found))) (joinBehind (joinHolds buf (x .found)) (cond b [] (upToBlock xs))) ≡ joinedIn (y .found)
-    go true e ih = let z : x ≡ y = cc in rw (← z) (holds-front buf (x .found))
-    go false e ih = ih e
 
 -- ---- the line of a block, by its outcome and by the bytes that were joined
 

@@ -1,5 +1,4 @@
 -- Laws that the proofs of sheet_report cite.
-pub mod Decimals
 pub mod Laying
 pub mod Lays
 pub mod Entries

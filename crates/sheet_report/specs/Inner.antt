@@ -7,7 +7,7 @@ use lib.ListN.{length}
 use lib.Seq.{sets}
 use Rattle.base_refusals.specs.Numbers.{maxText}
 use Rattle.set_writer.specs.Inner.{putIf}
-use Rattle.sheet_report.specs.Decimal.{decimal}
+use Rattle.text_digits.specs.Decimal.{decimal}
 use Rattle.base_bytes.specs.Bytes.{tab}
 
 -- xs put at `at` of buf: where it ends, and what then stands there

@@ -1,5 +1,4 @@
 -- The definitions that the contracts of sheet_report cite.
-pub mod Decimal
 pub mod Report
 pub mod Parts
 pub mod Inner

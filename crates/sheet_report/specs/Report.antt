@@ -14,7 +14,7 @@ use Rattle.set_table.specs.Rows.{meaningOf}
 use Rattle.set_table.specs.declared.Attrs.{Attrs}
 use Rattle.read_blocks.specs.Blocks.{linesOf, textsIn, filledFound}
 use Rattle.sheet_blocks.specs.Sheets.{Try, blocksOf}
-use Rattle.sheet_report.specs.Decimal.{decimal}
+use Rattle.text_digits.specs.Decimal.{decimal}
 use Rattle.base_bytes.specs.Bytes.{lf, tab}
 
 -- ---- a line

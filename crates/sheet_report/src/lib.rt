@@ -18,7 +18,7 @@ ghost use Rattle.set_table.specs.Rows.{meaningOf};
 ghost use Rattle.set_writer.specs.Inner.{wroteTo};
 ghost use Rattle.sheet_blocks.specs.Sheets.{triesAt, joinBehind};
 ghost use Rattle.sheet_report.specs.declared.Told.the-variants.{Refused, More, Done};
-ghost use Rattle.sheet_report.specs.Decimal.{decimal};
+ghost use Rattle.text_digits.specs.Decimal.{decimal};
 ghost use Rattle.sheet_report.specs.Report.{refusedLine, canonLine, lineBy};
 ghost use Rattle.sheet_report.specs.Parts.{toldPaper, maxLine, layFrom, moreToTell, beginsLine, mayBegin, partOrder, partOf, refusal, startOf, startOrder, shownPart};
 ghost use Rattle.sheet_report.specs.Inner.{PutAt, lineFront, putShort};
@@ -47,11 +47,8 @@ fn put_field(out: &mut [u8], at: usize, n: usize) -> usize
     requires { ⌜ at + length (tab ∷ decimal n) ≤ length (now out) ⌝ }
     ensures { λ r. ⌜ PutAt (now (out .entry)) at (tab ∷ decimal n) r (now (out .exit)) ⌝ }
 {
-    let mut digits = [0u8; 20];
-    let k = io::decimal(n as u64, &mut digits);
-    out[at] = b'\t';
-    base_lists::put_bytes(out, at + 1, &digits[..k]);
-    at + 1 + k
+    let k = text_digits::put_field(out, at, n as u64);
+    at + k
 }
 
 // Writes a word, the first line and the line count.

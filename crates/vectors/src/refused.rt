@@ -6,7 +6,8 @@ use base_refusals::Refusal;
 pub(crate) fn run(t: Tally) -> Tally {
     let read = numbers_of_readers(t);
     let all = numbers_of_sets(read);
-    let exact = longest_text(all);
+    let dealt = numbers_of_dealers(all);
+    let exact = longest_text(dealt);
     let over = one_byte_more(exact);
     broken_text(over)
 }
@@ -31,6 +32,14 @@ fn numbers_of_sets(t: Tally) -> Tally {
     n = held(n, base_refusals::number(Refusal::CanonTooLong) == 10);
     n = held(n, base_refusals::number(Refusal::NotWellFormed) == 11);
     n = held(n, base_refusals::number(Refusal::EmptySet) == 12);
+    n
+}
+
+// 20 and 21: the dealers' table.
+fn numbers_of_dealers(t: Tally) -> Tally {
+    let mut n = t;
+    n = held(n, base_refusals::number(Refusal::BadSetting) == 20);
+    n = held(n, base_refusals::number(Refusal::SharedValve) == 21);
     n
 }
 

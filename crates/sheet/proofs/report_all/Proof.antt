@@ -1,4 +1,4 @@
--- `report_all` ends, since each turn passes an argument; the buffers keep their lengths.
+-- `report_all` ends, since each turn passes a sheet; the buffers keep their lengths.
 -- Assumes nothing.
 use borrow.Author.Needs.{needs}
 use mathlib.Core.Path.{_≡_}
@@ -13,14 +13,14 @@ Inv-loop text₀ join₀ out₀ count i₀ text join out i = (length text ≡ le
 abbrev μ-loop : tie.MeasureT-loop
 μ-loop text₀ join₀ out₀ count i₀ text join out i = count - i
 
-arg-count-requires : tie.Need-arg-count-requires Inv-loop μ-loop
-arg-count-requires c κs = search needs
+count-requires : tie.Need-count-requires Inv-loop μ-loop
+count-requires c κs = search needs
 
 loop-holds : tie.Need-loop-holds Inv-loop μ-loop
 loop-holds c = search needs
 
-report-named-requires : tie.Need-report-named-requires Inv-loop μ-loop
-report-named-requires c κs = search needs
+report-on-requires : tie.Need-report-on-requires Inv-loop μ-loop
+report-on-requires c κs = search needs
 
 add-i : tie.Need-add-i Inv-loop μ-loop
 add-i c = search needs
@@ -49,9 +49,9 @@ report-all-spec =
     (tie.spec
     Inv-loop
     μ-loop
-    arg-count-requires
+    count-requires
     loop-holds
-    report-named-requires
+    report-on-requires
     add-i
     loop-less
     loop-again

@@ -1,20 +1,21 @@
 -- A number's decimal digits are the fewest that hold it, and no other count of digits is that.
 -- Assumes nothing.
-use mathlib.Core.Path.{_≡_, refl, _∙_}
+use mathlib.Core.Path.{_≡_, refl, sym, _∙_, ap}
 use mathlib.Core.Bool.{Bool, true, false, cond}
-use mathlib.Core.List.{[], _∷_}
-use Prim.Native.Nat.{ℕ, zero, suc, _-_, _/_, _%_, _^_, _≤_, _<_}
+use mathlib.Core.List.{List, [], _∷_}
+use Prim.Native.Nat.{ℕ, zero, suc, _+_, _-_, _/_, _%_, _^_, _≤_, _<_}
 use native.Mathlib.Nat.{pow-le-pow-right, div-add-mod, mod-lt, pow-succ'}
 use native.Mathlib.Omega.{arith}
 use borrow.Author.Tests.{ltb-true, ltb-false}
 use lib.Dec.{ltb}
-use lib.ListN.{length, length-append}
+use lib.ListN.{length, take, drop, replicate, length-append, length-replicate}
+use lib.Seq.{sets, sets-eq, take-at}
 use Rattle.io.specs.Digits.{digits, Fewest, glyph}
-use Rattle.sheet_report.specs.Decimal.{placesIn, places, decimal}
+use Rattle.text_digits.specs.Decimal.{placesIn, places, decimal}
 
 -- ---- the fewest
 
-more : (n k : ℕ) → 10 ≤ n → Fewest 10 1 (n / 10) k → Fewest 10 1 n (suc k)
+pub more : (n k : ℕ) → 10 ≤ n → Fewest 10 1 (n / 10) k → Fewest 10 1 n (suc k)
 more n k h (a, b, c) = (omega arith, rw (pow-succ' 10 k) (omega (arith, div-add-mod n 10, mod-lt n {m = 10} (omega arith))), λ l. low k (omega arith) c)
   where
     low : (j : ℕ) → 1 ≤ j → (1 < j → 10 ^ (j - 1) ≤ n / 10) → 10 ^ (suc j - 1) ≤ n
@@ -71,3 +72,22 @@ decimal-le n m h l = omega (arith, decimal-length n, places-le n m h l)
 pub decimal-is : (n k : ℕ) → Fewest 10 1 n k → digits 10 k n ≡ decimal n
 unfolding decimal
 decimal-is n k f = rw (fewest-is n k f)
+
+-- ---- the digits that were written, as few as hold the number
+
+module _ (n : ℕ) {s : List ℕ} {k : ℕ} (f : Fewest 10 1 n k) (e : s ≡ digits 10 k n) where
+  pub written-is : s ≡ decimal n
+  written-is = e ∙ decimal-is n k f
+
+  pub written-long : k ≡ length (decimal n)
+  written-long = sym (length-digits k n) ∙ ap length (sym e ∙ written-is)
+
+-- behind the first of 21 tabs, which are as many bytes as a field can have
+module _ (n : ℕ) {k : ℕ} (h : n < 2 ^ 64) (e : k ≡ length (decimal n)) where
+  pub field-room : k + 1 ≤ 21
+  field-room = omega (arith, e, decimal-le n 20 (omega arith) (omega arith))
+
+  pub field-is : {s : List ℕ} → s ≡ sets (replicate 21 9) 1 (decimal n) → take (k + 1) s ≡ 9 ∷ decimal n
+  field-is f =
+      rw (f, sets-eq (decimal n) (replicate 21 9) 1 (omega (arith, e, field-room, length-replicate {A = ℕ} 21 9)))
+      (take-at (9 ∷ decimal n) (drop (1 + length (decimal n)) (replicate 21 9)) (k + 1) (omega (arith, e)))

@@ -1,0 +1,4 @@
+-- The laws that the proofs of set_keyed cite.
+pub mod Means
+pub mod Numbers
+pub mod Slots

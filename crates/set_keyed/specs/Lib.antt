@@ -1,0 +1,2 @@
+-- The definitions that the contracts of set_keyed cite.
+pub mod Keyed

@@ -1,0 +1,56 @@
+// The sheets that a program is to read: the files that its arguments name, one after the other, or standard input where there are none. What stands in
+// files and in arguments is nothing that can be proved, so these functions promise no more than that they are safe.
+
+// One byte more than a sheet may have is enough to refuse it, so no further one is read.
+pub const TEXT: usize = base_refusals::MAX_TEXT + 1;
+
+// How many bytes a sheet has, or that there is no such file.
+pub enum Sheet {
+    Missing,
+    Bytes(usize),
+}
+
+// How many sheets there are. The first argument is the program's own name.
+pub fn count() -> usize {
+    let n = os::arg_count();
+    if n <= 1 {
+        return 1;
+    }
+    n - 1
+}
+
+// Reads a sheet by its number, counted from 0, into lent memory. One that an argument names stands under a heading, and `-` names standard input.
+pub fn read(i: usize, text: &mut [u8]) -> Sheet {
+    if os::arg_count() <= 1 {
+        return Sheet::Bytes(io::read_full(libc::STDIN_FILENO, text));
+    }
+    if i == usize::MAX {
+        return Sheet::Missing;
+    }
+    let mut name = io::buffer();
+    let n = os::arg(i + 1, &mut name);
+    say(b"==> ");
+    say(&name[..n]);
+    say(b" <==\n");
+    read_named(&name[..n], text)
+}
+
+// Reads the sheet of that name.
+fn read_named(name: &[u8], text: &mut [u8]) -> Sheet {
+    if base_lists::same_bytes(name, b"-") {
+        return Sheet::Bytes(io::read_full(libc::STDIN_FILENO, text));
+    }
+    let fd = os::open_read(name);
+    if fd < 0 {
+        say(b"not there\n");
+        return Sheet::Missing;
+    }
+    let n = io::read_full(fd, text);
+    libc::close(fd);
+    Sheet::Bytes(n)
+}
+
+// Writes bytes to standard output, and answers whether all were.
+pub fn say(words: &[u8]) -> bool {
+    io::write_all(libc::STDOUT_FILENO, words)
+}

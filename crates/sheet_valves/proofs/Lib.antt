@@ -1,0 +1,4 @@
+-- The laws that the proofs of sheet_valves cite.
+pub mod Cells
+pub mod Pairs
+pub mod Settings

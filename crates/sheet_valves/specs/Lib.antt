@@ -1,0 +1,4 @@
+-- The definitions that the contracts of sheet_valves cite.
+pub mod Tables
+pub mod Pairs
+pub mod Settings

@@ -1,0 +1,3 @@
+-- The laws of text_digits.
+pub mod Decimals
+pub mod Steps

@@ -1,0 +1,3 @@
+-- The definitions that the contracts of text_digits cite.
+pub mod Decimal
+pub mod Digits
