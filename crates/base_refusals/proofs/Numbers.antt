@@ -6,15 +6,15 @@ use Prim.Native.Nat.{ℕ, _≤_}
 use native.Mathlib.Omega.{arith}
 use lib.ListN.{getD}
 use Rattle.base_refusals.specs.declared.Refusal.{Refusal}
-use Rattle.base_refusals.specs.declared.Refusal.the-variants.{TextTooLong, NotUtf8, NothingThere, NoClose, NoReading, TooManyClasses, TooManyKeys, JoinFull, CanonTooLong, NotWellFormed, EmptySet, BadSetting, SharedValve}
+use Rattle.base_refusals.specs.declared.Refusal.the-variants.{TextTooLong, NotUtf8, NothingThere, NoClose, NoReading, TooManyClasses, TooManyKeys, JoinFull, CanonTooLong, NotWellFormed, EmptySet, BadTag, NotAnIndex, TableFull, AnotherVersion, TotalTooLarge, TooManyColumns, IndexTooLong, BadSetting, SharedValve}
 use Rattle.base_refusals.specs.Numbers.{lastNumber, numberOf}
 
--- each where its number says; none has the number 0, 8 or one of 13 to 19
+-- each where its number says; none has the number 0 or 8
 abbrev refusals : List Refusal
 refusals =
     TextTooLong ∷ TextTooLong ∷ NotUtf8 ∷ NothingThere ∷ NoClose ∷ NoReading ∷ TooManyClasses ∷ TooManyKeys ∷ TextTooLong
     ∷ JoinFull ∷ CanonTooLong ∷ NotWellFormed ∷ EmptySet
-    ∷ TextTooLong ∷ TextTooLong ∷ TextTooLong ∷ TextTooLong ∷ TextTooLong ∷ TextTooLong ∷ TextTooLong ∷ BadSetting ∷ SharedValve ∷ []
+    ∷ BadTag ∷ NotAnIndex ∷ TableFull ∷ AnotherVersion ∷ TotalTooLarge ∷ TooManyColumns ∷ IndexTooLong ∷ BadSetting ∷ SharedValve ∷ []
 
 there : (r : Refusal) → getD refusals (numberOf r) TextTooLong ≡ r
 unfolding numberOf
@@ -29,6 +29,13 @@ there JoinFull = refl
 there CanonTooLong = refl
 there NotWellFormed = refl
 there EmptySet = refl
+there BadTag = refl
+there NotAnIndex = refl
+there TableFull = refl
+there AnotherVersion = refl
+there TotalTooLarge = refl
+there TooManyColumns = refl
+there IndexTooLong = refl
 there BadSetting = refl
 there SharedValve = refl
 
@@ -55,6 +62,13 @@ number-among JoinFull = (omega arith, omega arith)
 number-among CanonTooLong = (omega arith, omega arith)
 number-among NotWellFormed = (omega arith, omega arith)
 number-among EmptySet = (omega arith, omega arith)
+number-among BadTag = (omega arith, omega arith)
+number-among NotAnIndex = (omega arith, omega arith)
+number-among TableFull = (omega arith, omega arith)
+number-among AnotherVersion = (omega arith, omega arith)
+number-among TotalTooLarge = (omega arith, omega arith)
+number-among TooManyColumns = (omega arith, omega arith)
+number-among IndexTooLong = (omega arith, omega arith)
 number-among BadSetting = (omega arith, omega arith)
 number-among SharedValve = (omega arith, omega arith)
 

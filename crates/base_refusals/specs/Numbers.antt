@@ -5,7 +5,7 @@ use mathlib.Core.List.{List, []}
 use lib.Dec.{ltb}
 use lib.ListN.{length}
 use Rattle.base_refusals.specs.declared.Refusal.{Refusal}
-use Rattle.base_refusals.specs.declared.Refusal.the-variants.{TextTooLong, NotUtf8, NothingThere, NoClose, NoReading, TooManyClasses, TooManyKeys, JoinFull, CanonTooLong, NotWellFormed, EmptySet, BadSetting, SharedValve}
+use Rattle.base_refusals.specs.declared.Refusal.the-variants.{TextTooLong, NotUtf8, NothingThere, NoClose, NoReading, TooManyClasses, TooManyKeys, JoinFull, CanonTooLong, NotWellFormed, EmptySet, BadTag, NotAnIndex, TableFull, AnotherVersion, TotalTooLarge, TooManyColumns, IndexTooLong, BadSetting, SharedValve}
 use Rattle.base_refusals.specs.declared.Outcome.{Outcome}
 use Rattle.base_refusals.specs.declared.Outcome.the-variants.{Passed, Refused}
 
@@ -45,6 +45,20 @@ numberOf CanonTooLong = 10
 numberOf NotWellFormed = 11
 -- "empty set given to the writer"
 numberOf EmptySet = 12
+-- "13 not well-formed, in strict reading"
+numberOf BadTag = 13
+-- "14 not an index of this form or, when mending, not that of the old text"
+numberOf NotAnIndex = 14
+-- "15 lent record table full"
+numberOf TableFull = 15
+-- "16 first line right but for another number"
+numberOf AnotherVersion = 16
+-- "17 a total would not fit"
+numberOf TotalTooLarge = 17
+-- "18 more than 32 columns"
+numberOf TooManyColumns = 18
+-- "19 index text longer than its lent buffer"
+numberOf IndexTooLong = 19
 -- "20, one or two of the three keys missing or any out of range"
 numberOf BadSetting = 20
 -- "21, a valve at two wheels"

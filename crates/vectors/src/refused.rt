@@ -7,7 +7,8 @@ pub(crate) fn run(t: Tally) -> Tally {
     let read = numbers_of_readers(t);
     let all = numbers_of_sets(read);
     let dealt = numbers_of_dealers(all);
-    let exact = longest_text(dealt);
+    let coming = numbers_of_requests(dealt);
+    let exact = longest_text(coming);
     let over = one_byte_more(exact);
     broken_text(over)
 }
@@ -40,6 +41,19 @@ fn numbers_of_dealers(t: Tally) -> Tally {
     let mut n = t;
     n = held(n, base_refusals::number(Refusal::BadSetting) == 20);
     n = held(n, base_refusals::number(Refusal::SharedValve) == 21);
+    n
+}
+
+// 13 to 19: strict tags, an index beside the sheet, numbers over all sheets, and columns.
+fn numbers_of_requests(t: Tally) -> Tally {
+    let mut n = t;
+    n = held(n, base_refusals::number(Refusal::BadTag) == 13);
+    n = held(n, base_refusals::number(Refusal::NotAnIndex) == 14);
+    n = held(n, base_refusals::number(Refusal::TableFull) == 15);
+    n = held(n, base_refusals::number(Refusal::AnotherVersion) == 16);
+    n = held(n, base_refusals::number(Refusal::TotalTooLarge) == 17);
+    n = held(n, base_refusals::number(Refusal::TooManyColumns) == 18);
+    n = held(n, base_refusals::number(Refusal::IndexTooLong) == 19);
     n
 }
 

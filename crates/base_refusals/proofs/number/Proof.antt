@@ -42,6 +42,27 @@ enum-told-12 c = search needs
 enum-told-13 : tie.Need-enum-told-13
 enum-told-13 c = search needs
 
+enum-told-14 : tie.Need-enum-told-14
+enum-told-14 c = search needs
+
+enum-told-15 : tie.Need-enum-told-15
+enum-told-15 c = search needs
+
+enum-told-16 : tie.Need-enum-told-16
+enum-told-16 c = search needs
+
+enum-told-17 : tie.Need-enum-told-17
+enum-told-17 c = search needs
+
+enum-told-18 : tie.Need-enum-told-18
+enum-told-18 c = search needs
+
+enum-told-19 : tie.Need-enum-told-19
+enum-told-19 c = search needs
+
+enum-told-20 : tie.Need-enum-told-20
+enum-told-20 c = search needs
+
 returns : tie.Need-returns
 unfolding numberOf
 returns c = rw (c .enum-told .given .1)
@@ -94,6 +115,34 @@ returns-13 : tie.Need-returns-13
 unfolding numberOf
 returns-13 c = rw (c .enum-told13 .given .1)
 
+returns-14 : tie.Need-returns-14
+unfolding numberOf
+returns-14 c = rw (c .enum-told14 .given .1)
+
+returns-15 : tie.Need-returns-15
+unfolding numberOf
+returns-15 c = rw (c .enum-told15 .given .1)
+
+returns-16 : tie.Need-returns-16
+unfolding numberOf
+returns-16 c = rw (c .enum-told16 .given .1)
+
+returns-17 : tie.Need-returns-17
+unfolding numberOf
+returns-17 c = rw (c .enum-told17 .given .1)
+
+returns-18 : tie.Need-returns-18
+unfolding numberOf
+returns-18 c = rw (c .enum-told18 .given .1)
+
+returns-19 : tie.Need-returns-19
+unfolding numberOf
+returns-19 c = rw (c .enum-told19 .given .1)
+
+returns-20 : tie.Need-returns-20
+unfolding numberOf
+returns-20 c = rw (c .enum-told20 .given .1)
+
 pub number-spec : {M : Type 1} → statement M
 number-spec =
     tie.close
@@ -111,6 +160,13 @@ number-spec =
     enum-told-11
     enum-told-12
     enum-told-13
+    enum-told-14
+    enum-told-15
+    enum-told-16
+    enum-told-17
+    enum-told-18
+    enum-told-19
+    enum-told-20
     returns
     returns-2
     returns-3
@@ -123,4 +179,11 @@ number-spec =
     returns-10
     returns-11
     returns-12
-    returns-13)
+    returns-13
+    returns-14
+    returns-15
+    returns-16
+    returns-17
+    returns-18
+    returns-19
+    returns-20)
