@@ -144,20 +144,9 @@ upto-join t cap n at buf k j = rw (le-ltb maxText (length t) k, le-ltb cap maxTe
 
 -- ---- the joined bytes of a block stand at the front of the join buffer
 
-holds-front : (buf : List ℕ) (f : Found) → take (length (joinedIn f)) (joinHolds buf f) ≡ joinedIn f
+pub holds-front : (buf : List ℕ) (f : Found) → take (length (joinedIn f)) (joinHolds buf f) ≡ joinedIn f
 unfolding joinHolds
 holds-front buf f = take-append-seam (joinedIn f) (drop (length (joinedIn f)) buf)
-
-pub upto-front : (buf : List ℕ) (xs : List Try) {y : Try} {ys : List Try} → onlyBlocks xs ≡ y ∷ ys → take (length (joinedIn (y .found))) (joinBehind buf (upToBlock xs)) ≡ joinedIn (y .found)
-unfolding onlyBlocks upToBlock joinBehind
-upto-front buf [] e = let z : _≡_ {A = ℕ} 0 1 = cc in absurd (omega arith)
-upto-front buf (x ∷ xs) {y} {ys} e = go (isBlock (x .found)) e (upto-front (joinHolds buf (x .found)) xs)
-  where
-    go : (b : Bool) → cond b (x ∷ onlyBlocks xs) (onlyBlocks xs) ≡ y ∷ ys
-        → (onlyBlocks xs ≡ y ∷ ys → take (length (joinedIn (y .found))) (joinBehind (joinHolds buf (x .found)) (upToBlock xs)) ≡ joinedIn (y .found))
-        → take (length (joinedIn (y .found))) (joinBehind (joinHolds buf (x .found)) (cond b [] (upToBlock xs))) ≡ joinedIn (y .found)
-    go true e ih = let z : x ≡ y = cc in rw (← z) (holds-front buf (x .found))
-    go false e ih = ih e
 
 -- ---- what is handed out
 

@@ -4,3 +4,4 @@ pub mod Seeks
 pub mod Goes
 pub mod Rooms
 pub mod NextNumbers
+pub mod SheetWalk

@@ -7,7 +7,7 @@ use Prim.Native.Nat.{ℕ, _+_, _-_, _≤_, _<_}
 use native.Mathlib.Nat.{sub-zero}
 use native.Mathlib.Omega.{arith}
 use borrow.Author.Tests.{le-ltb, lt-ltb}
-use lib.ListN.{length, take, drop, length-append}
+use lib.ListN.{length, drop, length-append}
 use lib.Seq.{slice, take-at, drop-at, drop-drop, sets, sets-eq}
 use Rattle.base_lists.specs.Lists.{over}
 use Rattle.base_lists.proofs.Sets.{over-long}
@@ -19,13 +19,11 @@ use Rattle.set_table.specs.Rows.{meaningOf}
 use Rattle.set_table.specs.declared.Attrs.{Attrs}
 use Rattle.base_refusals.specs.declared.Outcome as outcomes
 use Rattle.base_refusals.specs.declared.Outcome.the-variants as outcome
-use Rattle.read_blocks.specs.Blocks.{Found, joinedIn, blockOf}
 use Rattle.read_lengths.specs.Lengths.{flushLeft}
 use Rattle.sheet_blocks.specs.declared.Next.{Next}
-use Rattle.sheet_blocks.specs.Sheets.{Try, triesAt, isBlock, onlyBlocks, joinBehind, upToBlock, nextOf, nextTries}
+use Rattle.sheet_blocks.specs.Sheets.{Try, triesAt, isBlock, onlyBlocks, joinBehind, upToBlock}
 use Rattle.sheet_blocks.proofs.Tries.{tries-end, try, tries-on, tries-past}
-use Rattle.sheet_blocks.proofs.Goes.{Goes, goes-on, stops, join-long, join-append, upto-join, upto-front}
-use Rattle.sheet_blocks.proofs.Rooms.{tries-same}
+use Rattle.sheet_blocks.proofs.SheetWalk.{none-by, first-by, SheetWalk, walk-start, walk-tries, WalkEnds, WalkMeets}
 use Rattle.sheet_report.specs.declared.Told.{Told}
 use Rattle.sheet_report.specs.declared.Told.the-variants.{More, Done}
 use Rattle.sheet_report.specs.declared.Part.{Part}
@@ -53,25 +51,11 @@ module _ (t : List ℕ) {room : ℕ} (h : maxLine ≤ room) where
   lay-here x xs e = rw (le-ltb room maxLine h, e)
 
   lay-none : (xs : List Try) → onlyBlocks xs ≡ [] → layFrom t room xs ≡ laidBehind xs [] (laidNone Done)
-  unfolding onlyBlocks layFrom
-  lay-none [] e = refl
-  lay-none (x ∷ xs) e = go (isBlock (x .found)) refl e (lay-none xs)
-    where
-      go : (b : Bool) → isBlock (x .found) ≡ b → cond b (x ∷ onlyBlocks xs) (onlyBlocks xs) ≡ [] → (onlyBlocks xs ≡ [] → layFrom t room xs ≡ laidBehind xs [] (laidNone Done))
-          → layFrom t room (x ∷ xs) ≡ laidBehind (x ∷ xs) [] (laidNone Done)
-      go true b e ih = let z : _≡_ {A = ℕ} 0 1 = cc in absurd (omega arith)
-      go false b e ih = lay-on x xs b ∙ ap (laidBehind (x ∷ []) []) (ih e)
+  unfolding layFrom
+  lay-none = none-by (λ us. layFrom t room us ≡ laidBehind us [] (laidNone Done)) (λ x us n e. lay-on x us n ∙ ap (laidBehind (x ∷ []) []) e) refl
 
-  lay-first : (xs zs : List Try) {y : Try} {ys : List Try} → onlyBlocks xs ≡ y ∷ ys → layFrom t room (upToBlock xs ++ zs) ≡ laidBehind (upToBlock xs) (blockLine t y) (layFrom t (room - length (blockLine t y)) zs)
-  unfolding onlyBlocks upToBlock
-  lay-first [] zs e = let z : _≡_ {A = ℕ} 0 1 = cc in absurd (omega arith)
-  lay-first (x ∷ xs) zs {y} {ys} e = go (isBlock (x .found)) refl e (lay-first xs zs)
-    where
-      go : (b : Bool) → isBlock (x .found) ≡ b → cond b (x ∷ onlyBlocks xs) (onlyBlocks xs) ≡ y ∷ ys
-          → (onlyBlocks xs ≡ y ∷ ys → layFrom t room (upToBlock xs ++ zs) ≡ laidBehind (upToBlock xs) (blockLine t y) (layFrom t (room - length (blockLine t y)) zs))
-          → layFrom t room (x ∷ (cond b [] (upToBlock xs) ++ zs)) ≡ laidBehind (x ∷ cond b [] (upToBlock xs)) (blockLine t y) (layFrom t (room - length (blockLine t y)) zs)
-      go true b e ih = let z : x ≡ y = cc in rw (← z) (lay-here x zs b)
-      go false b e ih = lay-on x (upToBlock xs ++ zs) b ∙ ap (laidBehind (x ∷ []) []) (ih e)
+  lay-first : (zs : List Try) {y : Try} {ys : List Try} (xs : List Try) → onlyBlocks xs ≡ y ∷ ys → layFrom t room (upToBlock xs ++ zs) ≡ laidBehind (upToBlock xs) (blockLine t y) (layFrom t (room - length (blockLine t y)) zs)
+  lay-first zs {y} = first-by (λ us. layFrom t room (us ++ zs) ≡ laidBehind us (blockLine t y) (layFrom t (room - length (blockLine t y)) zs)) (λ x us n e. lay-on x (us ++ zs) n ∙ ap (laidBehind (x ∷ []) []) e) (λ b. lay-here y zs b)
 
 -- where it has none, the next call goes on at the line that was to be tried
 pub lay-stop : (t : List ℕ) (cap n at : ℕ) {room : ℕ} → at < length t → room < maxLine → layFrom t room (triesAt t cap n at) ≡ stopped (try t cap n at)
@@ -98,34 +82,23 @@ module _ (n k : ℕ) (t join : List ℕ) (joined : ℕ) (a : Attrs) {o : outcome
 pub record Lays (t join₀ out₀ : List ℕ) (R : Laid) (join out : List ℕ) (at line k : ℕ) : Type 0 where
   pub done : List ℕ
   pub past : List Try
-  pub fits : length t ≤ maxText
-  pub wide : maxText ≤ length join₀
-  pub within : at ≤ length t
-  pub low : line ≤ at + 1
-  pub same : length join ≡ length join₀
+  pub walk : SheetWalk t join₀ join at line past
   pub room : k ≤ length out₀
   pub counted : k ≡ length done
-  pub joins : join ≡ joinBehind join₀ past
   pub content : out ≡ over done out₀
   pub rest : R ≡ laidBehind past done (layFrom t (length out₀ - k) (triesAt t (length join₀) line at))
 
 module _ (t join out : List ℕ) (at line : ℕ) where
   pub lays-start : length t ≤ maxText → at ≤ length t → line ≤ at + 1 → maxText ≤ length join → Lays t join out (layFrom t (length out) (triesAt t maxText line at)) join out at line 0
-  unfolding joinBehind
   lays-start k w l j =
       record {
         done = [];
         past = [];
-        fits = k;
-        wide = j;
-        within = w;
-        low = l;
-        same = refl;
+        walk = walk-start t join at line k j w l;
         room = omega arith;
         counted = refl;
-        joins = refl;
         content = refl;
-        rest = rw (sub-zero (length out), sym (tries-same t maxText k line at) ∙ tries-same t (length join) (omega arith) line at);
+        rest = rw (sub-zero (length out), walk-tries t join at line k j);
       }
 
 -- what is promised
@@ -138,103 +111,59 @@ module _ {t join₀ out₀ : List ℕ} {R : Laid} {join out : List ℕ} {at line
 
   -- nothing more is laid, and ys are gone past
   ends-so : (ys : List Try) (a : Told) (m n : ℕ) {join′ : List ℕ} → R ≡ laidBehind (inv .past) (inv .done) (laidBehind ys [] (record { told = a; text = []; past = []; at = m; line = n }))
-      → join′ ≡ joinBehind join ys → Tells join₀ out₀ R (record { told = a; len = k; at = m; line = n }) join′ out
-  ends-so ys a m n e j =
-      rw (e, append-nil (inv .done), append-nil ys)
-      (rw (← (inv .counted)), (j ∙ rw (inv .joins) (sym (join-append join₀ (inv .past) ys)), inv .content))
+      → join′ ≡ joinBehind join₀ (inv .past ++ ys) → Tells join₀ out₀ R (record { told = a; len = k; at = m; line = n }) join′ out
+  ends-so ys a m n e j = rw (e, append-nil (inv .done), append-nil ys) (rw (← (inv .counted)), (j, inv .content))
+
+  gone-none : join ≡ joinBehind join₀ (inv .past ++ [])
+  gone-none = rw (append-nil (inv .past)) (inv .walk .joins)
 
   pub lays-end : {p : Part} → length t ≤ at → p ≡ record { told = Done; len = k; at = 0; line = 0 } → Tells join₀ out₀ R p join out
-  unfolding layFrom joinBehind
-  lays-end h e = rw e (ends-so [] Done 0 0 (rw (tries-end t (length join₀) line at h) at (inv .rest)) refl)
+  unfolding layFrom
+  lays-end h e = rw e (ends-so [] Done 0 0 (rw (tries-end t (length join₀) line at h) at (inv .rest)) gone-none)
 
-  module _ (h : at < length t) where
-    pub lays-stop : {p : Part} → length out - k < maxLine → p ≡ record { told = More; len = k; at = at; line = line } → Tells join₀ out₀ R p join out
-    unfolding joinBehind
-    lays-stop l e = rw e (ends-so [] More at line (rw (lay-stop t (length join₀) line at h (rw lays-long at l)) at (inv .rest)) refl)
+  pub lays-stop : {p : Part} → at < length t → length out - k < maxLine → p ≡ record { told = More; len = k; at = at; line = line } → Tells join₀ out₀ R p join out
+  lays-stop h l e = rw e (ends-so [] More at line (rw (lay-stop t (length join₀) line at h (rw lays-long at l)) at (inv .rest)) gone-none)
 
-    module _ (l : maxLine ≤ length out - k) {r : Next} {join′ : List ℕ} (e : r ≡ nextOf t (length join) at) (j : join′ ≡ joinBehind join (nextTries t (length join) at)) where
-      has-room : maxLine ≤ length out₀ - k
-      has-room = rw lays-long at l
+  module _ (l : maxLine ≤ length out - k) where
+    has-room : maxLine ≤ length out₀ - k
+    has-room = rw lays-long at l
 
-      is : r ≡ nextOf t (length join₀) at
-      is = rw (inv .same) at e
+    pub lays-none : {join′ : List ℕ} {p : Part} → WalkEnds t join₀ at line (inv .past) join′ → p ≡ record { told = Done; len = k; at = 0; line = 0 } → Tells join₀ out₀ R p join′ out
+    lays-none w q = rw q (ends-so (triesAt t (length join₀) line at) Done 0 0 (rw (lay-none t has-room (triesAt t (length join₀) line at) (w .blocks)) at (inv .rest)) (w .joins))
 
-      join-is : join′ ≡ joinBehind join (nextTries t (length join₀) at)
-      join-is = rw (inv .same) at j
+    module _ {r : Next} {join′ : List ℕ} (m : WalkMeets t join₀ at line (inv .past) r join′) where
+      abbrev gone : List Try
+      gone = upToBlock (triesAt t (length join₀) line at)
 
-      pub join-same : length join′ ≡ length join₀
-      join-same = rw j (join-long t at join) ∙ inv .same
+      abbrev L : List ℕ
+      L = blockLine t (try t (length join₀) (line + r .skipped) (r .at))
 
-      pub lays-none : {p : Part} → r .block .lines ≡ 0 → p ≡ record { told = Done; len = k; at = 0; line = 0 } → Tells join₀ out₀ R p join′ out
-      lays-none z q =
-          let w = stops t (length join₀) at (inv .fits) (inv .wide) (rw is at z) in
-          rw q (ends-so (triesAt t (length join₀) line at) Done 0 0 (rw (lay-none t has-room (triesAt t (length join₀) line at) (w .blocks line)) at (inv .rest)) (join-is ∙ sym (w .joins line join)))
+      line-is : lineBy (line + r .skipped) (r .block .lines) (two t (slice 0 (r .block .joined) join′)) (r .block .set) (r .block .outcome) ≡ L
+      unfolding blockLine
+      line-is = rw (m .joined, m .set, m .outcome, m .lines)
 
-      module _ (z : r .block .lines ≡ 0 → ⊥) where
-        goes : Goes t (length join₀) at r
-        goes = rw is (goes-on t (length join₀) at (inv .fits) (inv .wide) (λ y. z (rw is y)))
+      pub lays-go : {k′ : ℕ} {out′ : List ℕ}
+          → PutAt out k (lineBy (line + r .skipped) (r .block .lines) (two t (slice 0 (r .block .joined) join′)) (r .block .set) (r .block .outcome)) k′ out′
+          → Lays t join₀ out₀ R join′ out′ (r .block .next) (line + r .skipped + r .block .lines) k′
+      lays-go {k′} {out′} p =
+          record {
+            done = inv .done ++ L;
+            past = inv .past ++ gone;
+            walk = m .walk;
+            room = omega (arith, short, has-room, ends);
+            counted = omega (arith, ends, inv .counted, length-append (inv .done) L);
+            content = (rw line-is at (p .content)) ∙ rw (inv .content, inv .counted) (over-sets (inv .done) L out₀ (omega (arith, short, has-room, inv .counted)));
+            rest = inv .rest ∙ ap (laidBehind (inv .past) (inv .done)) step ∙ rw (append-assoc (inv .done), append-assoc (inv .past));
+          }
+        where
+          short : length L ≤ maxLine
+          short = rw line-is at (line-le (line + r .skipped) (r .block .lines) (two t (slice 0 (r .block .joined) join′)) (r .block .set) (r .block .outcome) (omega (arith, m .few)) (omega (arith, m .few)))
 
-        abbrev f : Found
-        f = flushLeft t (length join₀) (r .at)
+          ends : k′ ≡ k + length L
+          ends = rw line-is at (p .behind)
 
-        abbrev here : Try
-        here = try t (length join₀) (line + r .skipped) (r .at)
+          left : length out₀ - k - length L ≡ length out₀ - k′
+          left = omega (arith, ends)
 
-        pub sum-le : line + r .skipped + r .block .lines ≤ r .block .next + 1
-        sum-le = omega (arith, inv .low, goes .order, goes .beyond)
-
-        pub next-within : r .block .next ≤ length t
-        next-within = goes .inside
-
-        pub lays-less : length t - r .block .next < length t - at
-        lays-less = omega (arith, h, goes .order, goes .beyond, goes .some, goes .inside)
-
-        abbrev gone : List Try
-        gone = upToBlock (triesAt t (length join₀) line at)
-
-        joined-so : join′ ≡ joinBehind join gone
-        joined-so = join-is ∙ sym (upto-join t (length join₀) line at join (inv .fits) (inv .wide))
-
-        front : take (length (joinedIn f)) join′ ≡ joinedIn f
-        front = rw joined-so (upto-front join (triesAt t (length join₀) line at) (goes .blocks line))
-
-        front-is : slice 0 (length (joinedIn f)) join′ ≡ joinedIn f
-        front-is = front
-
-        abbrev L : List ℕ
-        L = blockLine t here
-
-        line-is : lineBy (line + r .skipped) (r .block .lines) (two t (slice 0 (r .block .joined) join′)) (r .block .set) (r .block .outcome) ≡ L
-        unfolding blockLine blockOf
-        line-is = rw (goes .read, front-is)
-
-        pub lays-go : {k′ : ℕ} {out′ : List ℕ}
-            → PutAt out k (lineBy (line + r .skipped) (r .block .lines) (two t (slice 0 (r .block .joined) join′)) (r .block .set) (r .block .outcome)) k′ out′
-            → Lays t join₀ out₀ R join′ out′ (r .block .next) (line + r .skipped + r .block .lines) k′
-        lays-go {k′} {out′} p =
-            record {
-              done = inv .done ++ L;
-              past = inv .past ++ gone;
-              fits = inv .fits;
-              wide = inv .wide;
-              within = next-within;
-              low = sum-le;
-              same = join-same;
-              room = omega (arith, short, has-room, ends);
-              counted = omega (arith, ends, inv .counted, length-append (inv .done) L);
-              joins = joined-so ∙ rw (inv .joins) (sym (join-append join₀ (inv .past) gone));
-              content = (rw line-is at (p .content)) ∙ rw (inv .content, inv .counted) (over-sets (inv .done) L out₀ (omega (arith, short, has-room, inv .counted)));
-              rest = inv .rest ∙ ap (laidBehind (inv .past) (inv .done)) step ∙ rw (append-assoc (inv .done), append-assoc (inv .past));
-            }
-          where
-            short : length L ≤ maxLine
-            short = rw line-is at (line-le (line + r .skipped) (r .block .lines) (two t (slice 0 (r .block .joined) join′)) (r .block .set) (r .block .outcome) (omega (arith, sum-le, next-within, inv .fits)) (omega (arith, sum-le, next-within, inv .fits)))
-
-            ends : k′ ≡ k + length L
-            ends = rw line-is at (p .behind)
-
-            left : length out₀ - k - length L ≡ length out₀ - k′
-            left = omega (arith, ends)
-
-            step : layFrom t (length out₀ - k) (triesAt t (length join₀) line at) ≡ laidBehind gone L (layFrom t (length out₀ - k′) (triesAt t (length join₀) (line + r .skipped + r .block .lines) (r .block .next)))
-            step = ap (layFrom t (length out₀ - k)) (goes .tries line) ∙ lay-first t has-room (triesAt t (length join₀) line at) _ (goes .blocks line) ∙ rw left
+          step : layFrom t (length out₀ - k) (triesAt t (length join₀) line at) ≡ laidBehind gone L (layFrom t (length out₀ - k′) (triesAt t (length join₀) (line + r .skipped + r .block .lines) (r .block .next)))
+          step = ap (layFrom t (length out₀ - k)) (m .tries) ∙ lay-first t has-room _ (triesAt t (length join₀) line at) (m .blocks) ∙ rw left

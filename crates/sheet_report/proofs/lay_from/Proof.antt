@@ -3,6 +3,7 @@ use native.Mathlib.Omega.{arith}
 use lib.ListN.{length}
 use Rattle.base_refusals.specs.Numbers.{maxText}
 use Rattle.sheet_blocks.specs.Sheets.{triesAt}
+use Rattle.sheet_blocks.proofs.SheetWalk.{walk-same, walk-ends, walk-meets}
 use Rattle.sheet_report.specs.Parts.{layFrom}
 use Rattle.sheet_report.proofs.Lays as lays
 use borrow.Author.Needs.{needs}
@@ -24,7 +25,7 @@ done-requires : tie.Need-done-requires Inv-sheet μ-sheet
 done-requires c κs = search needs
 
 same-length : tie.Need-same-length Inv-sheet μ-sheet
-same-length c = (c .before .before .sheet .inv .same)
+same-length c = (c .before .before .sheet .inv .walk .same)
 
 same-length-2 : tie.Need-same-length-2 Inv-sheet μ-sheet
 same-length-2 c = lays.lays-long (c .before .before .sheet .inv)
@@ -39,7 +40,7 @@ more-requires : tie.Need-more-requires Inv-sheet μ-sheet
 more-requires c κs = search needs
 
 same-length-3 : tie.Need-same-length-3 Inv-sheet μ-sheet
-same-length-3 c = (c .before .before .before .sheet .inv .same)
+same-length-3 c = (c .before .before .before .sheet .inv .walk .same)
 
 same-length-4 : tie.Need-same-length-4 Inv-sheet μ-sheet
 same-length-4 c = lays.lays-long (c .before .before .before .sheet .inv)
@@ -55,56 +56,41 @@ done-requires-2 c κs = search needs
 
 same-length-5 : tie.Need-same-length-5 Inv-sheet μ-sheet
 same-length-5 c =
-    let at6 = c .before .before .before .before .before .before in let at8 = at6 .before .before in let at9 = at8 .before in let at10 = at9 .before in
-    lays.join-same (at10 .sheet .inv) (omega (arith, (at9 .if1 .left))) (omega (arith, (at8 .if2 .left))) (at6 .next-block .ensures .0) (at6 .next-block .ensures .1 .0)
+    let at6 = c .before .before .before .before .before .before in
+    walk-same (at6 .before .before .before .before .sheet .inv .walk) (at6 .next-block .ensures .0) (at6 .next-block .ensures .1 .0)
 
 same-length-6 : tie.Need-same-length-6 Inv-sheet μ-sheet
 same-length-6 c = lays.lays-long (c .before .before .before .before .before .before .before .before .before .before .sheet .inv)
 
 returns-3 : tie.Need-returns-3 Inv-sheet μ-sheet
 returns-3 c =
-    let at6 = c .before .before .before .before .before .before in let at8 = at6 .before .before in let at9 = at8 .before in let at10 = at9 .before in
-    lays.lays-none (at10 .sheet .inv) (omega (arith, (at9 .if1 .left))) (omega (arith, (at8 .if2 .left))) (at6 .next-block .ensures .0) (at6 .next-block .ensures .1 .0) (c .before .if3 .taken) (c .done2 .ensures)
+    let at6 = c .before .before .before .before .before .before in let at8 = at6 .before .before in
+    let w = at8 .before .before .sheet .inv in
+    lays.lays-none w (omega (arith, (at8 .if2 .left))) (walk-ends (w .walk) (at6 .next-block .ensures .0) (at6 .next-block .ensures .1 .0) (c .before .if3 .taken)) (c .done2 .ensures)
 
 add-n : tie.Need-add-n Inv-sheet μ-sheet
 add-n c =
-    let at6 = c .before .before .before .before .before .before in let at8 = at6 .before .before in let at9 = at8 .before in let at10 = at9 .before in
-    omega (
-      arith,
-      lays.sum-le (at10 .sheet .inv) (omega (arith, (at9 .if1 .left))) (omega (arith, (at8 .if2 .left))) (at6 .next-block .ensures .0) (at6 .next-block .ensures .1 .0)
-          (c .before .if3 .left),
-      lays.next-within (at10 .sheet .inv) (omega (arith, (at9 .if1 .left))) (omega (arith, (at8 .if2 .left))) (at6 .next-block .ensures .0) (at6 .next-block .ensures .1 .0)
-          (c .before .if3 .left),
-      (at10 .sheet .inv .fits),
-    )
+    let at6 = c .before .before .before .before .before .before in
+    omega (arith, walk-meets (at6 .before .before .before .before .sheet .inv .walk) (at6 .next-block .ensures .0) (at6 .next-block .ensures .1 .0) (c .before .if3 .left) .few)
 
 lay-block-requires : tie.Need-lay-block-requires Inv-sheet μ-sheet
 lay-block-requires c κs = let at10 = c .before .before .before .before .before .before .before .before .before .before in let at12 = at10 .before .before in omega (arith, (at10 .if2 .left), (at12 .sheet .inv .room), lays.lays-long (at12 .sheet .inv))
 
 add-line : tie.Need-add-line Inv-sheet μ-sheet
 add-line c =
-    let at7 = c .before .before .before .before .before .before .before in let at12 = at7 .before .before .before .before .before in let at14 = at12 .before .before in
-    let at15 = at14 .before in let at16 = at15 .before in
-    omega (
-      arith,
-      lays.sum-le (at16 .sheet .inv) (omega (arith, (at15 .if1 .left))) (omega (arith, (at14 .if2 .left))) (at12 .next-block .ensures .0) (at12 .next-block .ensures .1 .0)
-          (at7 .if3 .left),
-      lays.next-within (at16 .sheet .inv) (omega (arith, (at15 .if1 .left))) (omega (arith, (at14 .if2 .left))) (at12 .next-block .ensures .0) (at12 .next-block .ensures .1 .0)
-          (at7 .if3 .left),
-      (at16 .sheet .inv .fits),
-    )
+    let at7 = c .before .before .before .before .before .before .before in let at12 = at7 .before .before .before .before .before in
+    omega (arith, walk-meets (at12 .before .before .before .before .sheet .inv .walk) (at12 .next-block .ensures .0) (at12 .next-block .ensures .1 .0) (at7 .if3 .left) .few)
 
 sheet-less : tie.Need-sheet-less Inv-sheet μ-sheet
 sheet-less c =
-    let at7 = c .before .before .before .before .before .before .before in let at12 = at7 .before .before .before .before .before in let at14 = at12 .before .before in
-    let at15 = at14 .before in let at16 = at15 .before in
-    lays.lays-less (at16 .sheet .inv) (omega (arith, (at15 .if1 .left))) (omega (arith, (at14 .if2 .left))) (at12 .next-block .ensures .0) (at12 .next-block .ensures .1 .0) (at7 .if3 .left)
+    let at7 = c .before .before .before .before .before .before .before in let at12 = at7 .before .before .before .before .before in
+    walk-meets (at12 .before .before .before .before .sheet .inv .walk) (at12 .next-block .ensures .0) (at12 .next-block .ensures .1 .0) (at7 .if3 .left) .less
 
 sheet-again : tie.Need-sheet-again Inv-sheet μ-sheet
 sheet-again c =
     let at7 = c .before .before .before .before .before .before .before in let at12 = at7 .before .before .before .before .before in let at14 = at12 .before .before in
-    let at15 = at14 .before in let at16 = at15 .before in
-    lays.lays-go (at16 .sheet .inv) (omega (arith, (at15 .if1 .left))) (omega (arith, (at14 .if2 .left))) (at12 .next-block .ensures .0) (at12 .next-block .ensures .1 .0) (at7 .if3 .left) (c .before .before .before .lay-block .ensures)
+    let w = at14 .before .before .sheet .inv in
+    lays.lays-go w (omega (arith, (at14 .if2 .left))) (walk-meets (w .walk) (at12 .next-block .ensures .0) (at12 .next-block .ensures .1 .0) (at7 .if3 .left)) (c .before .before .before .lay-block .ensures)
 
 pub lay-from-spec : {M : Type 1} → statement M
 lay-from-spec =

@@ -4,6 +4,7 @@ use lib.ListN.{length}
 use borrow.Author.Needs.{needs}
 use Rattle.base_refusals.specs.Numbers.{maxText}
 use Rattle.sheet_blocks.specs.Sheets.{triesAt, blocksOf}
+use Rattle.sheet_blocks.proofs.SheetWalk.{walk-same, walk-ends, walk-meets}
 use Rattle.sheet_valves.specs.Tables.{emptyTable}
 use Rattle.sheet_variants.specs.Variants.{variantsFrom, pastOf}
 use Rattle.sheet_variants.proofs.Walks as laws
@@ -32,19 +33,19 @@ whole-table-requires c κs = search needs
 
 same-length : tie.Need-same-length Inv-sheet μ-sheet
 same-length c =
-    let start = c .before .before .before .before .before .before in
-    laws.join-same ((c .before .before .before .before .before .before .before .before .sheet .inv)) ((start .next-block .ensures .0)) ((start .next-block .ensures .1 .0))
+    let at6 = c .before .before .before .before .before .before in
+    walk-same (at6 .before .before .sheet .inv .walk) (at6 .next-block .ensures .0) (at6 .next-block .ensures .1 .0)
 
 returns : tie.Need-returns Inv-sheet μ-sheet
 returns c =
-    let start = c .before .before .before .before .before .before in
-    laws.walks-none ((c .before .before .before .before .before .before .before .before .sheet .inv)) ((start .next-block .ensures .0)) ((start .next-block .ensures .1 .0)) ((c .before .if1 .taken)) ((c .whole-table .ensures))
+    let at6 = c .before .before .before .before .before .before in
+    let w = at6 .before .before .sheet .inv in
+    laws.walks-none w (walk-ends (w .walk) (at6 .next-block .ensures .0) (at6 .next-block .ensures .1 .0) (c .before .if1 .taken)) (c .whole-table .ensures)
 
 add-n : tie.Need-add-n Inv-sheet μ-sheet
 add-n c =
-    let start = c .before .before .before .before .before .before in
-    let p = start .before .before in
-    omega (arith, laws.sum-le ((p .sheet .inv)) ((start .next-block .ensures .0)) ((start .next-block .ensures .1 .0)) ((c .before .if1 .left)), laws.next-within ((p .sheet .inv)) ((start .next-block .ensures .0)) ((start .next-block .ensures .1 .0)) ((c .before .if1 .left)), (p .sheet .inv .fits))
+    let at6 = c .before .before .before .before .before .before in
+    omega (arith, walk-meets (at6 .before .before .sheet .inv .walk) (at6 .next-block .ensures .0) (at6 .next-block .ensures .1 .0) (c .before .if1 .left) .few)
 
 hear-requires : tie.Need-hear-requires Inv-sheet μ-sheet
 hear-requires c κs = search needs
@@ -57,33 +58,38 @@ no-table-requires c κs = search needs
 
 same-length-2 : tie.Need-same-length-2 Inv-sheet μ-sheet
 same-length-2 c =
-    let start = c .before .before .before .before .before .before .before .before .before .before .before .before in
-    laws.join-same ((c .before .before .before .before .before .before .before .before .before .before .before .before .before .before .sheet .inv)) ((start .next-block .ensures .0)) ((start .next-block .ensures .1 .0))
+    let at12 = c .before .before .before .before .before .before .before .before .before .before .before .before in
+    walk-same (at12 .before .before .sheet .inv .walk) (at12 .next-block .ensures .0) (at12 .next-block .ensures .1 .0)
 
 returns-2 : tie.Need-returns-2 Inv-sheet μ-sheet
 returns-2 c =
-    let start = c .before .before .before .before .before .before .before .before .before .before .before .before in
-    laws.walks-refused ((c .before .before .before .before .before .before .before .before .before .before .before .before .before .before .sheet .inv)) ((start .next-block .ensures .0)) ((start .next-block .ensures .1 .0)) ((c .before .before .before .before .before .before .before .if1 .left)) ((c .before .before .before .before .hear .ensures)) ((c .before .before .why .given .1)) ((c .no-table .ensures))
+    let at4 = c .before .before .before .before in
+    let at7 = at4 .before .before .before in
+    let at12 = at7 .before .before .before .before .before in
+    let w = at12 .before .before .sheet .inv in
+    laws.walks-refused w (walk-meets (w .walk) (at12 .next-block .ensures .0) (at12 .next-block .ensures .1 .0) (at7 .if1 .left)) (at4 .hear .ensures) (c .before .before .why .given .1) (c .no-table .ensures)
 
 enum-told : tie.Need-enum-told Inv-sheet μ-sheet
 enum-told c = search needs
 
 add-line : tie.Need-add-line Inv-sheet μ-sheet
 add-line c =
-    let start = c .before .before .before .before .before .before in
-    let p = start .before .before .before .before .before in
-    let q = p .before .before in
-    omega (arith, laws.sum-le ((q .sheet .inv)) ((p .next-block .ensures .0)) ((p .next-block .ensures .1 .0)) ((start .if1 .left)), laws.next-within ((q .sheet .inv)) ((p .next-block .ensures .0)) ((p .next-block .ensures .1 .0)) ((start .if1 .left)), (q .sheet .inv .fits))
+    let at6 = c .before .before .before .before .before .before in
+    let at11 = at6 .before .before .before .before .before in
+    omega (arith, walk-meets (at11 .before .before .sheet .inv .walk) (at11 .next-block .ensures .0) (at11 .next-block .ensures .1 .0) (at6 .if1 .left) .few)
 
 sheet-less : tie.Need-sheet-less Inv-sheet μ-sheet
 sheet-less c =
-    let start = c .before .before .before .before .before .before .before .before .before .before .before in
-    laws.walks-less ((c .before .before .before .before .before .before .before .before .before .before .before .before .before .sheet .inv)) ((start .next-block .ensures .0)) ((start .next-block .ensures .1 .0)) ((c .before .before .before .before .before .before .if1 .left))
+    let at6 = c .before .before .before .before .before .before in
+    let at11 = at6 .before .before .before .before .before in
+    walk-meets (at11 .before .before .sheet .inv .walk) (at11 .next-block .ensures .0) (at11 .next-block .ensures .1 .0) (at6 .if1 .left) .less
 
 sheet-again : tie.Need-sheet-again Inv-sheet μ-sheet
 sheet-again c =
-    let start = c .before .before .before .before .before .before .before .before .before .before .before in
-    laws.walks-pass ((c .before .before .before .before .before .before .before .before .before .before .before .before .before .sheet .inv)) ((start .next-block .ensures .0)) ((start .next-block .ensures .1 .0)) ((c .before .before .before .before .before .before .if1 .left)) ((c .before .before .before .hear .ensures)) ((c .before .enum-told .given .1))
+    let at6 = c .before .before .before .before .before .before in
+    let at11 = at6 .before .before .before .before .before in
+    let w = at11 .before .before .sheet .inv in
+    laws.walks-pass w (walk-meets (w .walk) (at11 .next-block .ensures .0) (at11 .next-block .ensures .1 .0) (at6 .if1 .left)) (c .before .before .before .hear .ensures) (c .before .enum-told .given .1)
 
 enum-known-s : tie.Need-enum-known-s Inv-sheet μ-sheet
 enum-known-s c = search needs
@@ -93,20 +99,23 @@ put-requires c κs = search needs
 
 add-line-2 : tie.Need-add-line-2 Inv-sheet μ-sheet
 add-line-2 c =
-    let start = c .before .before .before .before .before .before .before .before in
-    let p = start .before .before .before .before .before in
-    let q = p .before .before in
-    omega (arith, laws.sum-le ((q .sheet .inv)) ((p .next-block .ensures .0)) ((p .next-block .ensures .1 .0)) ((start .if1 .left)), laws.next-within ((q .sheet .inv)) ((p .next-block .ensures .0)) ((p .next-block .ensures .1 .0)) ((start .if1 .left)), (q .sheet .inv .fits))
+    let at8 = c .before .before .before .before .before .before .before .before in
+    let at13 = at8 .before .before .before .before .before in
+    omega (arith, walk-meets (at13 .before .before .sheet .inv .walk) (at13 .next-block .ensures .0) (at13 .next-block .ensures .1 .0) (at8 .if1 .left) .few)
 
 sheet-less-2 : tie.Need-sheet-less-2 Inv-sheet μ-sheet
 sheet-less-2 c =
-    let start = c .before .before .before .before .before .before .before .before .before .before .before .before .before in
-    laws.walks-less ((c .before .before .before .before .before .before .before .before .before .before .before .before .before .before .before .sheet .inv)) ((start .next-block .ensures .0)) ((start .next-block .ensures .1 .0)) ((c .before .before .before .before .before .before .before .before .if1 .left))
+    let at8 = c .before .before .before .before .before .before .before .before in
+    let at13 = at8 .before .before .before .before .before in
+    walk-meets (at13 .before .before .sheet .inv .walk) (at13 .next-block .ensures .0) (at13 .next-block .ensures .1 .0) (at8 .if1 .left) .less
 
 sheet-again-2 : tie.Need-sheet-again-2 Inv-sheet μ-sheet
 sheet-again-2 c =
-    let start = c .before .before .before .before .before .before .before .before .before .before .before .before .before in
-    laws.walks-set ((c .before .before .before .before .before .before .before .before .before .before .before .before .before .before .before .sheet .inv)) ((start .next-block .ensures .0)) ((start .next-block .ensures .1 .0)) ((c .before .before .before .before .before .before .before .before .if1 .left)) ((c .before .before .before .before .before .hear .ensures)) ((c .before .before .before .s .given .1)) ((c .before .put .ensures))
+    let at8 = c .before .before .before .before .before .before .before .before in
+    let at13 = at8 .before .before .before .before .before in
+    let w = at13 .before .before .sheet .inv in
+    laws.walks-set w (walk-meets (w .walk) (at13 .next-block .ensures .0) (at13 .next-block .ensures .1 .0) (at8 .if1 .left)) (c .before .before .before .before .before .hear .ensures)
+    (c .before .before .before .s .given .1) (c .before .put .ensures)
 
 pub fill-table-spec : {M : Type 1} → statement M
 fill-table-spec =
