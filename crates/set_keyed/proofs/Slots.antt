@@ -10,7 +10,7 @@ use lib.Seq.{drop-cons, getD-take}
 use Rattle.set_table.specs.Types.{zeroRow, maxKeys, maxSlots}
 use Rattle.set_table.specs.declared.Row.{Row}
 use Rattle.set_table.specs.declared.Value.{Value}
-use Rattle.set_keyed.specs.Keyed.{firstBy}
+use Rattle.set_keyed.specs.Keyed.{orKeyed, firstBy}
 use Rattle.set_keyed.specs.declared.Keyed as keyed
 use Rattle.set_keyed.specs.declared.Keyed.the-variants.{Missing, Given}
 
@@ -32,32 +32,43 @@ unfolding firstBy
 first-map f g [] = refl
 first-map f g (x ∷ xs) = rw (first-map f g xs)
 
-pub record Seeks {A : Type 0} (f : A → keyed.Keyed) (xs : List A) (n k : ℕ) : Type 0 where
+-- k slots gave a
+pub record Seeks {A : Type 0} (f : A → keyed.Keyed) (xs : List A) (n k : ℕ) (a : keyed.Keyed) : Type 0 where
   pub long : length xs ≡ maxSlots
-  pub rest : firstBy f (drop k (take n xs)) ≡ firstBy f (take n xs)
+  pub rest : orKeyed a (firstBy f (drop k (take n xs))) ≡ firstBy f (take n xs)
 
-pub seeks-start : {A : Type 0} (f : A → keyed.Keyed) (xs : List A) (n : ℕ) → length xs ≡ maxSlots → Seeks f xs n 0
+pub seeks-start : {A : Type 0} (f : A → keyed.Keyed) (xs : List A) (n : ℕ) → length xs ≡ maxSlots → Seeks f xs n 0 Missing
 seeks-start f xs n l = record { long = l; rest = refl }
 
-module _ {A : Type 0} {f : A → keyed.Keyed} {xs : List A} {n k : ℕ} (inv : Seeks f xs n k) where
-  none : length (take n xs) ≤ k → Missing ≡ firstBy f (take n xs)
-  unfolding firstBy
-  none h = rw (drop-of-length-le (take n xs) {i = k} h) at (inv .rest)
+pub or-missing : (a : keyed.Keyed) → orKeyed a Missing ≡ a
+or-missing Missing = refl
+or-missing (Given v) = refl
 
-  pub seeks-end : n ≤ k → Missing ≡ firstBy f (take n xs)
+or-or : (a b c : keyed.Keyed) → orKeyed (orKeyed a b) c ≡ orKeyed a (orKeyed b c)
+or-or Missing b c = refl
+or-or (Given v) b c = refl
+
+module _ {A : Type 0} {f : A → keyed.Keyed} {xs : List A} {n k : ℕ} {a : keyed.Keyed} (inv : Seeks f xs n k a) where
+  none : length (take n xs) ≤ k → a ≡ firstBy f (take n xs)
+  unfolding firstBy
+  none h = rw (drop-of-length-le (take n xs) {i = k} h, or-missing a) at (inv .rest)
+
+  pub seeks-end : n ≤ k → a ≡ firstBy f (take n xs)
   seeks-end h = none (omega (arith, length-take n xs))
 
-  pub seeks-out : maxSlots ≤ k → Missing ≡ firstBy f (take n xs)
+  pub seeks-out : maxSlots ≤ k → a ≡ firstBy f (take n xs)
   seeks-out h = none (omega (arith, length-take n xs, inv .long))
 
   module _ (d : A) (h : k < maxSlots) (l : k < n) where
     next : drop k (take n xs) ≡ getD xs k d ∷ drop (suc k) (take n xs)
     next = rw (← getD-take n xs k d l) (drop-cons (take n xs) k d (omega (arith, length-take n xs, inv .long)))
 
-    pub seeks-stop : {v : Value} → f (getD xs k d) ≡ Given v → Given v ≡ firstBy f (take n xs)
+    pub seeks-go : {b : keyed.Keyed} → b ≡ orKeyed a (f (getD xs k d)) → Seeks f xs n (k + 1) b
     unfolding firstBy
-    seeks-stop e = rw (next, e) at (inv .rest)
+    seeks-go {b} e = record { long = inv .long; rest = rw (add-one, e, or-or a (f (getD xs k d))) (rw next at (inv .rest)) }
 
-    pub seeks-go : f (getD xs k d) ≡ Missing → Seeks f xs n (k + 1)
-    unfolding firstBy
-    seeks-go e = record { long = inv .long; rest = rw add-one (rw (next, e) at (inv .rest)) }
+-- a search stops where a slot gives a value
+pub seeks-stop : {A : Type 0} {f : A → keyed.Keyed} {xs : List A} {n k : ℕ} → Seeks f xs n k Missing → (d : A) → k < maxSlots → k < n → {v : Value} → f (getD xs k d) ≡ Given v
+    → Given v ≡ firstBy f (take n xs)
+unfolding firstBy
+seeks-stop inv d h l e = rw (next inv d h l, e) at (inv .rest)

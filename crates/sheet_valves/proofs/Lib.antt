@@ -2,3 +2,4 @@
 pub mod Cells
 pub mod Pairs
 pub mod Settings
+pub mod Keys

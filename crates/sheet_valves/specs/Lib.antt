@@ -2,3 +2,4 @@
 pub mod Tables
 pub mod Pairs
 pub mod Settings
+pub mod Inner

@@ -1,18 +1,23 @@
 // The dealers' table: which valve turns which wheel of which variant.
 use base_refusals::Refusal;
-use set_keyed::Keyed;
 use set_table::Attrs;
+use set_table::Name;
+use set_table::Slot;
 use set_table::Value;
 use text_digits::Decimal;
 ghost use mathlib.Core.Path.{_≡_};
 ghost use Rattle.sheet_valves.specs.Tables.{variants, maxValve, emptyTable, withSetting};
 ghost use Rattle.sheet_valves.specs.Pairs.{oneValve, repeats, firstPair};
-ghost use Rattle.sheet_valves.specs.Settings.{heardPaper, wheelOf, settingFrom, settingBy, settingOf, readSetting};
+ghost use Rattle.sheet_valves.specs.Settings.{heardPaper, wheelOf, settingFrom, settingOf, readSetting};
+ghost use Rattle.sheet_valves.specs.Inner.{keyNo, rowNo, IsFound};
+ghost use Rattle.sheet_valves.specs.declared.Heard.the-variants.{Nothing, Refused};
+ghost use Rattle.base_refusals.specs.declared.Refusal.the-variants.{BadSetting};
 ghost use mathlib.Core.List.{[], _∷_};
 ghost use Prim.Native.Nat.{_≤_};
-ghost use Rattle.set_table.specs.Types.{two, valueBytes};
+ghost use Rattle.set_table.specs.Types.{maxKeys, two, nameBytes, valueBytes};
 ghost use Rattle.set_table.specs.Rows.{meaningOf};
-ghost use Rattle.set_keyed.specs.Keyed.{valuesBy};
+ghost use mathlib.Core.Bool.{cond};
+ghost use lib.Dec.{ltb};
 
 // The greatest number that a valve may have.
 pub const MAX_VALVE: u64 = 255;
@@ -37,6 +42,13 @@ pub struct Setting {
     pub variant: u8,
     pub wheel: u8,
     pub valve: u8,
+}
+
+// The rows of the three keys of a set, each `Attrs::KEYS` where no slot has the key.
+struct KeyRows {
+    variant: usize,
+    wheel: usize,
+    valve: usize,
 }
 
 // What a block says: nothing of the three keys, why it is refused, or a setting.
@@ -208,36 +220,110 @@ fn read_setting<'a>(
     }
 }
 
-// What the three keys say, where the first is there.
-fn say_from<'a>(
-    first: &'a [u8],
-    second: &'a [u8],
-    variant: Value,
-    wheel: Keyed,
-    valve: Keyed,
-) -> Heard
-    ensures { λ r. ⌜ r ≡ settingBy (valueBytes (two (now (first .entry)) (now (second .entry))) variant ∷ []) (valuesBy (two (now (first .entry)) (now (second .entry))) wheel) (valuesBy (two (now (first .entry)) (now (second .entry))) valve) ⌝ }
+// Which of the three keys a name is, counted from 0; their count where it is none.
+fn key_no<'a>(first: &'a [u8], second: &'a [u8], name: Name) -> u8
+    ensures { λ r. ⌜ r ≡ keyNo (nameBytes (two (now (first .entry)) (now (second .entry))) name) ⌝ }
 {
-    match wheel {
-        Keyed::Missing => Heard::Refused(Refusal::BadSetting),
-        Keyed::Given(w) => match valve {
-            Keyed::Missing => Heard::Refused(Refusal::BadSetting),
-            Keyed::Given(x) => read_setting(first, second, variant, w, x),
-        },
+    if set_table::is_named(first, second, name, b"variant") {
+        return 0;
+    }
+    if set_table::is_named(first, second, name, b"wheel") {
+        return 1;
+    }
+    if set_table::is_named(first, second, name, b"valve") {
+        return 2;
+    }
+    3
+}
+
+// The row of a slot among the first n, or `Attrs::KEYS` where it has none.
+fn row_no(slot: Slot, n: usize) -> usize
+    ensures { λ r. ⌜ r ≡ rowNo n slot ⌝ }
+{
+    match slot {
+        Slot::Id => Attrs::KEYS,
+        Slot::Class => Attrs::KEYS,
+        Slot::Key(k) => {
+            let i = k as usize;
+            if i < n {
+                return i;
+            }
+            Attrs::KEYS
+        }
+    }
+}
+
+// The row that was found first.
+fn earlier(row: usize, next: usize) -> usize
+    ensures { λ r. ⌜ r ≡ cond (ltb row maxKeys) row next ⌝ }
+{
+    if row < Attrs::KEYS {
+        return row;
+    }
+    next
+}
+
+// The rows of the three keys, found in one walk over the slots. By value and each for itself they took longer: the set's arrays are copied for each call.
+fn key_rows<'a>(first: &'a [u8], second: &'a [u8], set: Attrs) -> KeyRows
+    ensures { λ r. ⌜ IsFound (two (now (first .entry)) (now (second .entry))) set r ⌝ }
+{
+    let mut variant = Attrs::KEYS;
+    let mut wheel = Attrs::KEYS;
+    let mut valve = Attrs::KEYS;
+    let mut k = 0;
+    'slots: loop {
+        if set.norder as usize <= k {
+            return KeyRows {
+                variant,
+                wheel,
+                valve,
+            };
+        }
+        if Attrs::SLOTS <= k {
+            return KeyRows {
+                variant,
+                wheel,
+                valve,
+            };
+        }
+        let p = set.order[k];
+        let s = p.slot;
+        let i = row_no(s, set.nkey as usize);
+        k += 1;
+        if Attrs::KEYS <= i {
+            continue 'slots;
+        }
+        let row = set.keys[i];
+        let name = row.name;
+        match key_no(first, second, name) {
+            0 => {
+                variant = earlier(variant, i);
+                continue 'slots;
+            }
+            1 => {
+                wheel = earlier(wheel, i);
+                continue 'slots;
+            }
+            2 => {
+                valve = earlier(valve, i);
+                continue 'slots;
+            }
+            _ => continue 'slots,
+        }
     }
 }
 
 // What the two other keys say, where the first isn't there.
-fn say_without<'a>(first: &'a [u8], second: &'a [u8], wheel: Keyed, valve: Keyed) -> Heard
-    ensures { λ r. ⌜ r ≡ settingBy [] (valuesBy (two (now (first .entry)) (now (second .entry))) wheel) (valuesBy (two (now (first .entry)) (now (second .entry))) valve) ⌝ }
+fn say_without(wheel: usize, valve: usize) -> Heard
+    ensures { λ r. ⌜ r ≡ cond (ltb wheel maxKeys) (Refused BadSetting) (cond (ltb valve maxKeys) (Refused BadSetting) Nothing) ⌝ }
 {
-    match wheel {
-        Keyed::Given(_) => Heard::Refused(Refusal::BadSetting),
-        Keyed::Missing => match valve {
-            Keyed::Given(_) => Heard::Refused(Refusal::BadSetting),
-            Keyed::Missing => Heard::Nothing,
-        },
+    if wheel < Attrs::KEYS {
+        return Heard::Refused(Refusal::BadSetting);
     }
+    if valve < Attrs::KEYS {
+        return Heard::Refused(Refusal::BadSetting);
+    }
+    Heard::Nothing
 }
 
 // What a block's set says of the table.
@@ -245,10 +331,21 @@ pub fn setting_of<'a>(first: &'a [u8], second: &'a [u8], set: Attrs) -> Heard
     ensures { λ r. ⌜ r ≡ settingOf (meaningOf (two (now (first .entry)) (now (second .entry))) set) ⌝ }
     ensures { λ r. ⌜ heardPaper r ≡ heardPaper (settingOf (meaningOf (two (now (first .entry)) (now (second .entry))) set)) ⌝ }
 {
-    let wheel = set_keyed::find(first, second, set, b"wheel");
-    let valve = set_keyed::find(first, second, set, b"valve");
-    match set_keyed::find(first, second, set, b"variant") {
-        Keyed::Missing => say_without(first, second, wheel, valve),
-        Keyed::Given(v) => say_from(first, second, v, wheel, valve),
+    let rows = key_rows(first, second, set);
+    let v = rows.variant;
+    let w = rows.wheel;
+    let x = rows.valve;
+    if Attrs::KEYS <= v {
+        return say_without(w, x);
     }
+    if Attrs::KEYS <= w {
+        return Heard::Refused(Refusal::BadSetting);
+    }
+    if Attrs::KEYS <= x {
+        return Heard::Refused(Refusal::BadSetting);
+    }
+    let variant = set.keys[v];
+    let wheel = set.keys[w];
+    let valve = set.keys[x];
+    read_setting(first, second, variant.value, wheel.value, valve.value)
 }

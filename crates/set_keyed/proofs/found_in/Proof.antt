@@ -7,12 +7,13 @@ use borrow.Author.Needs.{needs}
 use Rattle.set_table.specs.Types.{two, maxSlots, zeroSlot}
 use Rattle.set_table.specs.Rows.{slotIn}
 use Rattle.set_keyed.specs.Keyed.{slotFound, keyIn}
+use Rattle.set_keyed.specs.declared.Keyed.the-variants.{Missing}
 use Rattle.set_keyed.proofs.Slots as laws
 use Rattle.set_keyed.proofs.found_in.Statement.{statement}
 use Rattle.set_keyed.proofs.found_in.Tie as tie
 
 abbrev Inv-loop : tie.InvT-loop
-Inv-loop first second keys nkey name n order k₀ k = laws.Seeks (λ p. slotFound (two first second) (take nkey keys) name (slotIn p)) order n k
+Inv-loop first second keys nkey name n order k₀ k = laws.Seeks (λ p. slotFound (two first second) (take nkey keys) name (slotIn p)) order n k Missing
 
 abbrev μ-loop : tie.MeasureT-loop
 μ-loop first second keys nkey name n order k₀ k = maxSlots - k
@@ -50,7 +51,7 @@ loop-less : tie.Need-loop-less Inv-loop μ-loop
 loop-less c = omega arith
 
 loop-again : tie.Need-loop-again Inv-loop μ-loop
-loop-again c = laws.seeks-go ((c .before .before .before .before .before .before .loop .inv)) zeroSlot (omega arith) (omega arith) (sym ((c .before .before .slot-found .ensures)) ∙ (c .enum-told .given .1))
+loop-again c = laws.seeks-go ((c .before .before .before .before .before .before .loop .inv)) zeroSlot (omega arith) (omega arith) (sym (c .enum-told .given .1) ∙ (c .before .before .slot-found .ensures))
 
 returns-3 : tie.Need-returns-3 Inv-loop μ-loop
 unfolding keyIn

@@ -1,60 +1,67 @@
 use mathlib.Core.Path.{refl}
+use native.Mathlib.Omega.{arith}
 use Rattle.base_refusals.proofs.Said.{said}
 use Rattle.sheet_valves.specs.Settings.{heardPaper}
-use Rattle.sheet_valves.proofs.Settings as laws
+use Rattle.sheet_valves.proofs.Keys as laws
 use borrow.Author.Needs.{needs}
 use Rattle.sheet_valves.proofs.setting_of.Statement.{statement}
 use Rattle.sheet_valves.proofs.setting_of.Tie as tie
 
-slice-aggregate-find : tie.Need-slice-aggregate-find
-slice-aggregate-find c = search needs
-
-find-requires : tie.Need-find-requires
-find-requires c κs = search needs
-
-slice-aggregate-find-2 : tie.Need-slice-aggregate-find-2
-slice-aggregate-find-2 c = search needs
-
-find-requires-2 : tie.Need-find-requires-2
-find-requires-2 c κs = search needs
-
-slice-aggregate-find-3 : tie.Need-slice-aggregate-find-3
-slice-aggregate-find-3 c = search needs
-
-find-requires-3 : tie.Need-find-requires-3
-find-requires-3 c κs = search needs
-
-enum-told : tie.Need-enum-told
-enum-told c = search needs
+key-rows-requires : tie.Need-key-rows-requires
+key-rows-requires c κs = search needs
 
 say-without-requires : tie.Need-say-without-requires
 say-without-requires c κs = search needs
 
-enum-known-v : tie.Need-enum-known-v
-enum-known-v c = search needs
-
-say-from-requires : tie.Need-say-from-requires
-say-from-requires c κs = search needs
-
 returns : tie.Need-returns
-returns c = said heardPaper refl (rw (← laws.found, ← (c .before .before .before .before .before .before .before .find .ensures .0), ← (c .before .before .before .before .before .find2 .ensures .0), ← (c .before .before .before .find3 .ensures .0), (c .before .enum-told .given .1)) ((c .say-without .ensures)))
+returns c = said heardPaper refl (laws.rows-without (c .before .before .key-rows .ensures) (omega arith) (c .say-without .ensures))
 
 returns-2 : tie.Need-returns-2
-returns-2 c = said heardPaper refl (rw (← laws.found, ← (c .before .before .before .before .before .before .before .before .find .ensures .0), ← (c .before .before .before .before .before .before .find2 .ensures .0), ← (c .before .before .before .before .find3 .ensures .0), (c .before .before .v .given .1)) ((c .say-from .ensures)))
+returns-2 c = said heardPaper refl (laws.rows-no-wheel (c .before .before .key-rows .ensures) (omega arith) (omega arith))
+
+returns-3 : tie.Need-returns-3
+returns-3 c = said heardPaper refl (laws.rows-no-valve (c .before .before .before .key-rows .ensures) (omega arith) (omega arith) (omega arith))
+
+mul-variant : tie.Need-mul-variant
+mul-variant c = search needs
+
+element-copy-out-variant : tie.Need-element-copy-out-variant
+element-copy-out-variant c = search needs
+
+mul-wheel : tie.Need-mul-wheel
+mul-wheel c = search needs
+
+element-copy-out-wheel : tie.Need-element-copy-out-wheel
+element-copy-out-wheel c = search needs
+
+mul-valve : tie.Need-mul-valve
+mul-valve c = search needs
+
+element-copy-out-valve : tie.Need-element-copy-out-valve
+element-copy-out-valve c = search needs
+
+read-setting-requires : tie.Need-read-setting-requires
+read-setting-requires c κs = search needs
+
+returns-4 : tie.Need-returns-4
+returns-4 c =
+    let at7 = c .before .before .before .before .before .before .before in
+    said heardPaper refl (laws.rows-all (at7 .key-rows .ensures) (omega arith) (omega arith) (omega arith) (c .read-setting .ensures))
 
 pub setting-of-spec : {M : Type 1} → statement M
 setting-of-spec =
     tie.close
     (tie.spec
-    slice-aggregate-find
-    find-requires
-    slice-aggregate-find-2
-    find-requires-2
-    slice-aggregate-find-3
-    find-requires-3
-    enum-told
+    key-rows-requires
     say-without-requires
-    enum-known-v
-    say-from-requires
     returns
-    returns-2)
+    returns-2
+    returns-3
+    mul-variant
+    element-copy-out-variant
+    mul-wheel
+    element-copy-out-wheel
+    mul-valve
+    element-copy-out-valve
+    read-setting-requires
+    returns-4)
