@@ -20,7 +20,7 @@ fn cell_number(cell: Cell) -> u16
     let valve = cell.valve;
     match valve {
         Valve::Unfilled => 256,
-        Valve::Number(n) => n as u16,
+        Valve::Fitted(n) => n as u16,
     }
 }
 
@@ -39,7 +39,7 @@ fn lay_cells(table: Table, cells: &mut [u16])
 }
 
 // Lays the cells of an answer, which has none where it is a refusal.
-fn lay_table(answer: Variants, cells: &mut [u16]) -> u8
+fn hand_table(answer: Variants, cells: &mut [u16]) -> u8
     ensures { λ r. ⌜ r ≡ outcomeNo (answer .outcome) ⌝ }
     ensures { λ r. ⌜ now (cells .exit) ≡ cellsIn (now (cells .entry)) answer ⌝ }
 {
@@ -62,7 +62,7 @@ fn say_variants(answer: Variants, cells: &mut [u16], told: &mut [usize]) -> u8
     door_shared::tell(told, 0, answer.line);
     door_shared::tell(told, 1, answer.lines);
     door_shared::tell(told, 2, answer.variant);
-    lay_table(answer, cells)
+    hand_table(answer, cells)
 }
 
 // Lays the dealers' table of a sheet, variant by variant, in each front-left, front-right, rear-left, rear-right: a valve, or 256 where the cell is

@@ -12,7 +12,7 @@ use lib.Seq.{getD-set-same, getD-set-other}
 use Rattle.base_lists.proofs.More.{contra}
 use Rattle.base_lists.proofs.Scan.{both}
 use Rattle.sheet_valves.specs.Tables.{cellCount, unfilled, emptyTable, IsPlace, isPlace, cellPlace, valveAt, withSetting, filledWith}
-use Rattle.sheet_valves.specs.declared.Valve.the-variants.{Unfilled, Number}
+use Rattle.sheet_valves.specs.declared.Valve.the-variants.{Unfilled, Fitted}
 use Rattle.sheet_valves.specs.declared.Cell.{Cell}
 use Rattle.sheet_valves.specs.declared.Table.{Table}
 use Rattle.sheet_valves.specs.declared.Setting.{Setting}
@@ -24,7 +24,7 @@ step-long : (t : Table) (s : Setting) → length (withSetting t s .cells) ≡ le
 unfolding withSetting
 step-long t s = go (isPlace (s .variant) (s .wheel))
   where
-    go : (b : Bool) → length (cond b (record { cells = set (t .cells) (cellPlace (s .variant) (s .wheel)) (record { valve = Number (s .valve) }) }) t .cells) ≡ length (t .cells)
+    go : (b : Bool) → length (cond b (record { cells = set (t .cells) (cellPlace (s .variant) (s .wheel)) (record { valve = Fitted (s .valve) }) }) t .cells) ≡ length (t .cells)
     go true = length-set (t .cells) (cellPlace (s .variant) (s .wheel)) _
     go false = refl
 
@@ -36,7 +36,7 @@ pub table-long : (ss : List Setting) → length (filledWith ss .cells) ≡ cellC
 unfolding filledWith
 table-long ss = fold-long emptyTable ss ∙ length-replicate cellCount unfilled
 
-for-both : (v w : ℕ) (s : Setting) → isFor v w s ≡ true → (s .variant ≡ v) × (s .wheel ≡ w)
+pub for-both : (v w : ℕ) (s : Setting) → isFor v w s ≡ true → (s .variant ≡ v) × (s .wheel ≡ w)
 unfolding isFor
 for-both v w s e = let z = both (eqb (s .variant) v) (eqb (s .wheel) w) e in (eqb-true (s .variant) v (z .0), eqb-true (s .wheel) w (z .1))
 
@@ -53,12 +53,12 @@ module _ {v w : ℕ} (p : IsPlace v w) where
   inside = omega arith
 
   -- the cell of the setting
-  step-same : (t : Table) (s : Setting) → length (t .cells) ≡ cellCount → isFor v w s ≡ true → valveAt (withSetting t s) v w ≡ Number (s .valve)
+  step-same : (t : Table) (s : Setting) → length (t .cells) ≡ cellCount → isFor v w s ≡ true → valveAt (withSetting t s) v w ≡ Fitted (s .valve)
   unfolding valveAt withSetting
   step-same t s l e =
       let z = for-both v w s e in
       rw (z .0, z .1, place-yes p)
-      (ap (λ (c : Cell). c .valve) (getD-set-same (t .cells) (cellPlace v w) (record { valve = Number (s .valve) }) unfilled (omega (arith, inside))))
+      (ap (λ (c : Cell). c .valve) (getD-set-same (t .cells) (cellPlace v w) (record { valve = Fitted (s .valve) }) unfilled (omega (arith, inside))))
 
   -- any other cell
   step-other : (t : Table) (s : Setting) → isFor v w s ≡ false → valveAt (withSetting t s) v w ≡ valveAt t v w
@@ -66,7 +66,7 @@ module _ {v w : ℕ} (p : IsPlace v w) where
   step-other t s e = go (isPlace (s .variant) (s .wheel)) refl
     where
       go : (b : Bool) → isPlace (s .variant) (s .wheel) ≡ b
-          → getD (cond b (record { cells = set (t .cells) (cellPlace (s .variant) (s .wheel)) (record { valve = Number (s .valve) }) }) t .cells) (cellPlace v w) unfilled .valve
+          → getD (cond b (record { cells = set (t .cells) (cellPlace (s .variant) (s .wheel)) (record { valve = Fitted (s .valve) }) }) t .cells) (cellPlace v w) unfilled .valve
           ≡ getD (t .cells) (cellPlace v w) unfilled .valve
       go true q =
           let z = yes-place (s .variant) (s .wheel) q in
@@ -101,7 +101,7 @@ module _ {v w : ℕ} (p : IsPlace v w) where
   -- ---- "Later blocks override earlier ones of the same variant and wheel."
 
   -- the cell has the valve of the last setting for it
-  pub cell-last : {x : ℕ} {ss : List Setting} → LastFor v w x ss → valveAt (filledWith ss) v w ≡ Number x
+  pub cell-last : {x : ℕ} {ss : List Setting} → LastFor v w x ss → valveAt (filledWith ss) v w ≡ Fitted x
   unfolding filledWith
   cell-last {x} l =
       let s : Setting = record { variant = v; wheel = w; valve = x } in
@@ -133,22 +133,22 @@ module _ {v w : ℕ} (p : IsPlace v w) where
           is false r f = contra _ f q
 
   -- so what the cell has says which setting was the last for it
-  pub last-cell : {x : ℕ} (ss : List Setting) → valveAt (filledWith ss) v w ≡ Number x → LastFor v w x ss
+  pub last-cell : {x : ℕ} (ss : List Setting) → valveAt (filledWith ss) v w ≡ Fitted x → LastFor v w x ss
   last-cell {x} ss e = go (anyFor v w ss) refl
     where
       go : (b : Bool) → anyFor v w ss ≡ b → LastFor v w x ss
       go true q =
           let z = last-split ss q in
-          let f : Number (z .0) ≡ Number x = sym (cell-last (z .1)) ∙ e in
+          let f : Fitted (z .0) ≡ Fitted x = sym (cell-last (z .1)) ∙ e in
           let g : z .0 ≡ x = cc in
           rw g at (z .1)
-      go false q = let f : Unfilled ≡ Number x = sym (cell-none ss q) ∙ e in let g : _≡_ {A = ℕ} 0 1 = cc in absurd (omega arith)
+      go false q = let f : Unfilled ≡ Fitted x = sym (cell-none ss q) ∙ e in let g : _≡_ {A = ℕ} 0 1 = cc in absurd (omega arith)
 
   pub none-cell : (ss : List Setting) → valveAt (filledWith ss) v w ≡ Unfilled → anyFor v w ss ≡ false
   none-cell ss e = go (anyFor v w ss) refl
     where
       go : (b : Bool) → anyFor v w ss ≡ b → anyFor v w ss ≡ false
-      go true q = let z = last-split ss q in let f : Number (z .0) ≡ Unfilled = sym (cell-last (z .1)) ∙ e in let g : _≡_ {A = ℕ} 0 1 = cc in absurd (omega arith)
+      go true q = let z = last-split ss q in let f : Fitted (z .0) ≡ Unfilled = sym (cell-last (z .1)) ∙ e in let g : _≡_ {A = ℕ} 0 1 = cc in absurd (omega arith)
       go false q = q
 
   -- ---- "a block for one variant changes no other row"
@@ -159,16 +159,16 @@ module _ {v w : ℕ} (p : IsPlace v w) where
     not-it = rw (ne-eqb (s .variant) v other)
 
     -- of one step
-    pub row-stays : (t : Table) → valveAt (withSetting t s) v w ≡ valveAt t v w
-    row-stays t = step-other t s not-it
+    pub step-stays : (t : Table) → valveAt (withSetting t s) v w ≡ valveAt t v w
+    step-stays t = step-other t s not-it
 
     -- of a whole list of settings with one more, wherever it stands
-    pub row-without : (a b : List Setting) → valveAt (filledWith (a ++ (s ∷ b))) v w ≡ valveAt (filledWith (a ++ b)) v w
+    pub list-without : (a b : List Setting) → valveAt (filledWith (a ++ (s ∷ b))) v w ≡ valveAt (filledWith (a ++ b)) v w
     unfolding filledWith
-    row-without a b =
+    list-without a b =
         let t : Table = foldl withSetting emptyTable a in
         let l : length (t .cells) ≡ cellCount = fold-long emptyTable a ∙ length-replicate cellCount unfilled in
-        rw (foldl-append, foldl-append) (fold-same (withSetting t s) t (step-long t s ∙ l) l (row-stays t) b)
+        rw (foldl-append, foldl-append) (fold-same (withSetting t s) t (step-long t s ∙ l) l (step-stays t) b)
 
 -- ======== the theorems
 
@@ -181,8 +181,8 @@ unfilled-else v w p ss = (cell-none p ss, none-cell p ss)
 pub all-cells : AllCells
 all-cells = table-long
 
-pub row-keeps : RowStays
-row-keeps v w p = row-stays p
+pub row-stays : RowStays
+row-stays v w p = step-stays p
 
-pub row-among : RowWithout
-row-among v w p = row-without p
+pub row-without : RowWithout
+row-without v w p = list-without p

@@ -13,7 +13,7 @@ use Rattle.base_bytes.specs.Bytes.{isDigit, within}
 use Rattle.text_digits.specs.Decimal.{placesIn, places, decimal}
 use Rattle.text_digits.specs.Digits.{bounded, firstDigit, grown, digitsStep, digitsFrom, digitsOf, readOut, numberIn}
 use Rattle.text_digits.specs.declared.Digits as state
-use Rattle.text_digits.specs.declared.Digits.the-variants.{Nothing, Zero, Number, Bad}
+use Rattle.text_digits.specs.declared.Digits.the-variants.{NoDigit, Zero, Number, Bad}
 use Rattle.text_digits.specs.declared.Decimal.the-variants.{Is}
 use Rattle.text_digits.proofs.Decimals.{fewest, fewest-is, more}
 use Rattle.text_digits.proofs.Steps.{bounded-in, digit-range}
@@ -49,7 +49,7 @@ behind n d h l =
 
 -- what a state says of the bytes behind it
 Means : ℕ → List ℕ → state.Digits → Type 0
-Means most s Nothing = s ≡ []
+Means most s NoDigit = s ≡ []
 Means most s Zero = s ≡ decimal 0
 Means most s (Number n) = (s ≡ decimal n) × ((1 ≤ n) × (n ≤ most))
 Means most s Bad = Unit {0}
@@ -64,7 +64,7 @@ bounded-keeps most s n e h = go (leb n most) refl
 
 step-keeps : (most : ℕ) (s : List ℕ) (d : state.Digits) (b : ℕ) → Means most s d → Means most (s ++ (b ∷ [])) (digitsStep most d b)
 unfolding digitsStep firstDigit grown Means
-step-keeps most s Nothing b e = go (isDigit b) refl (eqb b 48) refl
+step-keeps most s NoDigit b e = go (isDigit b) refl (eqb b 48) refl
   where
     go : (x : Bool) → isDigit b ≡ x → (y : Bool) → eqb b 48 ≡ y → Means most (s ++ (b ∷ [])) (cond x (cond y Zero (bounded most (b - 48))) Bad)
     go true p true q = rw (e, eqb-true b 48 q) (sym (decimal-one 0 (omega arith)))
@@ -121,7 +121,7 @@ unfolding digitsOf digitsFrom digitsStep
 reads most zero n h l = rw (decimal-one n (omega arith)) (begins most n (omega arith) l)
 reads most (suc left) n h l = go (ltb n 10) refl (reads most left (n / 10))
   where
-    go : (x : Bool) → ltb n 10 ≡ x → (n / 10 ≤ left → n / 10 ≤ most → foldl (digitsStep most) Nothing (decimal (n / 10)) ≡ stateOf (n / 10)) → foldl (digitsStep most) Nothing (decimal n) ≡ stateOf n
+    go : (x : Bool) → ltb n 10 ≡ x → (n / 10 ≤ left → n / 10 ≤ most → foldl (digitsStep most) NoDigit (decimal (n / 10)) ≡ stateOf (n / 10)) → foldl (digitsStep most) NoDigit (decimal n) ≡ stateOf n
     go true q ih = rw (decimal-one n (ltb-true n 10 q)) (begins most n (ltb-true n 10 q) l)
     go false q ih =
         let f : 10 ≤ n = ltb-false n 10 q in
@@ -138,10 +138,10 @@ number-stateOf (suc n) = refl
 
 pub read-is : {most n : ℕ} {s : List ℕ} → numberIn most s ≡ Is n → IsNumber most s n
 unfolding numberIn digitsOf Means
-read-is {most} {n} {s} e = go (digitsFrom most Nothing s) (fold-keeps most [] Nothing s refl) e
+read-is {most} {n} {s} e = go (digitsFrom most NoDigit s) (fold-keeps most [] NoDigit s refl) e
   where
     go : (d : state.Digits) → Means most s d → readOut d ≡ Is n → IsNumber most s n
-    go Nothing m f = let g : _≡_ {A = ℕ} 0 1 = cc in absurd (omega arith)
+    go NoDigit m f = let g : _≡_ {A = ℕ} 0 1 = cc in absurd (omega arith)
     go Zero m f = let g : 0 ≡ n = cc in record { written = m ∙ ap decimal g; within = omega arith }
     go (Number k) m f = let g : k ≡ n = cc in record { written = m .0 ∙ ap decimal g; within = omega (arith, m .1 .1) }
     go Bad m f = let g : _≡_ {A = ℕ} 0 1 = cc in absurd (omega arith)

@@ -9,10 +9,10 @@ use borrow.Author.Tests.{eqb-true, eqb-false, eq-eqb, ltb-true, ltb-false}
 use lib.Dec.{eqb, ltb}
 use lib.ListN.{length, getD}
 use Rattle.base_lists.proofs.More.{contra, or-left, or-right}
-use Rattle.sheet_valves.specs.Tables.{variants, wheels, valveAt}
+use Rattle.sheet_valves.specs.Tables.{variantCount, wheels, valveAt}
 use Rattle.sheet_valves.specs.Pairs.{oneValve, among, repeats, rowOf, pairFrom, firstPair}
 use Rattle.sheet_valves.specs.declared.Valve.{Valve}
-use Rattle.sheet_valves.specs.declared.Valve.the-variants.{Unfilled, Number}
+use Rattle.sheet_valves.specs.declared.Valve.the-variants.{Unfilled, Fitted}
 use Rattle.sheet_valves.specs.declared.Table.{Table}
 use Rattle.proved_valves.specs.Pairs.{TwoWheels, FirstIs, FirstFound, PairFoundExactly}
 
@@ -24,23 +24,23 @@ record Twice (xs : List Valve) : Type 0 where
   valve : ℕ
   before : one < two
   within : two < length xs
-  at-one : getD xs one Unfilled ≡ Number valve
-  at-two : getD xs two Unfilled ≡ Number valve
+  at-one : getD xs one Unfilled ≡ Fitted valve
+  at-two : getD xs two Unfilled ≡ Fitted valve
 
 record Later (x : Valve) (ys : List Valve) : Type 0 where
   two : ℕ
   valve : ℕ
   within : two < length ys
-  is : x ≡ Number valve
-  at-two : getD ys two Unfilled ≡ Number valve
+  is : x ≡ Fitted valve
+  at-two : getD ys two Unfilled ≡ Fitted valve
 
-one-both : (x y : Valve) → oneValve x y ≡ true → (n : ℕ) × ((x ≡ Number n) × (y ≡ Number n))
+one-both : (x y : Valve) → oneValve x y ≡ true → (n : ℕ) × ((x ≡ Fitted n) × (y ≡ Fitted n))
 unfolding oneValve
 one-both Unfilled y e = contra false e refl
-one-both (Number a) Unfilled e = contra false e refl
-one-both (Number a) (Number b) e = (a, (refl, ap Number (sym (eqb-true a b e))))
+one-both (Fitted a) Unfilled e = contra false e refl
+one-both (Fitted a) (Fitted b) e = (a, (refl, ap Fitted (sym (eqb-true a b e))))
 
-one-of : (n : ℕ) → oneValve (Number n) (Number n) ≡ true
+one-of : (n : ℕ) → oneValve (Fitted n) (Fitted n) ≡ true
 unfolding oneValve
 one-of n = eq-eqb n n refl
 
@@ -53,11 +53,11 @@ later x (y ∷ ys) e = go (oneValve x y) refl e (later x ys)
     go true q f ih = let z = one-both x y q in record { two = 0; valve = z .0; within = omega arith; is = z .1 .0; at-two = z .1 .1 }
     go false q f ih = let z = ih f in record { two = suc (z .two); valve = z .valve; within = omega (arith, z .within); is = z .is; at-two = z .at-two }
 
-found : (n : ℕ) (ys : List Valve) (j : ℕ) → j < length ys → getD ys j Unfilled ≡ Number n → among (Number n) ys ≡ true
+found : (n : ℕ) (ys : List Valve) (j : ℕ) → j < length ys → getD ys j Unfilled ≡ Fitted n → among (Fitted n) ys ≡ true
 unfolding among
 found n [] j h e = absurd (omega arith)
-found n (y ∷ ys) zero h e = or-left _ _ (ap (oneValve (Number n)) e ∙ one-of n)
-found n (y ∷ ys) (suc j) h e = or-right (oneValve (Number n) y) (among (Number n) ys) (found n ys j (omega arith) e)
+found n (y ∷ ys) zero h e = or-left _ _ (ap (oneValve (Fitted n)) e ∙ one-of n)
+found n (y ∷ ys) (suc j) h e = or-right (oneValve (Fitted n) y) (among (Fitted n) ys) (found n ys j (omega arith) e)
 
 repeats-twice : (xs : List Valve) → repeats xs ≡ true → Twice xs
 unfolding repeats
@@ -72,7 +72,7 @@ repeats-twice (x ∷ xs) e = go (among x xs) refl e (repeats-twice xs)
         let z = ih f in
         record { one = suc (z .one); two = suc (z .two); valve = z .valve; before = omega (arith, z .before); within = omega (arith, z .within); at-one = z .at-one; at-two = z .at-two }
 
-twice-repeats : (n : ℕ) (xs : List Valve) (i j : ℕ) → (i ≡ j → ⊥) → i < length xs → j < length xs → getD xs i Unfilled ≡ Number n → getD xs j Unfilled ≡ Number n → repeats xs ≡ true
+twice-repeats : (n : ℕ) (xs : List Valve) (i j : ℕ) → (i ≡ j → ⊥) → i < length xs → j < length xs → getD xs i Unfilled ≡ Fitted n → getD xs j Unfilled ≡ Fitted n → repeats xs ≡ true
 unfolding repeats
 twice-repeats n [] i j d h k e f = absurd (omega arith)
 twice-repeats n (x ∷ xs) zero zero d h k e f = absurd (d refl)
@@ -147,9 +147,9 @@ first t v (suc n) = go (repeats (rowOf t v)) refl (first t (suc v) n)
 
 pub first-is : (t : Table) → FirstIs t (firstPair t)
 unfolding firstPair
-first-is t = go (first t 1 variants)
+first-is t = go (first t 1 variantCount)
   where
-    go : {r : ℕ} → First t 1 variants r → FirstIs t r
+    go : {r : ℕ} → First t 1 variantCount r → FirstIs t r
     go (First.none f) = FirstIs.none (λ v h k p. f v h (omega arith) p)
     go (First.at h k p f) = FirstIs.at h (omega arith) p f
 
@@ -171,17 +171,17 @@ first-only {t} a = go a (first-is t)
     go {r} {q} (FirstIs.at h k p f) (FirstIs.at i j y g) = lower r q (λ l. g _ h l p) (λ l. f _ i l y)
 
 -- the answer isn't 0 exactly when there is a variant with a pair
-pub pair-found : {t : Table} {v : ℕ} → 1 ≤ v → v ≤ variants → TwoWheels t v → firstPair t ≡ 0 → ⊥
+pub pair-found : {t : Table} {v : ℕ} → 1 ≤ v → v ≤ variantCount → TwoWheels t v → firstPair t ≡ 0 → ⊥
 pair-found {t} {v} h k p e = go (firstPair t) e (first-is t)
   where
     go : (r : ℕ) → r ≡ 0 → FirstIs t r → ⊥
     go r e (FirstIs.none f) = f v h k p
     go r e (FirstIs.at i j q g) = omega arith
 
-pub found-pair : {t : Table} → (firstPair t ≡ 0 → ⊥) → (v : ℕ) × ((1 ≤ v) × ((v ≤ variants) × TwoWheels t v))
+pub found-pair : {t : Table} → (firstPair t ≡ 0 → ⊥) → (v : ℕ) × ((1 ≤ v) × ((v ≤ variantCount) × TwoWheels t v))
 found-pair {t} n = go (firstPair t) n (first-is t)
   where
-    go : (r : ℕ) → (r ≡ 0 → ⊥) → FirstIs t r → (v : ℕ) × ((1 ≤ v) × ((v ≤ variants) × TwoWheels t v))
+    go : (r : ℕ) → (r ≡ 0 → ⊥) → FirstIs t r → (v : ℕ) × ((1 ≤ v) × ((v ≤ variantCount) × TwoWheels t v))
     go r n (FirstIs.none f) = absurd (n refl)
     go r n (FirstIs.at i j q g) = (r, (i, (j, q)))
 
@@ -190,5 +190,5 @@ found-pair {t} n = go (firstPair t) n (first-is t)
 pub first-found : FirstFound
 first-found t r = (λ e. rw e (first-is t), first-only)
 
-pub found-exactly : PairFoundExactly
-found-exactly t = (λ p. pair-found (p .1 .0) (p .1 .1 .0) (p .1 .1 .1), found-pair)
+pub pair-found-exactly : PairFoundExactly
+pair-found-exactly t = (λ p. pair-found (p .1 .0) (p .1 .1 .0) (p .1 .1 .1), found-pair)

@@ -28,11 +28,11 @@ use Rattle.set_keyed.specs.Keyed.{valuesBy, keyFound}
 use Rattle.set_keyed.specs.declared.Keyed as keys
 use Rattle.set_keyed.specs.declared.Keyed.the-variants.{Missing, Given}
 use Rattle.set_keyed.proofs.Means.{key-means}
-use Rattle.sheet_valves.specs.Tables.{variants, wheels, maxValve, IsPlace, isPlace}
+use Rattle.sheet_valves.specs.Tables.{variantCount, wheels, maxValve, IsPlace, isPlace}
 use Rattle.sheet_valves.specs.Settings.{variantName, wheelName, valveName, frontLeft, frontRight, rearLeft, rearRight, wheelOf, settingFrom, settledBy, readSetting, settingBy, settingOf}
 use Rattle.sheet_valves.specs.declared.Setting.{Setting}
 use Rattle.sheet_valves.specs.declared.Heard as heards
-use Rattle.sheet_valves.specs.declared.Heard.the-variants.{Nothing, Refused, Set}
+use Rattle.sheet_valves.specs.declared.Heard.the-variants.{NoKey, Refused, Set}
 use Rattle.sheet_valves.proofs.Cells.{yes-place}
 use Rattle.sheet_valves.proofs.Settings.{settled-in, only-bad}
 use Rattle.sheet_valves.proofs.Settings as settings
@@ -67,7 +67,7 @@ name-wheel (suc (suc (suc (suc w)))) h = absurd (omega arith)
 pub counts-set : {m : List Entry} {s : Setting} → Counts m s → settingOf m ≡ Set s
 unfolding settingOf settingBy readSetting
 counts-set {m} {s} p =
-    rw (p .variant-key, p .wheel-key, p .valve-key, name-wheel (s .wheel) (p .place .wheel), is-read {most = variants} {n = s .variant} (record { written = refl; within = p .place .last }), is-read {most = maxValve} {n = s .valve} (record { written = refl; within = p .valve-range }))
+    rw (p .variant-key, p .wheel-key, p .valve-key, name-wheel (s .wheel) (p .place .wheel), is-read {most = variantCount} {n = s .variant} (record { written = refl; within = p .place .last }), is-read {most = maxValve} {n = s .valve} (record { written = refl; within = p .valve-range }))
     (sym (settled-in (s .variant) (s .wheel) (s .valve) (p .place)))
 
 -- and what is read counts, of any table
@@ -80,16 +80,16 @@ record Three (v w x : List ℕ) (s : Setting) : Type 0 where
 
 read-three : (v w x : List ℕ) (s : Setting) → readSetting v w x ≡ Set s → Three v w x s
 unfolding readSetting settingFrom
-read-three v w x s e = go (numberIn variants v) refl (numberIn maxValve x) refl e
+read-three v w x s e = go (numberIn variantCount v) refl (numberIn maxValve x) refl e
   where
-    here : (k n : ℕ) → numberIn variants v ≡ Is k → numberIn maxValve x ≡ Is n → (b : Bool) → isPlace k (wheelOf w) ≡ b → cond b (Set (record { variant = k; wheel = wheelOf w; valve = n })) (Refused BadSetting) ≡ Set s → Three v w x s
+    here : (k n : ℕ) → numberIn variantCount v ≡ Is k → numberIn maxValve x ≡ Is n → (b : Bool) → isPlace k (wheelOf w) ≡ b → cond b (Set (record { variant = k; wheel = wheelOf w; valve = n })) (Refused BadSetting) ≡ Set s → Three v w x s
     here k n p q true y f =
         let z : record { variant = k; wheel = wheelOf w; valve = n } ≡ s = cc in
         let i = yes-place k (wheelOf w) y in
         rw (← z) (record { place = i; range = read-is q .within; variant-is = read-is p .written; wheel-is = wheel-name w (i .wheel); valve-is = read-is q .written })
     here k n p q false y f = let z : _≡_ {A = ℕ} 0 1 = cc in absurd (omega arith)
 
-    go : (a : decimals.Decimal) → numberIn variants v ≡ a → (c : decimals.Decimal) → numberIn maxValve x ≡ c → settledBy a (wheelOf w) c ≡ Set s → Three v w x s
+    go : (a : decimals.Decimal) → numberIn variantCount v ≡ a → (c : decimals.Decimal) → numberIn maxValve x ≡ c → settledBy a (wheelOf w) c ≡ Set s → Three v w x s
     go None p c q f = let z : _≡_ {A = ℕ} 0 1 = cc in absurd (omega arith)
     go (Is k) p None q f = let z : _≡_ {A = ℕ} 0 1 = cc in absurd (omega arith)
     go (Is k) p (Is n) q f = here k n p q (isPlace k (wheelOf w)) refl f
@@ -118,30 +118,30 @@ set-counts t a {s} e =
     by-three t (meaningOf t a) s (keyFound t a variantName) (keyFound t a wheelName) (keyFound t a valveName) (key-means t a variantName refl) (key-means t a wheelName refl) (key-means t a valveName refl) (settings.found t a ∙ e)
 
 -- a block is passed over exactly if it has none of the three keys
-pub silent-nothing : {m : List Entry} → Silent m → settingOf m ≡ Nothing
+pub silent-nothing : {m : List Entry} → Silent m → settingOf m ≡ NoKey
 unfolding settingOf settingBy
 silent-nothing p = rw (p .no-variant, p .no-wheel, p .no-valve)
 
-pub nothing-silent : (m : List Entry) → settingOf m ≡ Nothing → Silent m
+pub nothing-silent : (m : List Entry) → settingOf m ≡ NoKey → Silent m
 unfolding settingOf settingBy readSetting settingFrom
 nothing-silent m e = go (lookup variantName m) refl (lookup wheelName m) refl (lookup valveName m) refl e
   where
-    no : (b : Bool) (s : Setting) → cond b (Set s) (Refused BadSetting) ≡ Nothing → Silent m
+    no : (b : Bool) (s : Setting) → cond b (Set s) (Refused BadSetting) ≡ NoKey → Silent m
     no true s f = let z : _≡_ {A = ℕ} 0 1 = cc in absurd (omega arith)
     no false s f = let z : _≡_ {A = ℕ} 0 1 = cc in absurd (omega arith)
 
-    never : (a : decimals.Decimal) (w : ℕ) (c : decimals.Decimal) → settledBy a w c ≡ Nothing → Silent m
+    never : (a : decimals.Decimal) (w : ℕ) (c : decimals.Decimal) → settledBy a w c ≡ NoKey → Silent m
     never None w c f = let z : _≡_ {A = ℕ} 0 1 = cc in absurd (omega arith)
     never (Is v) w None f = let z : _≡_ {A = ℕ} 0 1 = cc in absurd (omega arith)
     never (Is v) w (Is x) f = no (isPlace v w) (record { variant = v; wheel = w; valve = x }) f
 
-    go : (a : List (List ℕ)) → lookup variantName m ≡ a → (b : List (List ℕ)) → lookup wheelName m ≡ b → (c : List (List ℕ)) → lookup valveName m ≡ c → settingBy a b c ≡ Nothing → Silent m
+    go : (a : List (List ℕ)) → lookup variantName m ≡ a → (b : List (List ℕ)) → lookup wheelName m ≡ b → (c : List (List ℕ)) → lookup valveName m ≡ c → settingBy a b c ≡ NoKey → Silent m
     go [] p [] q [] r f = record { no-variant = p; no-wheel = q; no-valve = r }
     go [] p [] q (x ∷ xs) r f = let z : _≡_ {A = ℕ} 0 1 = cc in absurd (omega arith)
     go [] p (w ∷ ws) q c r f = let z : _≡_ {A = ℕ} 0 1 = cc in absurd (omega arith)
     go (v ∷ vs) p [] q c r f = let z : _≡_ {A = ℕ} 0 1 = cc in absurd (omega arith)
     go (v ∷ vs) p (w ∷ ws) q [] r f = let z : _≡_ {A = ℕ} 0 1 = cc in absurd (omega arith)
-    go (v ∷ vs) p (w ∷ ws) q (x ∷ xs) r f = never (numberIn variants v) (wheelOf w) (numberIn maxValve x) f
+    go (v ∷ vs) p (w ∷ ws) q (x ∷ xs) r f = never (numberIn variantCount v) (wheelOf w) (numberIn maxValve x) f
 
 -- ======== the theorems
 
@@ -155,7 +155,7 @@ pub refused-else : RefusedElse
 refused-else t a n c = go (settingOf (meaningOf t a)) refl
   where
     go : (h : heards.Heard) → settingOf (meaningOf t a) ≡ h → settingOf (meaningOf t a) ≡ Refused BadSetting
-    go Nothing e = absurd (n (nothing-silent (meaningOf t a) e))
+    go NoKey e = absurd (n (nothing-silent (meaningOf t a) e))
     go (Refused r) e = e ∙ ap Refused (only-bad (meaningOf t a) e)
     go (Set s) e = absurd (c s (set-counts t a e))
 

@@ -27,10 +27,12 @@ use Rattle.set_table.specs.declared.Attrs.{Attrs}
 use Rattle.read_blocks.specs.Blocks.{textsIn, filledFound, blockOf}
 use Rattle.read_lengths.specs.Lengths.{flushLeft}
 use Rattle.sheet_blocks.specs.Sheets.{Try, isBlock, blocksOf}
-use Rattle.sheet_valves.specs.Tables.{maxValve, emptyTable, withSetting, filledWith}
+use Rattle.sheet_valves.specs.Tables.{maxValve, emptyTable, valveAt, withSetting, filledWith}
 use Rattle.sheet_valves.specs.Settings.{settingOf}
 use Rattle.sheet_valves.specs.Pairs.{firstPair}
 use Rattle.sheet_valves.specs.declared.Table.{Table}
+use Rattle.sheet_valves.specs.declared.Valve.the-variants.{Unfilled, Fitted}
+use Rattle.sheet_valves.specs.declared.Setting.{Setting}
 use Rattle.sheet_valves.specs.declared.Heard as heards
 use Rattle.sheet_valves.specs.declared.Heard.the-variants as hear
 use Rattle.sheet_valves.proofs.Settings.{only-bad}
@@ -39,9 +41,10 @@ use Rattle.proved_sheets.specs.Order.{InOrder}
 use Rattle.proved_sheets.specs.Blocks.{isLimited}
 use Rattle.proved_sheets.proofs.Order.{sheet-in-order}
 use Rattle.proved_sheets.proofs.Answers.{block-limited}
-use Rattle.proved_valves.specs.Sheets.{NothingElse, PairExactly, FirstNamed, HandedWhole, NoneRefused, InRange, OtherRowsStay, PassedChangesNone}
-use Rattle.proved_valves.proofs.Cells.{last-counts, row-among}
-use Rattle.proved_valves.proofs.Pairs.{first-is, found-exactly}
+use Rattle.proved_valves.specs.Sheets.{NothingElse, PairExactly, FirstNamed, HandedWhole, NoneRefused, LastBlock, LastBlockCounts, NoBlockUnfilled, InRange, OtherRowsStay, PassedChangesNone}
+use Rattle.proved_valves.specs.Cells.{isFor, anyFor, LastFor}
+use Rattle.proved_valves.proofs.Cells.{for-both, cell-last, cell-none, last-counts, unfilled-else, row-without}
+use Rattle.proved_valves.proofs.Pairs.{first-is, pair-found-exactly}
 use Rattle.proved_valves.proofs.Settings.{set-counts}
 
 -- ---- where no block is refused
@@ -55,7 +58,7 @@ from t (x ∷ xs) u e = go (heard t x) e (from t xs)
         → ((y : Table) → all (λ x. not (isStop (heard t x))) xs ≡ true → variantsFrom t y xs ≡ wholeTable (foldl withSetting y (settingsOf t xs)))
         → heardThen x h u (λ y. variantsFrom t y xs) ≡ wholeTable (foldl withSetting u (settingIn h ++ settingsOf t xs))
     go (hear.Refused r) f ih = contra false f refl
-    go hear.Nothing f ih = ih u f
+    go hear.NoKey f ih = ih u f
     go (hear.Set s) f ih = ih (withSetting u s) f
 
 whole : {t : List ℕ} {cap : ℕ} → NothingElse t cap → variantsOf t cap ≡ wholeTable (sheetTable t)
@@ -114,7 +117,7 @@ module _ (t : List ℕ) (k : length t ≤ maxText) where
           → ((y : Table) → variantsFrom t y xs .outcome ≡ Refused SharedValve → all (λ x. not (isStop (heard t x))) xs ≡ true)
           → (not (isStop h) && all (λ x. not (isStop (heard t x))) xs) ≡ true
       go (hear.Refused r) q f ih = let z : r ≡ SharedValve = cc in absurd (not-shared x (i .0 .found) (i .0 .is) (q ∙ ap hear.Refused z))
-      go hear.Nothing q f ih = ih u f
+      go hear.NoKey q f ih = ih u f
       go (hear.Set s) q f ih = ih (withSetting u s) f
 
 -- ---- nothing else is refused where a table is handed out, or 21 is told
@@ -127,7 +130,7 @@ from-passed t (x ∷ xs) u e = go (heard t x) e (from-passed t xs)
     go : (h : heards.Heard) → heardThen x h u (λ y. variantsFrom t y xs) .outcome ≡ Passed → ((y : Table) → variantsFrom t y xs .outcome ≡ Passed → all (λ x. not (isStop (heard t x))) xs ≡ true)
         → (not (isStop h) && all (λ x. not (isStop (heard t x))) xs) ≡ true
     go (hear.Refused r) f ih = let z : _≡_ {A = ℕ} 0 1 = cc in absurd (omega arith)
-    go hear.Nothing f ih = ih u f
+    go hear.NoKey f ih = ih u f
     go (hear.Set s) f ih = ih (withSetting u s) f
 
 nothing-else : (t : List ℕ) (cap : ℕ) (o : outcomes.Outcome) → (o ≡ Refused JoinFull → ⊥) → ((r : Refusal) → checkOf t ≡ Refused r → o ≡ Refused r → ⊥)
@@ -158,21 +161,26 @@ pub pair-exactly : PairExactly
 unfolding wholeTable
 pair-exactly t cap =
     let u : Table = sheetTable t in (
-      λ e. let n = shared-else t cap e in (n, found-exactly u .1 (pair-told u (firstPair u) (ap (λ r. r .outcome) (sym (whole n)) ∙ e))),
-      λ n p. ap (λ r. r .outcome) (whole n) ∙ told-pair u (firstPair u) (found-exactly u .0 p),
+      λ e. let n = shared-else t cap e in (n, pair-found-exactly u .1 (pair-told u (firstPair u) (ap (λ r. r .outcome) (sym (whole n)) ∙ e))),
+      λ n p. ap (λ r. r .outcome) (whole n) ∙ told-pair u (firstPair u) (pair-found-exactly u .0 p),
     )
 
 passed-told : (u : Table) (v : ℕ) → wholeBy u v .outcome ≡ Passed → (v ≡ 0) × (wholeBy u v .table ≡ u)
 passed-told u zero e = (refl, refl)
 passed-told u (suc v) e = let z : _≡_ {A = ℕ} 0 1 = cc in absurd (omega arith)
 
+told-passed : (u : Table) (v : ℕ) → ((v ≡ 0 → ⊥) → ⊥) → wholeBy u v .outcome ≡ Passed
+told-passed u zero n = refl
+told-passed u (suc v) n = absurd (n (λ z. omega arith))
+
 pub handed-whole : HandedWhole
 unfolding wholeTable
-handed-whole t cap e =
-    let n = nothing-else t cap Passed (λ f. let z : _≡_ {A = ℕ} 0 1 = cc in omega arith) (λ r f g. let z : _≡_ {A = ℕ} 0 1 = cc in omega arith) (λ k. from-passed t (blocksOf t) emptyTable) e in
-    let u : Table = sheetTable t in
-    let z = passed-told u (firstPair u) (ap (λ r. r .outcome) (sym (whole n)) ∙ e) in
-    record { else = n; is = ap (λ r. r .table) (whole n) ∙ z .1; none = λ p. found-exactly u .0 p (z .0) }
+handed-whole t cap =
+    let u : Table = sheetTable t in (
+      λ e. let n = nothing-else t cap Passed (λ f. let z : _≡_ {A = ℕ} 0 1 = cc in omega arith) (λ r f g. let z : _≡_ {A = ℕ} 0 1 = cc in omega arith) (λ k. from-passed t (blocksOf t) emptyTable) e in let z = passed-told u (firstPair u) (ap (λ r. r .outcome) (sym (whole n)) ∙ e) in
+          record { else = n; is = ap (λ r. r .table) (whole n) ∙ z .1; none = λ p. pair-found-exactly u .0 p (z .0) },
+      λ n h. ap (λ r. r .outcome) (whole n) ∙ told-passed u (firstPair u) (λ f. h (pair-found-exactly u .1 f)),
+    )
 
 -- ---- "A refusal hands out no table."
 
@@ -189,7 +197,7 @@ from-none t (x ∷ xs) u r e = go (heard t x) e (from-none t xs)
         → ((y : Table) (q : Refusal) → variantsFrom t y xs .outcome ≡ Refused q → variantsFrom t y xs .table ≡ emptyTable)
         → heardThen x h u (λ y. variantsFrom t y xs) .table ≡ emptyTable
     go (hear.Refused q) f ih = refl
-    go hear.Nothing f ih = ih u r f
+    go hear.NoKey f ih = ih u r f
     go (hear.Set s) f ih = ih (withSetting u s) r f
 
 pub none-refused : NoneRefused
@@ -200,6 +208,55 @@ none-refused t cap r e = go (checkOf t) (ltb cap maxText) refl e
     go (Refused q) b p f = refl
     go Passed true p f = rw p
     go Passed false p f = rw p (from-none t (blocksOf t) emptyTable r (rw p at f))
+
+-- ---- the last block counts
+
+module _ (t : List ℕ) (v w : ℕ) where
+  last-of : (xs : List Try) {x : ℕ} → LastBlock t xs v w x → LastFor v w x (settingsOf t xs)
+  unfolding settingsOf flatMap
+  last-of xs l =
+      record {
+        before = settingsOf t (l .before);
+        behind = settingsOf t (l .behind);
+        split = rw (l .split, flat-append (λ x. settingIn (heard t x)) (l .before) (l .block ∷ l .behind), l .says);
+        none = l .none;
+      }
+
+  last-there : (xs : List Try) → anyFor v w (settingsOf t xs) ≡ true → (x : ℕ) × LastBlock t xs v w x
+  unfolding settingsOf flatMap anyFor
+  last-there [] e = contra false e refl
+  last-there (y ∷ ys) e = go (anyFor v w (settingsOf t ys)) refl (last-there ys)
+    where
+      is : (s : Setting) (b : Bool) → isFor v w s ≡ b → cond b true (anyFor v w (settingsOf t ys)) ≡ true → anyFor v w (settingsOf t ys) ≡ false → s ≡ record { variant = v; wheel = w; valve = s .valve }
+      is s true r f q = let z = for-both v w s r in rw (← z .0, ← z .1)
+      is s false r f q = contra _ f q
+
+      here : (h : heards.Heard) → heard t y ≡ h → anyFor v w (settingIn h ++ settingsOf t ys) ≡ true → anyFor v w (settingsOf t ys) ≡ false → (x : ℕ) × LastBlock t (y ∷ ys) v w x
+      here (hear.Refused r) k f q = contra _ f q
+      here hear.NoKey k f q = contra _ f q
+      here (hear.Set s) k f q = (s .valve, record { before = []; block = y; behind = ys; split = refl; says = k ∙ ap hear.Set (is s (isFor v w s) refl f q); none = q })
+
+      go : (b : Bool) → anyFor v w (settingsOf t ys) ≡ b → (anyFor v w (settingsOf t ys) ≡ true → (x : ℕ) × LastBlock t ys v w x) → (x : ℕ) × LastBlock t (y ∷ ys) v w x
+      go true q ih =
+          let z = ih q in
+          (z .0, record { before = y ∷ z .1 .before; block = z .1 .block; behind = z .1 .behind; split = ap (λ (l : List Try). y ∷ l) (z .1 .split); says = z .1 .says; none = z .1 .none })
+      go false q ih = here (heard t y) refl e q
+
+pub last-block-counts : LastBlockCounts
+unfolding sheetTable
+last-block-counts t v w p x = (λ l. cell-last p (last-of t v w (blocksOf t) l), λ e. go (anyFor v w (settingsOf t (blocksOf t))) refl e)
+  where
+    go : (b : Bool) → anyFor v w (settingsOf t (blocksOf t)) ≡ b → valveAt (filledWith (settingsOf t (blocksOf t))) v w ≡ Fitted x → LastBlock t (blocksOf t) v w x
+    go true q e =
+        let z = last-there t v w (blocksOf t) q in
+        let f : Fitted (z .0) ≡ Fitted x = sym (cell-last p (last-of t v w (blocksOf t) (z .1))) ∙ e in
+        let g : z .0 ≡ x = cc in
+        rw g at (z .1)
+    go false q e = let f : Unfilled ≡ Fitted x = sym (cell-none p (settingsOf t (blocksOf t)) q) ∙ e in let g : _≡_ {A = ℕ} 0 1 = cc in absurd (omega arith)
+
+pub no-block-unfilled : NoBlockUnfilled
+unfolding sheetTable
+no-block-unfilled t v w p = unfilled-else v w p (settingsOf t (blocksOf t))
 
 -- ---- a cell that is filled is in its range
 
@@ -221,7 +278,7 @@ ranged t (x ∷ xs) = all-append (λ s. leb (s .valve) maxValve) (settingIn (hea
 
     by-setting : (h : heards.Heard) → settingOf (meaningOf T a) ≡ h → all (λ s. leb (s .valve) maxValve) (settingIn h) ≡ true
     by-setting (hear.Refused r) e = refl
-    by-setting hear.Nothing e = refl
+    by-setting hear.NoKey e = refl
     by-setting (hear.Set s) e = rw (le-leb (s .valve) maxValve (set-counts T a e .valve-range))
 
     by-outcome : (o : outcomes.Outcome) → all (λ s. leb (s .valve) maxValve) (settingIn (heardBy T a o)) ≡ true
@@ -241,9 +298,9 @@ pub other-rows-stay : OtherRowsStay
 unfolding sheetTable flatMap
 other-rows-stay t u s m v w p n =
     rw (by-heard t (blocksOf t), by-heard u (blocksOf u), m .with, m .without, flat-append settingIn (m .before) (hear.Set s ∷ m .behind), flat-append settingIn (m .before) (m .behind))
-    (row-among v w p s n (flatMap settingIn (m .before)) (flatMap settingIn (m .behind)))
+    (row-without v w p s n (flatMap settingIn (m .before)) (flatMap settingIn (m .behind)))
 
 pub passed-changes-none : PassedChangesNone
 unfolding sheetTable flatMap
 passed-changes-none t u m =
-    rw (by-heard t (blocksOf t), by-heard u (blocksOf u), m .with, m .without, flat-append settingIn (m .before) (hear.Nothing ∷ m .behind), flat-append settingIn (m .before) (m .behind))
+    rw (by-heard t (blocksOf t), by-heard u (blocksOf u), m .with, m .without, flat-append settingIn (m .before) (hear.NoKey ∷ m .behind), flat-append settingIn (m .before) (m .behind))

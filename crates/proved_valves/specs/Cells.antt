@@ -6,7 +6,7 @@ use Prim.Native.Nat.{ℕ}
 use lib.Dec.{eqb}
 use lib.ListN.{length}
 use Rattle.sheet_valves.specs.Tables.{cellCount, IsPlace, valveAt, withSetting, filledWith}
-use Rattle.sheet_valves.specs.declared.Valve.the-variants.{Unfilled, Number}
+use Rattle.sheet_valves.specs.declared.Valve.the-variants.{Unfilled, Fitted}
 use Rattle.sheet_valves.specs.declared.Table.{Table}
 use Rattle.sheet_valves.specs.declared.Setting.{Setting}
 
@@ -27,7 +27,7 @@ pub record LastFor (v w x : ℕ) (ss : List Setting) : Type 0 where
 
 -- a cell has the valve of the last setting for it, and only of that
 abbrev pub LastCounts : Type 0
-LastCounts = (v w : ℕ) → IsPlace v w → (x : ℕ) (ss : List Setting) → (LastFor v w x ss → valveAt (filledWith ss) v w ≡ Number x) × (valveAt (filledWith ss) v w ≡ Number x → LastFor v w x ss)
+LastCounts = (v w : ℕ) → IsPlace v w → (x : ℕ) (ss : List Setting) → (LastFor v w x ss → valveAt (filledWith ss) v w ≡ Fitted x) × (valveAt (filledWith ss) v w ≡ Fitted x → LastFor v w x ss)
 
 -- and is unfilled exactly where there is none
 abbrev pub UnfilledElse : Type 0

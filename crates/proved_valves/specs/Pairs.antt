@@ -1,9 +1,9 @@
 -- "At the end no variant may have one valve at two wheels.": the pair as one that exists, and that the code finds the first.
 use mathlib.Core.Path.{_≡_}
 use Prim.Native.Nat.{ℕ, _≤_, _<_}
-use Rattle.sheet_valves.specs.Tables.{variants, wheels, valveAt}
+use Rattle.sheet_valves.specs.Tables.{variantCount, wheels, valveAt}
 use Rattle.sheet_valves.specs.Pairs.{firstPair}
-use Rattle.sheet_valves.specs.declared.Valve.the-variants.{Number}
+use Rattle.sheet_valves.specs.declared.Valve.the-variants.{Fitted}
 use Rattle.sheet_valves.specs.declared.Table.{Table}
 
 -- two different wheels of the variant v have one valve; "unfilled cells don't count"
@@ -14,17 +14,17 @@ pub record TwoWheels (t : Table) (v : ℕ) : Type 0 where
   pub one-wheel : one < wheels
   pub two-wheel : two < wheels
   pub different : one ≡ two → ⊥
-  pub at-one : valveAt t v one ≡ Number valve
-  pub at-two : valveAt t v two ≡ Number valve
+  pub at-one : valveAt t v one ≡ Fitted valve
+  pub at-two : valveAt t v two ≡ Fitted valve
 
 -- the first variant with such a pair, 0 where none has one
 pub data FirstIs (t : Table) : ℕ → Type 0 where
-  none : ((v : ℕ) → 1 ≤ v → v ≤ variants → TwoWheels t v → ⊥) → FirstIs t 0
-  at : {v : ℕ} → 1 ≤ v → v ≤ variants → TwoWheels t v → ((u : ℕ) → 1 ≤ u → u < v → TwoWheels t u → ⊥) → FirstIs t v
+  none : ((v : ℕ) → 1 ≤ v → v ≤ variantCount → TwoWheels t v → ⊥) → FirstIs t 0
+  at : {v : ℕ} → 1 ≤ v → v ≤ variantCount → TwoWheels t v → ((u : ℕ) → 1 ≤ u → u < v → TwoWheels t u → ⊥) → FirstIs t v
 
 -- there is such a pair
 abbrev pub PairIn : Table → Type 0
-PairIn t = (v : ℕ) × ((1 ≤ v) × ((v ≤ variants) × TwoWheels t v))
+PairIn t = (v : ℕ) × ((1 ≤ v) × ((v ≤ variantCount) × TwoWheels t v))
 
 -- the first variant is found, and no other number is that
 abbrev pub FirstFound : Type 0

@@ -16,7 +16,7 @@ use Rattle.proved_grammar.specs.Meaning.{distinct}
 use Rattle.sheet_valves.specs.Tables.{maxValve, IsPlace}
 use Rattle.sheet_valves.specs.Settings.{variantName, wheelName, valveName, frontLeft, frontRight, rearLeft, rearRight, settingOf}
 use Rattle.sheet_valves.specs.declared.Setting.{Setting}
-use Rattle.sheet_valves.specs.declared.Heard.the-variants.{Nothing, Refused, Set}
+use Rattle.sheet_valves.specs.declared.Heard.the-variants.{NoKey, Refused, Set}
 
 abbrev pub wheelNames : List (List ℕ)
 wheelNames = frontLeft ∷ frontRight ∷ rearLeft ∷ rearRight ∷ []
@@ -40,7 +40,7 @@ abbrev pub CountsExactly : Type 0
 CountsExactly = (t : Texts) (a : Attrs) (s : Setting) → (settingOf (meaningOf t a) ≡ Set s → Counts (meaningOf t a) s) × (Counts (meaningOf t a) s → settingOf (meaningOf t a) ≡ Set s)
 
 abbrev pub PassedOver : Type 0
-PassedOver = (m : List Entry) → (settingOf m ≡ Nothing → Silent m) × (Silent m → settingOf m ≡ Nothing)
+PassedOver = (m : List Entry) → (settingOf m ≡ NoKey → Silent m) × (Silent m → settingOf m ≡ NoKey)
 
 -- "20, one or two of the three keys missing or any out of range": where it is neither
 abbrev pub RefusedElse : Type 0

@@ -36,6 +36,6 @@ fn put_cell(b: &mut [u8], at: usize, cell: Cell) -> usize {
     let to = out::put_byte(b, at, b' ');
     match valve {
         Valve::Unfilled => out::put_byte(b, to, b'-'),
-        Valve::Number(n) => out::put_number(b, to, fields::wide(n)),
+        Valve::Fitted(n) => out::put_number(b, to, fields::wide(n)),
     }
 }

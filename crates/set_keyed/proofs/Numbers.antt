@@ -10,7 +10,7 @@ use Rattle.set_marks.specs.Marks.{bytesIn}
 use Rattle.set_marks.proofs.Values.{Stands, Ends}
 use Rattle.text_digits.specs.Digits.{digitsStep, digitsFrom, digitsOf}
 use Rattle.text_digits.specs.declared.Digits.{Digits}
-use Rattle.text_digits.specs.declared.Digits.the-variants.{Nothing}
+use Rattle.text_digits.specs.declared.Digits.the-variants.{NoDigit}
 use Rattle.text_digits.proofs.Steps.{from-cons}
 
 -- ---- the loop: the bytes before i are read
@@ -19,7 +19,7 @@ pub record Reading (most : ℕ) (q : Bool) (s : List ℕ) (d : Digits) (i : ℕ)
   pub within : i ≤ length s
   pub rest : digitsFrom most d (bytesIn q (drop i s)) ≡ digitsOf most (bytesIn q s)
 
-pub reading-start : (most : ℕ) (q : Bool) (s : List ℕ) → Reading most q s Nothing 0
+pub reading-start : (most : ℕ) (q : Bool) (s : List ℕ) → Reading most q s NoDigit 0
 unfolding digitsOf
 reading-start most q s = record { within = omega arith; rest = refl }
 

@@ -24,7 +24,7 @@ abbrev pub keyedPaper : Texts → keyed.Keyed → Paper
 keyedPaper t Missing = passedPaper (0 ∷ [])
 keyedPaper t (Given v) = passedPaper (1 ∷ valueBytes t v)
 
--- ---- how it is found
+-- ---- how it is found. By a rule: proved_valves/specs/Keys.
 
 -- the id and the classes are no keys
 unfoldable pub slotFound : Texts → List Row → List ℕ → Slot → keyed.Keyed

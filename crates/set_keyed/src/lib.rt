@@ -137,7 +137,7 @@ pub fn value_is<'a>(first: &'a [u8], second: &'a [u8], value: Value, bytes: &[u8
 fn read_raw(s: &[u8], quoted: bool, most: u64) -> Digits
     ensures { λ r. ⌜ r ≡ digitsOf most (bytesIn quoted (now (s .entry))) ⌝ }
 {
-    let mut d = Digits::Nothing;
+    let mut d = Digits::NoDigit;
     let mut i = 0;
     'pieces: loop {
         match set_marks::value_piece(s, i, quoted) {

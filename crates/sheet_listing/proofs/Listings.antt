@@ -14,13 +14,13 @@ use Rattle.base_refusals.specs.Numbers.{numberOf}
 use Rattle.base_refusals.specs.declared.Refusal.{Refusal}
 use Rattle.text_digits.specs.Decimal.{decimal}
 use Rattle.text_digits.proofs.Decimals.{decimal-le}
-use Rattle.sheet_valves.specs.Tables.{variants, wheels}
+use Rattle.sheet_valves.specs.Tables.{variantCount, wheels}
 use Rattle.sheet_valves.specs.Pairs.{rowOf}
 use Rattle.sheet_valves.proofs.Pairs.{rowFrom, row-from}
 use Rattle.sheet_valves.specs.declared.Valve.{Valve}
 use Rattle.sheet_valves.specs.declared.Table.{Table}
 use Rattle.sheet_variants.specs.declared.Variants.{Variants}
-use Rattle.sheet_report.specs.Inner.{PutAt, lineFront}
+use Rattle.sheet_report.specs.Puts.{PutAt, lineFront}
 use Rattle.sheet_report.specs.Report.{refusedWord}
 use Rattle.sheet_report.proofs.Laying.{put-then, put-byte, line-is}
 use Rattle.sheet_listing.specs.Listing.{valveField, fieldsText, rowText, rowsText, tableText, variantField, refusalText, listing, maxListing, listingIn}
@@ -35,7 +35,7 @@ put-none buf at = record { behind = omega arith; content = refl }
 pub valve-le : {n k : ℕ} → k ≡ length (9 ∷ decimal n) → n < 256 → k ≤ 4
 valve-le {n} e h = omega (arith, e, decimal-le n 3 (omega arith) (omega arith))
 
-pub variant-le : {n k : ℕ} → k ≡ length (decimal n) → n ≤ variants → k ≤ 2
+pub variant-le : {n k : ℕ} → k ≡ length (decimal n) → n ≤ variantCount → k ≤ 2
 variant-le {n} e h = omega (arith, e, decimal-le n 2 (omega arith) (omega arith))
 
 pub field-le : {n k : ℕ} → k ≡ length (9 ∷ decimal n) → n < 2 ^ 64 → k ≤ 21
@@ -60,16 +60,16 @@ row-put t v {buf} {at} {e} {f} {p} {q} w x =
 pub record Lists (t : Table) (out₀ out : List ℕ) (at v : ℕ) : Type 0 where
   pub done : List ℕ
   pub put : PutAt out₀ 0 done at out
-  pub within : v ≤ variants
+  pub within : v ≤ variantCount
   pub short : at ≤ v * 19
-  pub rest : tableText t ≡ done ++ rowsText t (suc v) (variants - v)
+  pub rest : tableText t ≡ done ++ rowsText t (suc v) (variantCount - v)
 
 pub lists-start : (t : Table) (out : List ℕ) → Lists t out out 0 0
 unfolding tableText
 lists-start t out = record { done = []; put = put-none out 0; within = omega arith; short = omega arith; rest = refl }
 
 module _ {t : Table} {out₀ out : List ℕ} {at v : ℕ} (inv : Lists t out₀ out at v) where
-  pub lists-go : {r : ℕ} {out′ : List ℕ} → v < variants → r ≤ at + 19 → PutAt out at (rowText t (suc v)) r out′ → Lists t out₀ out′ r (v + 1)
+  pub lists-go : {r : ℕ} {out′ : List ℕ} → v < variantCount → r ≤ at + 19 → PutAt out at (rowText t (suc v)) r out′ → Lists t out₀ out′ r (v + 1)
   unfolding rowsText
   lists-go {r} {out′} h l p =
       record {
@@ -77,16 +77,16 @@ module _ {t : Table} {out₀ out : List ℕ} {at v : ℕ} (inv : Lists t out₀ 
         put = put-then (inv .put) p;
         within = omega arith;
         short = omega (arith, inv .short);
-        rest = rw add-one ((rw left at (inv .rest)) ∙ sym (append-assoc (inv .done) (rowText t (suc v)) (rowsText t (suc (suc v)) (variants - suc v))));
+        rest = rw add-one ((rw left at (inv .rest)) ∙ sym (append-assoc (inv .done) (rowText t (suc v)) (rowsText t (suc (suc v)) (variantCount - suc v))));
       }
     where
-      left : variants - v ≡ suc (variants - suc v)
+      left : variantCount - v ≡ suc (variantCount - suc v)
       left = omega arith
 
-  pub lists-end : variants ≤ v → PutAt out₀ 0 (tableText t) at out × (at ≤ maxListing)
+  pub lists-end : variantCount ≤ v → PutAt out₀ 0 (tableText t) at out × (at ≤ maxListing)
   unfolding rowsText
   lists-end h =
-      let e : variants - v ≡ 0 = omega arith in
+      let e : variantCount - v ≡ 0 = omega arith in
       (rw (inv .rest, e, append-nil (inv .done)) (inv .put), omega (arith, inv .within, inv .short))
 
 -- ---- the line of a refusal

@@ -9,10 +9,10 @@ use Rattle.base_refusals.specs.declared.Refusal.{Refusal}
 use Rattle.base_refusals.specs.declared.Outcome as outcomes
 use Rattle.base_refusals.specs.declared.Outcome.the-variants as outcome
 use Rattle.text_digits.specs.Decimal.{decimal}
-use Rattle.sheet_valves.specs.Tables.{variants}
+use Rattle.sheet_valves.specs.Tables.{variantCount}
 use Rattle.sheet_valves.specs.Pairs.{rowOf}
 use Rattle.sheet_valves.specs.declared.Valve.{Valve}
-use Rattle.sheet_valves.specs.declared.Valve.the-variants.{Unfilled, Number}
+use Rattle.sheet_valves.specs.declared.Valve.the-variants.{Unfilled, Fitted}
 use Rattle.sheet_valves.specs.declared.Table.{Table}
 use Rattle.sheet_variants.specs.declared.Variants as answer
 use Rattle.sheet_report.specs.Report.{refusedWord, reportLine}
@@ -22,7 +22,7 @@ use Rattle.sheet_report.specs.Report.{refusedWord, reportLine}
 -- the valve of a wheel, `-` where the cell is unfilled
 abbrev pub valveText : Valve → List ℕ
 valveText Unfilled = hyphen ∷ []
-valveText (Number n) = decimal n
+valveText (Fitted n) = decimal n
 
 -- a field stands behind a tab
 abbrev pub valveField : Valve → List ℕ
@@ -41,7 +41,7 @@ rowsText t v zero = []
 rowsText t v (suc n) = rowText t v ++ rowsText t (suc v) n
 
 unfoldable pub tableText : Table → List ℕ
-tableText t = rowsText t 1 variants
+tableText t = rowsText t 1 variantCount
 
 -- ---- a refusal
 

@@ -12,8 +12,8 @@ ghost use lib.ListN.{length};
 ghost use Rattle.base_lists.specs.Lists.{over};
 ghost use Rattle.base_bytes.specs.Bytes.{tab};
 ghost use Rattle.text_digits.specs.Decimal.{decimal};
-ghost use Rattle.sheet_valves.specs.Tables.{variants};
-ghost use Rattle.sheet_report.specs.Inner.{PutAt};
+ghost use Rattle.sheet_valves.specs.Tables.{variantCount};
+ghost use Rattle.sheet_report.specs.Puts.{PutAt};
 ghost use Rattle.sheet_listing.specs.Listing.{valveField, fieldsText, rowText, tableText, variantField, refusalText, listing, listingIn, maxListing};
 
 // No listing is longer: 30 lines of at most two digits, four fields of a tab and at most three digits, and the LF.
@@ -41,7 +41,7 @@ fn put_cell(out: &mut [u8], at: usize, cell: Cell) -> usize
             base_lists::put_bytes(out, at, b"\t-");
             at + 2
         }
-        Valve::Number(n) => {
+        Valve::Fitted(n) => {
             let k = text_digits::put_field(out, at, n as u64);
             at + k
         }
@@ -62,7 +62,7 @@ fn put_fields(out: &mut [u8], at: usize, a: Cell, b: Cell, c: Cell, d: Cell) -> 
 
 // Writes the line of the variant behind the first v.
 fn put_row(out: &mut [u8], at: usize, table: Table, v: usize) -> usize
-    requires { ⌜ (at + 19 ≤ length (now out)) × (v < variants) ⌝ }
+    requires { ⌜ (at + 19 ≤ length (now out)) × (v < variantCount) ⌝ }
     ensures { λ r. ⌜ PutAt (now (out .entry)) at (rowText table (suc v)) r (now (out .exit)) ⌝ }
     ensures { λ r. ⌜ r ≤ at + 19 ⌝ }
 {

@@ -24,7 +24,7 @@ use Rattle.sheet_report.specs.declared.Told.the-variants.{Refused}
 use Rattle.sheet_report.specs.declared.Part.{Part}
 use Rattle.sheet_report.specs.Report.{refusedLine}
 use Rattle.sheet_report.specs.Parts.{maxLine, Laid, laidNone, layFrom, beginsLine, mayBegin, partOf, refusal, startOf, shownPart}
-use Rattle.sheet_report.specs.Inner.{PutAt}
+use Rattle.sheet_report.specs.Puts.{PutAt}
 use Rattle.sheet_report.proofs.Laying.{refused-le}
 use Rattle.sheet_report.proofs.Lays.{Tells}
 

@@ -28,7 +28,8 @@ use Rattle.base_lists.proofs.Sets.{sets-append, take-sets, drop-sets}
 use Rattle.text_digits.specs.Decimal.{decimal}
 use Rattle.sheet_report.specs.Report.{blockWord, refusedWord, reportLine, refusedLine, canonLine, lineBy}
 use Rattle.sheet_report.specs.Parts.{maxLine}
-use Rattle.sheet_report.specs.Inner.{PutAt, lineFront, putShort}
+use Rattle.sheet_report.specs.Puts.{PutAt, lineFront}
+use Rattle.sheet_report.specs.Inner.{putShort}
 use Rattle.text_digits.proofs.Decimals.{decimal-le}
 
 -- ---- one part behind the other

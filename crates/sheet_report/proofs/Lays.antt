@@ -29,7 +29,7 @@ use Rattle.sheet_report.specs.declared.Told.the-variants.{More, Done}
 use Rattle.sheet_report.specs.declared.Part.{Part}
 use Rattle.sheet_report.specs.Report.{refusedLine, canonLine, lineBy, blockLine}
 use Rattle.sheet_report.specs.Parts.{maxLine, Laid, laidNone, stopped, laidBehind, tryLine, layFrom, shownPart}
-use Rattle.sheet_report.specs.Inner.{PutAt}
+use Rattle.sheet_report.specs.Puts.{PutAt}
 use Rattle.sheet_report.proofs.Laying.{line-le}
 
 -- ---- bytes laid behind those that stand at the front

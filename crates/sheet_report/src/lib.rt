@@ -21,7 +21,8 @@ ghost use Rattle.sheet_report.specs.declared.Told.the-variants.{Refused,
 ghost use Rattle.text_digits.specs.Decimal.{decimal};
 ghost use Rattle.sheet_report.specs.Report.{refusedLine, canonLine, lineBy};
 ghost use Rattle.sheet_report.specs.Parts.{toldPaper, maxLine, layFrom, moreToTell, beginsLine, mayBegin, partOrder, partOf, refusal, startOf, startOrder, shownPart};
-ghost use Rattle.sheet_report.specs.Inner.{PutAt, lineFront, putShort};
+ghost use Rattle.sheet_report.specs.Puts.{PutAt, lineFront};
+ghost use Rattle.sheet_report.specs.Inner.{putShort};
 ghost use Rattle.base_bytes.specs.Bytes.{tab};
 
 // No line of a report is longer: a canonical text of 65,535 bytes, and 65 for the word, two numbers of at most 20 digits, three tabs and the LF.

@@ -26,7 +26,7 @@ use Rattle.sheet_valves.specs.Settings.{variantName, wheelName, valveNam
 use Rattle.sheet_valves.specs.Inner.{keyNo, rowNo, keyedAt, IsFound}
 use Rattle.sheet_valves.specs.declared.KeyRows.{KeyRows}
 use Rattle.sheet_valves.specs.declared.Heard as heards
-use Rattle.sheet_valves.specs.declared.Heard.the-variants.{Nothing, Refused}
+use Rattle.sheet_valves.specs.declared.Heard.the-variants.{NoKey, Refused}
 use Rattle.sheet_valves.proofs.Settings.{found}
 
 -- ---- a name is at most one of the three
@@ -184,12 +184,12 @@ module _ {t : Texts} {a : Attrs} {r : KeyRows} (f : IsFound t a r) where
   said : settingBy (valuesBy t (keyedAt (a .keys) (r .variant))) (valuesBy t (keyedAt (a .keys) (r .wheel))) (valuesBy t (keyedAt (a .keys) (r .valve))) ≡ settingOf (meaningOf t a)
   said = rw (f .variant, f .wheel, f .valve) (found t a)
 
-  pub rows-without : {h : heards.Heard} → maxKeys ≤ r .variant → h ≡ cond (ltb (r .wheel) maxKeys) (Refused BadSetting) (cond (ltb (r .valve) maxKeys) (Refused BadSetting) Nothing)
+  pub rows-without : {h : heards.Heard} → maxKeys ≤ r .variant → h ≡ cond (ltb (r .wheel) maxKeys) (Refused BadSetting) (cond (ltb (r .valve) maxKeys) (Refused BadSetting) NoKey)
       → h ≡ settingOf (meaningOf t a)
   unfolding settingBy
   rows-without n q = q ∙ go (ltb (r .wheel) maxKeys) (ltb (r .valve) maxKeys) ∙ rw (le-ltb (r .variant) maxKeys n) at said
     where
-      go : (x y : Bool) → cond x (Refused BadSetting) (cond y (Refused BadSetting) Nothing)
+      go : (x y : Bool) → cond x (Refused BadSetting) (cond y (Refused BadSetting) NoKey)
           ≡ settingBy [] (valuesBy t (cond x (Given (getD (a .keys) (r .wheel) zeroRow .value)) Missing)) (valuesBy t (cond y (Given (getD (a .keys) (r .valve) zeroRow .value)) Missing))
       go true y = refl
       go false true = refl

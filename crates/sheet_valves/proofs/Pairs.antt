@@ -7,7 +7,7 @@ use Prim.Native.Nat.{ℕ, suc, _+_, _-_, _*_, _≤_, _<_}
 use native.Mathlib.Numerals.{add-one}
 use native.Mathlib.Omega.{arith}
 use lib.ListN.{getD}
-use Rattle.sheet_valves.specs.Tables.{variants, wheels, unfilled, cellPlace, valveAt}
+use Rattle.sheet_valves.specs.Tables.{variantCount, wheels, unfilled, cellPlace, valveAt}
 use Rattle.sheet_valves.specs.Pairs.{oneValve, among, repeats, rowOf, pairFrom, firstPair}
 use Rattle.sheet_valves.specs.declared.Valve.{Valve}
 use Rattle.sheet_valves.specs.declared.Table.{Table}
@@ -29,8 +29,8 @@ six a b c d = go (oneValve a b) (oneValve a c) (oneValve a d) (oneValve b c) (on
 -- ---- the loop over the variants: v were passed
 
 pub record Seeks (t : Table) (v : ℕ) : Type 0 where
-  pub within : v ≤ variants
-  pub rest : pairFrom t (suc v) (variants - v) ≡ firstPair t
+  pub within : v ≤ variantCount
+  pub rest : pairFrom t (suc v) (variantCount - v) ≡ firstPair t
 
 pub seeks-start : (t : Table) → Seeks t 0
 unfolding firstPair
@@ -50,8 +50,8 @@ row-from t v =
     let k : ℕ = v * wheels in
     rw (cell-from t v 0 k (omega arith), cell-from t v 1 (k + 1) (omega arith), cell-from t v 2 (k + 2) (omega arith), cell-from t v 3 (k + 3) (omega arith))
 
-module _ {t : Table} {v : ℕ} (inv : Seeks t v) (h : v < variants) where
-  left : variants - v ≡ suc (variants - suc v)
+module _ {t : Table} {v : ℕ} (inv : Seeks t v) (h : v < variantCount) where
+  left : variantCount - v ≡ suc (variantCount - suc v)
   left = omega arith
 
   pub seeks-stop : repeats (rowFrom t (v * wheels)) ≡ true → v + 1 ≡ firstPair t
@@ -62,6 +62,6 @@ module _ {t : Table} {v : ℕ} (inv : Seeks t v) (h : v < variants) where
   unfolding pairFrom
   seeks-go e = record { within = omega arith; rest = rw add-one (rw (left, row-from t v, e) at (inv .rest)) }
 
-pub seeks-end : {t : Table} {v : ℕ} → Seeks t v → variants ≤ v → 0 ≡ firstPair t
+pub seeks-end : {t : Table} {v : ℕ} → Seeks t v → variantCount ≤ v → 0 ≡ firstPair t
 unfolding pairFrom
-seeks-end {t} {v} inv h = let e : variants - v ≡ 0 = omega arith in rw e at (inv .rest)
+seeks-end {t} {v} inv h = let e : variantCount - v ≡ 0 = omega arith in rw e at (inv .rest)

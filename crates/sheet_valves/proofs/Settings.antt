@@ -18,7 +18,7 @@ use Rattle.text_digits.specs.declared.Decimal as decimals
 use Rattle.text_digits.specs.declared.Decimal.the-variants.{None, Is}
 use Rattle.set_keyed.specs.Keyed.{valuesBy, keyFound}
 use Rattle.set_keyed.proofs.Means.{key-means}
-use Rattle.sheet_valves.specs.Tables.{variants, maxValve, IsPlace, isPlace}
+use Rattle.sheet_valves.specs.Tables.{variantCount, maxValve, IsPlace, isPlace}
 use Rattle.sheet_valves.specs.Settings.{variantName, wheelName, valveName, wheelOf, settingFrom, settledBy, readSetting, settingBy, settingOf}
 use Rattle.sheet_valves.specs.declared.Setting.{Setting}
 use Rattle.sheet_valves.specs.declared.Heard.the-variants.{Refused, Set}
@@ -61,4 +61,4 @@ only-bad m {r} = go (lookup variantName m) (lookup wheelName m) (lookup valveNam
     go [] (w ∷ ws) c f = cc
     go (v ∷ vs) [] c f = cc
     go (v ∷ vs) (w ∷ ws) [] f = cc
-    go (v ∷ vs) (w ∷ ws) (x ∷ xs) f = by (numberIn variants v) (wheelOf w) (numberIn maxValve x) f
+    go (v ∷ vs) (w ∷ ws) (x ∷ xs) f = by (numberIn variantCount v) (wheelOf w) (numberIn maxValve x) f

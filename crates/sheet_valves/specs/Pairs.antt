@@ -3,16 +3,16 @@ use Prim.Native.Nat.{ℕ, zero, suc}
 use mathlib.Core.Bool.{Bool, false, cond, _||_}
 use mathlib.Core.List.{List, [], _∷_}
 use lib.Dec.{eqb}
-use Rattle.sheet_valves.specs.Tables.{variants, valveAt}
+use Rattle.sheet_valves.specs.Tables.{variantCount, valveAt}
 use Rattle.sheet_valves.specs.declared.Valve.{Valve}
-use Rattle.sheet_valves.specs.declared.Valve.the-variants.{Unfilled, Number}
+use Rattle.sheet_valves.specs.declared.Valve.the-variants.{Unfilled, Fitted}
 use Rattle.sheet_valves.specs.declared.Table.{Table}
 
 -- two wheels have one valve; "unfilled cells don't count"
 unfoldable pub oneValve : Valve → Valve → Bool
 oneValve Unfilled b = false
-oneValve (Number x) Unfilled = false
-oneValve (Number x) (Number y) = eqb x y
+oneValve (Fitted x) Unfilled = false
+oneValve (Fitted x) (Fitted y) = eqb x y
 
 -- x is the valve of one of the wheels
 unfoldable pub among : Valve → List Valve → Bool
@@ -33,4 +33,4 @@ pairFrom t v zero = 0
 pairFrom t v (suc n) = cond (repeats (rowOf t v)) v (pairFrom t (suc v) n)
 
 unfoldable pub firstPair : Table → ℕ
-firstPair t = pairFrom t 1 variants
+firstPair t = pairFrom t 1 variantCount

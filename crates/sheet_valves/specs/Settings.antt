@@ -9,9 +9,9 @@ use Rattle.block_grammar.specs.Meaning.{Entry, lookup}
 use Rattle.text_digits.specs.Digits.{numberIn}
 use Rattle.text_digits.specs.declared.Decimal as decimals
 use Rattle.text_digits.specs.declared.Decimal.the-variants.{None, Is}
-use Rattle.sheet_valves.specs.Tables.{variants, wheels, maxValve, isPlace}
+use Rattle.sheet_valves.specs.Tables.{variantCount, wheels, maxValve, isPlace}
 use Rattle.sheet_valves.specs.declared.Heard as heards
-use Rattle.sheet_valves.specs.declared.Heard.the-variants.{Nothing, Refused, Set}
+use Rattle.sheet_valves.specs.declared.Heard.the-variants.{NoKey, Refused, Set}
 
 -- "keys `variant` .., `wheel` .. and `valve`"
 abbrev pub variantName : List ℕ
@@ -51,11 +51,11 @@ settledBy (Is v) w None = Refused BadSetting
 settledBy (Is v) w (Is x) = settingFrom v w x
 
 unfoldable pub readSetting : List ℕ → List ℕ → List ℕ → heards.Heard
-readSetting v w x = settledBy (numberIn variants v) (wheelOf w) (numberIn maxValve x)
+readSetting v w x = settledBy (numberIn variantCount v) (wheelOf w) (numberIn maxValve x)
 
 -- "20, one or two of the three keys missing or any out of range"
 unfoldable pub settingBy : List (List ℕ) → List (List ℕ) → List (List ℕ) → heards.Heard
-settingBy [] [] [] = Nothing
+settingBy [] [] [] = NoKey
 settingBy [] [] (x ∷ xs) = Refused BadSetting
 settingBy [] (w ∷ ws) xs = Refused BadSetting
 settingBy (v ∷ vs) [] xs = Refused BadSetting
@@ -67,6 +67,6 @@ settingOf m = settingBy (lookup variantName m) (lookup wheelName m) (lookup valv
 
 -- on paper: why it is refused, nothing where none of the three keys is there, else variant, wheel and valve
 abbrev pub heardPaper : heards.Heard → Paper
-heardPaper Nothing = passedPaper []
+heardPaper NoKey = passedPaper []
 heardPaper (Refused r) = refusedPaper r
 heardPaper (Set s) = passedPaper (s .variant ∷ s .wheel ∷ s .valve ∷ [])

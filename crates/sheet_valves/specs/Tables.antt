@@ -5,14 +5,14 @@ use mathlib.Core.List.{List, foldl}
 use lib.Dec.{leb, ltb}
 use lib.ListN.{getD, set, replicate}
 use Rattle.sheet_valves.specs.declared.Valve.{Valve}
-use Rattle.sheet_valves.specs.declared.Valve.the-variants.{Unfilled, Number}
+use Rattle.sheet_valves.specs.declared.Valve.the-variants.{Unfilled, Fitted}
 use Rattle.sheet_valves.specs.declared.Cell.{Cell}
 use Rattle.sheet_valves.specs.declared.Table.{Table}
 use Rattle.sheet_valves.specs.declared.Setting.{Setting}
 
 -- "a table of 30 variants by 4 wheels with a valve number"
-abbrev pub variants : ℕ
-variants = 30
+abbrev pub variantCount : ℕ
+variantCount = 30
 
 abbrev pub wheels : ℕ
 wheels = 4
@@ -33,11 +33,11 @@ emptyTable = record { cells = replicate cellCount unfilled }
 -- "`variant` (1 to 30), `wheel`": wheels are counted from 0
 pub record IsPlace (v w : ℕ) : Type 0 where
   pub first : 1 ≤ v
-  pub last : v ≤ variants
+  pub last : v ≤ variantCount
   pub wheel : w < wheels
 
 abbrev pub isPlace : ℕ → ℕ → Bool
-isPlace v w = leb 1 v && (leb v variants && ltb w wheels)
+isPlace v w = leb 1 v && (leb v variantCount && ltb w wheels)
 
 -- where the cell of a variant and a wheel stands: variant by variant, in each wheel by wheel
 abbrev pub cellPlace : ℕ → ℕ → ℕ
@@ -49,7 +49,7 @@ valveAt t v w = getD (t .cells) (cellPlace v w) unfilled .valve
 -- a cell as a number: its valve, or one more than any valve where it is unfilled
 abbrev pub valveNo : Valve → ℕ
 valveNo Unfilled = maxValve + 1
-valveNo (Number n) = n
+valveNo (Fitted n) = n
 
 abbrev pub cellNo : Cell → ℕ
 cellNo c = valveNo (c .valve)
@@ -58,7 +58,7 @@ cellNo c = valveNo (c .valve)
 unfoldable pub withSetting : Table → Setting → Table
 withSetting t s =
     cond (isPlace (s .variant) (s .wheel))
-    (record { cells = set (t .cells) (cellPlace (s .variant) (s .wheel)) (record { valve = Number (s .valve) }) })
+    (record { cells = set (t .cells) (cellPlace (s .variant) (s .wheel)) (record { valve = Fitted (s .valve) }) })
     t
 
 -- "Later blocks override earlier ones of the same variant and wheel."

@@ -6,11 +6,11 @@ use set_table::Slot;
 use set_table::Value;
 use text_digits::Decimal;
 ghost use mathlib.Core.Path.{_≡_};
-ghost use Rattle.sheet_valves.specs.Tables.{variants, maxValve, emptyTable, withSetting};
+ghost use Rattle.sheet_valves.specs.Tables.{variantCount, maxValve, emptyTable, withSetting};
 ghost use Rattle.sheet_valves.specs.Pairs.{oneValve, repeats, firstPair};
 ghost use Rattle.sheet_valves.specs.Settings.{heardPaper, wheelOf, settingFrom, settingOf, readSetting};
 ghost use Rattle.sheet_valves.specs.Inner.{keyNo, rowNo, IsFound};
-ghost use Rattle.sheet_valves.specs.declared.Heard.the-variants.{Nothing, Refused};
+ghost use Rattle.sheet_valves.specs.declared.Heard.the-variants.{NoKey, Refused};
 ghost use Rattle.base_refusals.specs.declared.Refusal.the-variants.{BadSetting};
 ghost use mathlib.Core.List.{[], _∷_};
 ghost use Prim.Native.Nat.{_≤_};
@@ -25,7 +25,7 @@ pub const MAX_VALVE: u64 = 255;
 // The valve of a wheel, or none.
 pub enum Valve {
     Unfilled,
-    Number(u8),
+    Fitted(u8),
 }
 
 pub struct Cell {
@@ -53,7 +53,7 @@ struct KeyRows {
 
 // What a block says: nothing of the three keys, why it is refused, or a setting.
 pub enum Heard {
-    Nothing,
+    NoKey,
     Refused(Refusal),
     Set(Setting),
 }
@@ -94,7 +94,7 @@ pub fn put(table: Table, setting: Setting) -> Table
     }
     let mut t = table;
     let cell = Cell {
-        valve: Valve::Number(setting.valve),
+        valve: Valve::Fitted(setting.valve),
     };
     t.cells[(variant - 1) * Table::WHEELS + wheel] = cell;
     t
@@ -106,9 +106,9 @@ fn one_valve(a: Valve, b: Valve) -> bool
 {
     match a {
         Valve::Unfilled => false,
-        Valve::Number(x) => match b {
+        Valve::Fitted(x) => match b {
             Valve::Unfilled => false,
-            Valve::Number(y) => x == y,
+            Valve::Fitted(y) => x == y,
         },
     }
 }
@@ -184,7 +184,7 @@ fn wheel_of<'a>(first: &'a [u8], second: &'a [u8], value: Value) -> u8
 
 // The setting of a variant, a wheel and a valve, where they are of a cell.
 fn settle(variant: u64, wheel: u8, valve: u64) -> Heard
-    requires { ⌜ (variant ≤ variants) × (valve ≤ maxValve) ⌝ }
+    requires { ⌜ (variant ≤ variantCount) × (valve ≤ maxValve) ⌝ }
     ensures { λ r. ⌜ r ≡ settingFrom variant wheel valve ⌝ }
 {
     if variant == 0 {
@@ -315,7 +315,7 @@ fn key_rows<'a>(first: &'a [u8], second: &'a [u8], set: Attrs) -> KeyRows
 
 // What the two other keys say, where the first isn't there.
 fn say_without(wheel: usize, valve: usize) -> Heard
-    ensures { λ r. ⌜ r ≡ cond (ltb wheel maxKeys) (Refused BadSetting) (cond (ltb valve maxKeys) (Refused BadSetting) Nothing) ⌝ }
+    ensures { λ r. ⌜ r ≡ cond (ltb wheel maxKeys) (Refused BadSetting) (cond (ltb valve maxKeys) (Refused BadSetting) NoKey) ⌝ }
 {
     if wheel < Attrs::KEYS {
         return Heard::Refused(Refusal::BadSetting);
@@ -323,7 +323,7 @@ fn say_without(wheel: usize, valve: usize) -> Heard
     if valve < Attrs::KEYS {
         return Heard::Refused(Refusal::BadSetting);
     }
-    Heard::Nothing
+    Heard::NoKey
 }
 
 // What a block's set says of the table.

@@ -51,7 +51,7 @@ module _ (t : List ℕ) (u : Table) (x : Try) (xs : List Try) (ih : (y : Table) 
       → variantsPaper (heardThen x h u (λ y. variantsFrom t y xs)) ≡ onPaper (Ground.given BadSetting (isStop h) ∷ (flatMap (settingOrder t) xs ++ pairOrder (end h))) (cellNos (end h))
   unfolding onPaper inOrder
   by-setting (hear.Refused r) e = rw (only-bad (meaningOf T a) e)
-  by-setting hear.Nothing e = ih u
+  by-setting hear.NoKey e = ih u
   by-setting (hear.Set s) e = ih (withSetting u s)
 
   by-outcome : (o : outcomes.Outcome) → variantsPaper (heardThen x (heardBy T a o) u (λ y. variantsFrom t y xs))

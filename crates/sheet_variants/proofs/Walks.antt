@@ -95,7 +95,7 @@ module _ {t join₀ : List ℕ} {R : answer.Variants} {P : List Try} {join : Lis
     onward : {u : Table} → isStop h ≡ false → R ≡ variantsFrom t u (onlyBlocks more) → Walks t join₀ R P join′ (r .block .next) (line + r .skipped + r .block .lines) u
     onward y x = record { past = inv .past ++ upto; walk = m .walk; rest = x; gone = gone-is ∙ rw (y, append-assoc (inv .past)) }
 
-    pub walks-pass : h ≡ hear.Nothing → Walks t join₀ R P join′ (r .block .next) (line + r .skipped + r .block .lines) table
+    pub walks-pass : h ≡ hear.NoKey → Walks t join₀ R P join′ (r .block .next) (line + r .skipped + r .block .lines) table
     walks-pass y = onward (rw y) (rest-is ∙ rw y)
 
     pub walks-set : {s : Setting} {u : Table} → h ≡ hear.Set s → u ≡ withSetting table s → Walks t join₀ R P join′ (r .block .next) (line + r .skipped + r .block .lines) u

@@ -51,7 +51,7 @@ wholeTable t = wholeBy t (firstPair t)
 -- "then the first block refused"; "Blocks without any of the three keys are passed over."; `rest` is what comes behind this block
 abbrev pub heardThen : Try → heards.Heard → Table → (Table → answer.Variants) → answer.Variants
 heardThen x (hear.Refused r) u rest = noTable r (x .line) (linesOf (x .found)) 0
-heardThen x hear.Nothing u rest = rest u
+heardThen x hear.NoKey u rest = rest u
 heardThen x (hear.Set s) u rest = rest (withSetting u s)
 
 -- the blocks to come, where so much of the table is filled
@@ -63,7 +63,7 @@ variantsFrom t u (x ∷ xs) = heardThen x (heard t x) u (λ y. variantsFrom t y 
 
 abbrev pub isStop : heards.Heard → Bool
 isStop (hear.Refused r) = true
-isStop hear.Nothing = false
+isStop hear.NoKey = false
 isStop (hear.Set s) = false
 
 unfoldable pub pastOf : List ℕ → List Try → List Try
@@ -96,7 +96,7 @@ variantsPast t cap = pastBy t cap (checkOf t)
 
 abbrev pub settingIn : heards.Heard → List Setting
 settingIn (hear.Refused r) = []
-settingIn hear.Nothing = []
+settingIn hear.NoKey = []
 settingIn (hear.Set s) = s ∷ []
 
 unfoldable pub settingsOf : List ℕ → List Try → List Setting

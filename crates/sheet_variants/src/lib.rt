@@ -88,7 +88,7 @@ fn fill_table(text: &[u8], join: &mut [u8]) -> Variants
         let n = line + next.skipped;
         match hear(text, join, block) {
             Heard::Refused(why) => return no_table(why, n, block.lines, 0),
-            Heard::Nothing => {
+            Heard::NoKey => {
                 line = n + block.lines;
                 at = block.next;
                 continue 'sheet;

@@ -12,7 +12,7 @@ use Rattle.base_lists.proofs.Scan.{both}
 use Rattle.base_bytes.specs.Bytes.{isDigit, within}
 use Rattle.text_digits.specs.Digits.{bounded, firstDigit, grown, digitsStep, digitsFrom, digitsOf, readOut, numberIn}
 use Rattle.text_digits.specs.declared.Digits as state
-use Rattle.text_digits.specs.declared.Digits.the-variants.{Nothing, Zero, Number, Bad}
+use Rattle.text_digits.specs.declared.Digits.the-variants.{NoDigit, Zero, Number, Bad}
 use Rattle.text_digits.specs.declared.Decimal as answer
 use Rattle.text_digits.specs.declared.Decimal.the-variants.{Is}
 
@@ -47,7 +47,7 @@ from-cons most d b s = refl
 -- ---- a number that was read is within its bound
 
 InBound : ℕ → state.Digits → Type 0
-InBound most Nothing = Unit {0}
+InBound most NoDigit = Unit {0}
 InBound most Zero = Unit {0}
 InBound most (Number n) = n ≤ most
 InBound most Bad = Unit {0}
@@ -62,7 +62,7 @@ bounded-keeps most n = go (leb n most) refl
 
 step-keeps : (most : ℕ) (d : state.Digits) (b : ℕ) → InBound most (digitsStep most d b)
 unfolding digitsStep firstDigit grown InBound
-step-keeps most Nothing b = go (isDigit b) (eqb b 48)
+step-keeps most NoDigit b = go (isDigit b) (eqb b 48)
   where
     go : (x y : Bool) → InBound most (cond x (cond y Zero (bounded most (b - 48))) Bad)
     go true true = tt
@@ -83,10 +83,10 @@ from-keeps most d (b ∷ s) h = from-keeps most (digitsStep most d b) s (step-ke
 
 pub in-bound : {most n : ℕ} (s : List ℕ) {r : answer.Decimal} → r ≡ numberIn most s → r ≡ Is n → n ≤ most
 unfolding numberIn digitsOf InBound
-in-bound {most} {n} s e f = go (digitsFrom most Nothing s) (from-keeps most Nothing s tt) (sym e ∙ f)
+in-bound {most} {n} s e f = go (digitsFrom most NoDigit s) (from-keeps most NoDigit s tt) (sym e ∙ f)
   where
     go : (d : state.Digits) → InBound most d → readOut d ≡ Is n → n ≤ most
-    go Nothing m f = let z : _≡_ {A = ℕ} 0 1 = cc in absurd (omega arith)
+    go NoDigit m f = let z : _≡_ {A = ℕ} 0 1 = cc in absurd (omega arith)
     go Zero m f = let z : 0 ≡ n = cc in omega arith
     go (Number k) m f = let z : k ≡ n = cc in omega (arith, m)
     go Bad m f = let z : _≡_ {A = ℕ} 0 1 = cc in absurd (omega arith)

@@ -10,7 +10,7 @@ ghost use Rattle.text_digits.specs.Digits.{bounded, firstDigit, grown, d
 
 // What the bytes read so far are: none yet, a lone zero, a number from 1 on, or no such number, which stays.
 pub enum Digits {
-    Nothing,
+    NoDigit,
     Zero,
     Number(u64),
     Bad,
@@ -64,7 +64,7 @@ pub fn step(d: Digits, b: u8, most: u64) -> Digits
     ensures { λ r. ⌜ digitsPaper r ≡ digitsPaper (digitsStep most d b) ⌝ }
 {
     match d {
-        Digits::Nothing => begin(b, most),
+        Digits::NoDigit => begin(b, most),
         Digits::Zero => Digits::Bad,
         Digits::Number(n) => go_on(n, b, most),
         Digits::Bad => Digits::Bad,
@@ -77,7 +77,7 @@ pub fn read_out(d: Digits) -> Decimal
     ensures { λ r. ⌜ decimalPaper r ≡ decimalPaper (readOut d) ⌝ }
 {
     match d {
-        Digits::Nothing => Decimal::None,
+        Digits::NoDigit => Decimal::None,
         Digits::Zero => Decimal::Is(0),
         Digits::Number(n) => Decimal::Is(n),
         Digits::Bad => Decimal::None,

@@ -12,8 +12,8 @@ tell-requires-2 c κs = search needs
 tell-requires-3 : tie.Need-tell-requires-3
 tell-requires-3 c κs = search needs
 
-lay-table-requires : tie.Need-lay-table-requires
-lay-table-requires c κs = search needs
+hand-table-requires : tie.Need-hand-table-requires
+hand-table-requires c κs = search needs
 
 same-length : tie.Need-same-length
 same-length c = search needs
@@ -24,7 +24,7 @@ same-length-2 c = search needs
 returns : tie.Need-returns
 returns c =
     let laid = c .before .before in let at6 = laid .before .before .before .before in let at10 = at6 .before .before .before .before in
-    (laid .lay-table .ensures .0, (laid .lay-table .ensures .1, told-3 _ _ _ _ (at10 .before .before .before .before .tell .ensures) (at10 .tell2 .ensures) (at6 .tell3 .ensures)))
+    (laid .hand-table .ensures .0, (laid .hand-table .ensures .1, told-3 _ _ _ _ (at10 .before .before .before .before .tell .ensures) (at10 .tell2 .ensures) (at6 .tell3 .ensures)))
 
 pub say-variants-spec : {M : Type 1} → statement M
 say-variants-spec =
@@ -33,7 +33,7 @@ say-variants-spec =
     tell-requires
     tell-requires-2
     tell-requires-3
-    lay-table-requires
+    hand-table-requires
     same-length
     same-length-2
     returns)

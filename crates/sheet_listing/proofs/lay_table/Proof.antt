@@ -1,7 +1,7 @@
 use native.Mathlib.Omega.{arith}
 use Prim.Native.Nat.{_-_}
 use Rattle.sheet_report.proofs.Laying.{put-long}
-use Rattle.sheet_valves.specs.Tables.{variants}
+use Rattle.sheet_valves.specs.Tables.{variantCount}
 use Rattle.sheet_listing.proofs.Listings as laws
 use Rattle.sheet_listing.proofs.lay_table.Statement.{statement}
 use Rattle.sheet_listing.proofs.lay_table.Tie as tie
@@ -10,7 +10,7 @@ abbrev Inv-loop : tie.InvT-loop
 Inv-loop table out₀ at₀ v₀ out at v = laws.Lists table out₀ out at v
 
 abbrev μ-loop : tie.MeasureT-loop
-μ-loop table out₀ at₀ v₀ out at v = variants - v
+μ-loop table out₀ at₀ v₀ out at v = variantCount - v
 
 loop-holds : tie.Need-loop-holds Inv-loop μ-loop
 loop-holds c = laws.lists-start _ _

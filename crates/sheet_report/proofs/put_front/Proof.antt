@@ -1,5 +1,5 @@
 use native.Mathlib.Omega.{arith}
-use Rattle.sheet_report.specs.Inner.{lineFront}
+use Rattle.sheet_report.specs.Puts.{lineFront}
 use Rattle.sheet_report.proofs.Laying as laying
 use borrow.Author.Needs.{needs}
 use Rattle.sheet_report.proofs.put_front.Statement.{statement}

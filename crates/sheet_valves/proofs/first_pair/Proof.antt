@@ -2,7 +2,7 @@ use Prim.Native.Nat.{_-_}
 use native.Mathlib.Omega.{arith}
 use borrow.Author.Needs.{needs}
 use mathlib.Core.Path.{sym, _∙_}
-use Rattle.sheet_valves.specs.Tables.{variants}
+use Rattle.sheet_valves.specs.Tables.{variantCount}
 use Rattle.sheet_valves.proofs.Pairs as laws
 use Rattle.sheet_valves.proofs.first_pair.Statement.{statement}
 use Rattle.sheet_valves.proofs.first_pair.Tie as tie
@@ -11,7 +11,7 @@ abbrev Inv-loop : tie.InvT-loop
 Inv-loop table v₀ v = laws.Seeks table v
 
 abbrev μ-loop : tie.MeasureT-loop
-μ-loop table v₀ v = variants - v
+μ-loop table v₀ v = variantCount - v
 
 loop-holds : tie.Need-loop-holds Inv-loop μ-loop
 loop-holds c = laws.seeks-start _

@@ -1,6 +1,6 @@
 use borrow.Author.Needs.{needs}
-use Rattle.door_valves.proofs.lay_table.Statement.{statement}
-use Rattle.door_valves.proofs.lay_table.Tie as tie
+use Rattle.door_valves.proofs.hand_table.Statement.{statement}
+use Rattle.door_valves.proofs.hand_table.Tie as tie
 
 enum-known-outcome : tie.Need-enum-known-outcome
 enum-known-outcome c = search needs
@@ -25,8 +25,8 @@ returns-2 c =
     let told = c .before .before .before .before .enum-told .given .1 in
     (rw told, rw told (c .before .before .lay-cells .ensures))
 
-pub lay-table-spec : {M : Type 1} → statement M
-lay-table-spec =
+pub hand-table-spec : {M : Type 1} → statement M
+hand-table-spec =
     tie.close
     (tie.spec
     enum-known-outcome
