@@ -64,6 +64,12 @@ pub record Came (buf told : List ℕ) (c : Outcome) (t : Texts) (a : Attrs) (tel
   pub tells : v ≡ toldIn told (tell len)
   pub number : r ≡ wrotePaper wrote .number
 
+-- by what `write_out` promises, and the length and the number of its answer
+abbrev pub came : {buf told : List ℕ} {c : Outcome} {t : Texts} {a : Attrs} {tell : ℕ → List ℕ} {r : ℕ} {o v : List ℕ} {w : Wrote} {n : ℕ} {A : Type 0}
+    → (w ≡ orRefused c (wroteOf (canon (meaningOf t a)) (length buf))) × ((o ≡ orLeft c buf (contentAfter buf (canon (meaningOf t a)))) × A)
+    → n ≡ lenOf w → v ≡ toldIn told (tell n) → r ≡ wrotePaper w .number → Came buf told c t a tell r o v
+came {w = w} {n = n} p e f g = record { wrote = w; len = n; writes = p .0; out = p .1 .0; counts = e; tells = f; number = g }
+
 module _ (buf told : List ℕ) where
   -- an answer as it is promised
   abbrev pub Says : Said → ℕ → List ℕ → List ℕ → Type 0

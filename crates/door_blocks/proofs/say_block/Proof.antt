@@ -1,7 +1,7 @@
 use mathlib.Core.List.{[], _∷_}
 use mathlib.Core.Path.{refl, ap}
 use Rattle.set_table.specs.Types.{two}
-use Rattle.door_shared.proofs.Laws.{set-said, told-5}
+use Rattle.door_shared.proofs.Laws.{came, set-said, told-5}
 use borrow.Author.Needs.{needs}
 use Rattle.door_blocks.proofs.say_block.Statement.{statement}
 use Rattle.door_blocks.proofs.say_block.Tie as tie
@@ -47,15 +47,7 @@ returns c =
     set-said (at31 .args .out .now) (at31 .args .told .now) {a = at31 .args .block .set}
     {tell = λ n. (at31 .args .block .lines) ∷ (at31 .args .block .next) ∷ (at31 .args .block .lookahead) ∷ (at31 .args .block .joined) ∷ n ∷ []}
     {c = at31 .args .block .outcome} refl (ap (two (at31 .args .text .now)) (at26 .bytes-of .ensures))
-    (record {
-      wrote = _;
-      len = _;
-      writes = at24 .write-out .ensures .0;
-      out = at24 .write-out .ensures .1 .0;
-      counts = at4 .wrote-len .ensures;
-      tells = told-5 _ _ _ _ _ _ (at20 .tell .ensures) (at16 .tell2 .ensures) (at12 .tell3 .ensures) (at8 .tell4 .ensures) (c .before .before .before .tell5 .ensures);
-      number = c .wrote-number .ensures;
-    })
+    (came (at24 .write-out .ensures) (at4 .wrote-len .ensures) (told-5 _ _ _ _ _ _ (at20 .tell .ensures) (at16 .tell2 .ensures) (at12 .tell3 .ensures) (at8 .tell4 .ensures) (c .before .before .before .tell5 .ensures)) (c .wrote-number .ensures))
 
 pub say-block-spec : {M : Type 1} → statement M
 say-block-spec =

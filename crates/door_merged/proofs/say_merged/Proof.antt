@@ -1,4 +1,4 @@
-use Rattle.door_shared.proofs.Laws.{told-4}
+use Rattle.door_shared.proofs.Laws.{came, told-4}
 use Rattle.door_merged.proofs.Said as laws
 use borrow.Author.Needs.{needs}
 use Rattle.door_merged.proofs.say_merged.Statement.{statement}
@@ -66,15 +66,7 @@ returns c =
     let at28 = at27 .before in let at29 = at28 .before in let at30 = at29 .before in let at36 = at30 .before .before .before .before .before .before in
     laws.blocks-said _ _ (at36 .args .common) (at36 .args .variant) (at30 .text-over .ensures) (at29 .text-over2 .ensures) (at28 .as-first .ensures) (at27 .as-second .ensures)
     (at26 .merge-attrs .ensures .0) (at25 .first-of .ensures .0) (at24 .first-of2 .ensures .0)
-    (record {
-      wrote = _;
-      len = _;
-      writes = at22 .write-out .ensures .0;
-      out = at22 .write-out .ensures .1 .0;
-      counts = at12 .wrote-len .ensures;
-      tells = told-4 _ _ _ _ _ (at16 .tell .ensures) (at11 .tell2 .ensures) (at7 .tell3 .ensures) (at3 .tell4 .ensures);
-      number = c .wrote-number .ensures;
-    })
+    (came (at22 .write-out .ensures) (at12 .wrote-len .ensures) (told-4 _ _ _ _ _ (at16 .tell .ensures) (at11 .tell2 .ensures) (at7 .tell3 .ensures) (at3 .tell4 .ensures)) (c .wrote-number .ensures))
     (at18 .wrote-outcome .ensures .0) (at17 .step-of .ensures)
 
 pub say-merged-spec : {M : Type 1} → statement M

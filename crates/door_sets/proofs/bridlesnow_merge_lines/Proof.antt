@@ -1,4 +1,4 @@
-use Rattle.door_shared.proofs.Laws.{told-2}
+use Rattle.door_shared.proofs.Laws.{came, told-2}
 use Rattle.door_sets.proofs.Said as laws
 use borrow.Author.Needs.{needs}
 use Rattle.door_sets.proofs.bridlesnow_merge_lines.Statement.{statement}
@@ -55,15 +55,7 @@ returns c =
     let at16 = at13 .before .before .before in let at17 = at16 .before in let at18 = at17 .before in let at20 = at18 .before .before in let at21 = at20 .before in
     laws.merge-said _ _ _ _ _ (at21 .parse-standalone-attrs .ensures .0) (at20 .parse-standalone-attrs2 .ensures .0) (at18 .merge-attrs .ensures .0) (at17 .first-of .ensures .0)
     (at16 .first-of2 .ensures .0) (at9 .step-of .ensures)
-    (record {
-      wrote = _;
-      len = _;
-      writes = at13 .write-out .ensures .0;
-      out = at13 .write-out .ensures .1 .0;
-      counts = at4 .wrote-len .ensures;
-      tells = told-2 _ _ _ (at8 .tell .ensures) (c .before .before .before .tell2 .ensures);
-      number = c .wrote-number .ensures;
-    })
+    (came (at13 .write-out .ensures) (at4 .wrote-len .ensures) (told-2 _ _ _ (at8 .tell .ensures) (c .before .before .before .tell2 .ensures)) (c .wrote-number .ensures))
 
 pub bridlesnow-merge-lines-spec : {M : Type 1} → statement M
 bridlesnow-merge-lines-spec =

@@ -1,4 +1,4 @@
-use Rattle.door_shared.proofs.Laws.{told-1}
+use Rattle.door_shared.proofs.Laws.{came, told-1}
 use Rattle.door_sets.proofs.Said as laws
 use borrow.Author.Needs.{needs}
 use Rattle.door_sets.proofs.bridlesnow_parse_standalone_attrs.Statement.{statement}
@@ -32,15 +32,7 @@ returns : tie.Need-returns
 returns c =
     let at4 = c .before .before .before .before in let at8 = at4 .before .before .before .before in let at11 = at8 .before .before .before in
     laws.line-said _ _ _ _ (at11 .parse-standalone-attrs .ensures .0)
-    (record {
-      wrote = _;
-      len = _;
-      writes = at8 .write-out .ensures .0;
-      out = at8 .write-out .ensures .1 .0;
-      counts = at4 .wrote-len .ensures;
-      tells = told-1 _ _ (c .before .before .before .tell .ensures);
-      number = c .wrote-number .ensures;
-    })
+    (came (at8 .write-out .ensures) (at4 .wrote-len .ensures) (told-1 _ _ (c .before .before .before .tell .ensures)) (c .wrote-number .ensures))
 
 pub bridlesnow-parse-standalone-attrs-spec : {M : Type 1} → statement M
 bridlesnow-parse-standalone-attrs-spec =

@@ -1,4 +1,4 @@
-use Rattle.door_shared.proofs.Laws.{told-2}
+use Rattle.door_shared.proofs.Laws.{came, told-2}
 use Rattle.door_sets.proofs.Said as laws
 use borrow.Author.Needs.{needs}
 use Rattle.door_sets.proofs.bridlesnow_read_attrs_at.Statement.{statement}
@@ -48,15 +48,7 @@ returns c =
     let at4 = c .before .before .before .before in let at8 = at4 .before .before .before .before in let at9 = at8 .before in let at13 = at9 .before .before .before .before in
     let at16 = at13 .before .before .before in let at17 = at16 .before in let at18 = at17 .before in let at19 = at18 .before in
     laws.brace-said _ _ _ _ (at19 .mode-of .ensures) (at18 .read-attrs-at-with .ensures .0) (at17 .check-by .ensures) (at16 .or-text .ensures) (at9 .next-of .ensures)
-    (record {
-      wrote = _;
-      len = _;
-      writes = at13 .write-out .ensures .0;
-      out = at13 .write-out .ensures .1 .0;
-      counts = at4 .wrote-len .ensures;
-      tells = told-2 _ _ _ (at8 .tell .ensures) (c .before .before .before .tell2 .ensures);
-      number = c .wrote-number .ensures;
-    })
+    (came (at13 .write-out .ensures) (at4 .wrote-len .ensures) (told-2 _ _ _ (at8 .tell .ensures) (c .before .before .before .tell2 .ensures)) (c .wrote-number .ensures))
 
 pub bridlesnow-read-attrs-at-spec : {M : Type 1} → statement M
 bridlesnow-read-attrs-at-spec =
