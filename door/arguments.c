@@ -41,6 +41,10 @@ int main(void)
     EXPECT(bridlesnow_report_start(NULL, 0, NULL, 0, NULL, 0, NULL, 0) == 9);
     EXPECT(bridlesnow_report_part(NULL, 0, 0, 0, NULL, 0, NULL, 0, NULL, 0) == 9);
     EXPECT(bridlesnow_variants(NULL, 0, NULL, 0, NULL, 0, NULL, 0) == 9);
+    EXPECT(bridlesnow_totals_feed(NULL, 0, NULL, 0, NULL, 0) == 9);
+    EXPECT(bridlesnow_totals_feed(NULL, 0, (const uint8_t *)"\377", 1, NULL, 0) == 17);
+    EXPECT(bridlesnow_totals_add(NULL, 0, NULL, 0) == 17);
+    EXPECT(bridlesnow_totals_text(NULL, 0, NULL, 0, NULL, 0) == 17);
 
     /* No memory to write into, and none to join in. */
     EXPECT(bridlesnow_read_attrs_at(block, 4, 0, 0, NULL, 0, NULL, 0) == 10);
@@ -110,6 +114,35 @@ int main(void)
     EXPECT(bridlesnow_variants((const uint8_t *)one, sizeof one - 1, lines, sizeof lines, cells, BRIDLESNOW_CELLS + 1, told, 3) == 0);
     EXPECT(told[0] == 0 && told[1] == 0 && told[2] == 0);
     EXPECT(cells[118] == BRIDLESNOW_UNFILLED && cells[119] == 0 && cells[120] == 777);
+
+    /* A report over sheets: fed, added up, as text, and untouched where it is refused. */
+    static const char fed_sheet[] = "{.a\n k}\n{a\n";
+    static const uint64_t fed[BRIDLESNOW_TOTALS] = {2, 1, 1, 0, 1, 0, 0, 0, 1, 1, 3, 8, 2};
+    uint64_t totals[BRIDLESNOW_TOTALS + 1] = {0}, most[BRIDLESNOW_TOTALS];
+    totals[BRIDLESNOW_TOTALS] = 777;
+    EXPECT(bridlesnow_totals_feed(totals, BRIDLESNOW_TOTALS, (const uint8_t *)fed_sheet, sizeof fed_sheet - 1, lines, sizeof lines - 1) == 9);
+    EXPECT(bridlesnow_totals_feed(totals, BRIDLESNOW_TOTALS - 1, (const uint8_t *)fed_sheet, sizeof fed_sheet - 1, lines, sizeof lines) == 17);
+    for (i = 0; i < BRIDLESNOW_TOTALS; i++)
+        EXPECT(totals[i] == 0);
+    EXPECT(bridlesnow_totals_feed(totals, BRIDLESNOW_TOTALS + 1, (const uint8_t *)fed_sheet, sizeof fed_sheet - 1, lines, sizeof lines) == 0);
+    EXPECT(memcmp(lines, "{aa k}", 6) == 0);
+    EXPECT(bridlesnow_totals_feed(totals, BRIDLESNOW_TOTALS, (const uint8_t *)"\377", 1, NULL, 0) == 0);
+    EXPECT(memcmp(totals, fed, sizeof fed) == 0 && totals[BRIDLESNOW_TOTALS] == 777);
+    for (i = 0; i < BRIDLESNOW_TOTALS; i++)
+        most[i] = UINT64_MAX;
+    EXPECT(bridlesnow_totals_add(totals, BRIDLESNOW_TOTALS, most, BRIDLESNOW_TOTALS) == 17);
+    EXPECT(bridlesnow_totals_add(totals, BRIDLESNOW_TOTALS, most, BRIDLESNOW_TOTALS - 1) == 17);
+    EXPECT(memcmp(totals, fed, sizeof fed) == 0);
+    for (i = 0; i < BRIDLESNOW_LONGEST; i++)
+        most[i] -= fed[i];
+    EXPECT(bridlesnow_totals_add(totals, BRIDLESNOW_TOTALS, most, BRIDLESNOW_TOTALS) == 0);
+    for (i = 0; i < BRIDLESNOW_TOTALS; i++)
+        EXPECT(totals[i] == UINT64_MAX);
+    EXPECT(bridlesnow_totals_text(totals, BRIDLESNOW_TOTALS, report, BRIDLESNOW_TOTALS_TEXT - 1, told, 1) == 10 && told[0] == 0);
+    EXPECT(bridlesnow_totals_text(totals, BRIDLESNOW_TOTALS, report, BRIDLESNOW_TOTALS_TEXT, told, 1) == 0 && told[0] == BRIDLESNOW_TOTALS_TEXT);
+    EXPECT(memcmp(report, "sheets\t18446744073709551615\nblocks\t", 35) == 0);
+    EXPECT(bridlesnow_totals_text(fed, BRIDLESNOW_TOTALS, report, sizeof report, told, 1) == 0);
+    EXPECT(memcmp(report + told[0] - 22, "lookahead\t8\nlongest\t2\n", 22) == 0);
 
     /* Room for fewer numbers than there are: the rest is untouched. */
     told[1] = 99;

@@ -7,20 +7,21 @@
  *
  *     1  the text has more than 65,535 bytes        7  more than 32 distinct keys
  *     2  it isn't UTF-8                             9  the next line to join doesn't fit `join`
- *     3  nothing is there to read                  10  the canonical text has more than 65,535 bytes, or more than `out`
+ *     3  nothing is there to read                  10  the canonical text has more than 65,535 bytes, or a text more than `out`
  *     4  no close                                  11  (never given here: a set that isn't well-formed)
  *     5  no reading                                12  (never given here: an empty set)
- *     6  more than 32 classes                      20  one or two of `variant`, `wheel` and `valve`, or a value out of range
+ *     6  more than 32 classes                      17  a total over all sheets would not fit 64 bits, or has no room
+ *                                                  20  one or two of `variant`, `wheel` and `valve`, or a value out of range
  *                                                  21  a variant has one valve at two wheels
  *
  * A set is handed out as its canonical text at the front of `out`, such as {id="v17" class="wheel" side="left"}. A class that is listed again is
- * written once, at its first place. After a number other than 0 `out` and `cells` are untouched, but for bridlesnow_report_start, whose 1 and 2 lay
- * a line. Numbers besides are told in `told`, in the order that the function's comment gives: as many as `told_len` has room for, the rest of it
+ * written once, at its first place. After a number other than 0 `out`, `cells` and `totals` are untouched, but for bridlesnow_report_start, whose 1
+ * and 2 lay a line. Numbers besides are told in `told`, in the order that the function's comment gives: as many as `told_len` has room for, the rest of it
  * untouched. So a caller who wants none passes NULL and 0. They are told on a refusal too; the length of the canonical text is 0 where none is
  * written, so 10 doesn't tell how much is needed.
  *
  * What the caller owes: each pointer with a length other than 0 points to that many elements, and memory that a call writes (`join`, `other_join`,
- * `out`, `cells`, `told`) overlaps no other memory of that call. A pointer with length 0 may be NULL. Any other argument gets an answer: a place or
+ * `out`, `cells`, `totals`, `told`) overlaps no other memory of that call. A pointer with length 0 may be NULL. Any other argument gets an answer: a place or
  * a line that isn't there is 3 (for a refused run: no), a `join` or an `out` too short is 9 or 10.
  *
  * Lines end at LF, a CR before it is dropped, and are counted from 1. `join` is where the lines of a wrapped block are joined; 65,535 bytes are
@@ -48,6 +49,25 @@ extern "C" {
 #define BRIDLESNOW_WHEELS 4
 #define BRIDLESNOW_CELLS 120
 #define BRIDLESNOW_UNFILLED 256
+
+/* A report over sheets: its totals, their places in document 02's order, and the longest text of it. */
+#define BRIDLESNOW_TOTALS 13
+#define BRIDLESNOW_TOTALS_TEXT 384
+enum {
+    BRIDLESNOW_SHEETS,
+    BRIDLESNOW_BLOCKS,
+    BRIDLESNOW_WRAPPED,
+    BRIDLESNOW_REFUSED_1,
+    BRIDLESNOW_REFUSED_2,
+    BRIDLESNOW_REFUSED_6,
+    BRIDLESNOW_REFUSED_7,
+    BRIDLESNOW_REFUSED_10,
+    BRIDLESNOW_CLASSES,
+    BRIDLESNOW_KEYS,
+    BRIDLESNOW_JOINED,
+    BRIDLESNOW_LOOKAHEAD,
+    BRIDLESNOW_LONGEST
+};
 
 /* Whether the bytes are UTF-8. */
 bool bridlesnow_is_utf8(const uint8_t *text, size_t text_len);
@@ -148,6 +168,19 @@ uint8_t bridlesnow_report_part(const uint8_t *text, size_t text_len, size_t at, 
  * that has one valve at two wheels, else 0. */
 uint8_t bridlesnow_variants(const uint8_t *text, size_t text_len, uint8_t *join, size_t join_len,
                             uint16_t *cells, size_t cells_len, size_t *told, size_t told_len);
+
+/* A report over sheets is BRIDLESNOW_TOTALS numbers in `totals`, all 0 before the first sheet. They are changed only where 0 is returned; memory for
+ * fewer is 17, and of memory for more the rest is untouched.
+ * bridlesnow_totals_feed counts one sheet more. A sheet that gives 1 or 2 is counted too, so these numbers aren't returned. `join` has at least
+ * BRIDLESNOW_MAX bytes, else 9, unless the sheet gives 1 or 2. Order: 9, 17. After 17 `join` holds what was joined, after 9 it is untouched.
+ * bridlesnow_totals_add adds the report `more`, the longest by the larger: 17.
+ * bridlesnow_totals_text lays the report's text at the front of `out`: a line for each total, name, tab and number. BRIDLESNOW_TOTALS_TEXT bytes
+ * are enough. Order: 17, 10. Tells: how many bytes are laid. */
+uint8_t bridlesnow_totals_feed(uint64_t *totals, size_t totals_len, const uint8_t *text, size_t text_len,
+                               uint8_t *join, size_t join_len);
+uint8_t bridlesnow_totals_add(uint64_t *totals, size_t totals_len, const uint64_t *more, size_t more_len);
+uint8_t bridlesnow_totals_text(const uint64_t *totals, size_t totals_len, uint8_t *out, size_t out_len,
+                               size_t *told, size_t told_len);
 
 #ifdef __cplusplus
 }

@@ -296,36 +296,45 @@ fn hostile() {
     }
 }
 
-/// The dealers' table beside our own report, which reads the same blocks and writes them.
-fn dealers() {
-    println!("\n| variants | our report, 64 KB | variants, 64 KB | variants / report | variants, 64 KB / 32 KB | goal |\n|---|---|---|---|---|---|");
-    let inputs: [(&str, Make); 2] = [("typical sheet", inputs::typical), ("`{variant=1 wheel=front-left valve=1}` on every line", inputs::settings)];
+/// Another answer about whole sheets beside our own report, which reads the same blocks and writes them: at most `goal` of its time, 0 where there is none.
+fn beside(name: &str, goal: f64, inputs: &[(&str, Make)], ask: impl Fn(&[u8], &mut Lent) -> u8, good: &[u8]) {
+    println!("\n| {name} | our report, 64 KB | {name}, 64 KB | {name} / report | {name}, 64 KB / 32 KB | goal |\n|---|---|---|---|---|---|");
     let (mut m, mut n) = (Lent::new(), Lent::new());
-    for (name, make) in inputs {
+    for &(input, make) in inputs {
         let (text, half) = (make(inputs::MAX), make(inputs::MAX / 2));
-        // No block is refused, so all are read.
-        assert!([0, 21].contains(&ours::variants(&text, &mut m)), "{name}");
-        let (report, table) = both(
+        // The sheet is read to its end.
+        assert!(good.contains(&ask(&text, &mut m)), "{input}");
+        let (report, other) = both(
             || {
                 ours::sheet(black_box(&text), &mut m);
                 black_box(&m.report);
             },
             || {
-                black_box(ours::variants(black_box(&text), &mut n));
+                black_box(ask(black_box(&text), &mut n));
             },
         );
         let (whole, part) = both(
             || {
-                black_box(ours::variants(black_box(&text), &mut m));
+                black_box(ask(black_box(&text), &mut m));
             },
             || {
-                black_box(ours::variants(black_box(&half), &mut n));
+                black_box(ask(black_box(&half), &mut n));
             },
         );
-        let (ratio, growth) = (table / report, whole / part);
-        let met = if growth <= 2.5 && ratio <= 0.9 { "met" } else { "missed" };
-        println!("| {name} | {} | {} | {ratio:.3} | {growth:.2} | 0.9 and 2.5, {met} |", time(report), time(table));
+        let (ratio, growth) = (other / report, whole / part);
+        let met = if growth <= 2.5 && (goal == 0.0 || ratio <= goal) { "met" } else { "missed" };
+        let goal = if goal == 0.0 { "2.5".into() } else { format!("{goal} and 2.5") };
+        println!("| {input} | {} | {} | {ratio:.3} | {growth:.2} | {goal}, {met} |", time(report), time(other));
     }
+}
+
+/// The dealers' table, and a sheet fed to a report over all sheets.
+fn dealers_and_totals() {
+    let settings: (&str, Make) = ("`{variant=1 wheel=front-left valve=1}` on every line", inputs::settings);
+    beside("variants", 0.9, &[("typical sheet", inputs::typical), settings], ours::variants, &[0, 21]);
+    beside("feed", 1.0, &[("typical sheet", inputs::typical), ("`{.a}` on every line", inputs::small_blocks)], ours::totals, &[0]);
+    let hostile: Vec<(&str, Make)> = HOSTILE.iter().map(|&(name, make, _)| (name, make)).collect();
+    beside("feed, hostile", 0.0, &hostile, ours::totals, &[0]);
 }
 
 /// The names of the inputs, or one input through the entries of the tables on our side; for a run under a small stack.
@@ -346,6 +355,7 @@ fn stack(input: Option<String>) {
     black_box(ours::parse_block(&text, 1, &mut m));
     black_box(ours::merge_lines(&text, 1, 1, &mut m));
     black_box(ours::variants(&text, &mut m));
+    black_box(ours::totals(&text, &mut m));
 }
 
 fn main() {
@@ -358,5 +368,5 @@ fn main() {
     by_line();
     whole_job();
     hostile();
-    dealers();
+    dealers_and_totals();
 }

@@ -37,6 +37,7 @@ extern "C" {
         text: *const u8, len: usize, join: *mut u8, join_len: usize,
         cells: *mut u16, cells_len: usize, told: *mut usize, told_len: usize,
     ) -> u8;
+    fn bridlesnow_totals_feed(totals: *mut u64, totals_len: usize, text: *const u8, len: usize, join: *mut u8, join_len: usize) -> u8;
     /// `read_brace::read_attrs_at_with`, which `bench/run` makes visible: it answers by a struct that the caller has room for, takes a slice by a
     /// pointer to its two words, and the mode by a pointer to its number.
     fn read_brace__read_attrs_at_with(answer: *mut u8, text: *const Slice, place: usize, mode: *const u8);
@@ -62,11 +63,12 @@ pub struct Lent {
     pub report: Vec<u8>,
     pub told: [usize; 5],
     pub cells: [u16; 120],
+    pub totals: [u64; 13],
 }
 
 impl Lent {
     pub fn new() -> Self {
-        Lent { join: vec![0; 65_535], out: vec![0; 1 << 18], report: Vec::with_capacity(1 << 20), told: [0; 5], cells: [0; 120] }
+        Lent { join: vec![0; 65_535], out: vec![0; 1 << 18], report: Vec::with_capacity(1 << 20), told: [0; 5], cells: [0; 120], totals: [0; 13] }
     }
 }
 
@@ -138,4 +140,10 @@ pub fn variants(text: &[u8], m: &mut Lent) -> u8 {
     unsafe {
         bridlesnow_variants(text.as_ptr(), text.len(), m.join.as_mut_ptr(), m.join.len(), m.cells.as_mut_ptr(), m.cells.len(), told, 3)
     }
+}
+
+/// A report over one sheet, and its number.
+pub fn totals(text: &[u8], m: &mut Lent) -> u8 {
+    m.totals = [0; 13];
+    unsafe { bridlesnow_totals_feed(m.totals.as_mut_ptr(), m.totals.len(), text.as_ptr(), text.len(), m.join.as_mut_ptr(), m.join.len()) }
 }

@@ -26,6 +26,14 @@ pub const UNFILLED: u16 = 256;
 /// The valve of each wheel of each variant: front-left, front-right, rear-left, rear-right; `None` where the cell is unfilled.
 pub type Valves = [[Option<u8>; WHEELS]; VARIANTS];
 
+/// The totals of a report over sheets, in document 02's order: `sheets`, `blocks`, `wrapped`, `refused-1`, `refused-2`, `refused-6`, `refused-7`,
+/// `refused-10`, `classes`, `keys`, `joined`, `lookahead`, `longest`. All are 0 before the first sheet.
+pub const TOTALS: usize = 13;
+pub type Totals = [u64; TOTALS];
+
+/// The longest text of a report over sheets.
+pub const TOTALS_TEXT: usize = 384;
+
 /// The functions of the library, as `door/bridlesnow.h` declares them.
 mod raw {
     extern "C" {
@@ -91,6 +99,13 @@ mod raw {
             text: *const u8, len: usize, join: *mut u8, join_len: usize,
             cells: *mut u16, cells_len: usize, told: *mut usize, told_len: usize,
         ) -> u8;
+        pub fn bridlesnow_totals_feed(
+            totals: *mut u64, totals_len: usize, text: *const u8, len: usize, join: *mut u8, join_len: usize,
+        ) -> u8;
+        pub fn bridlesnow_totals_add(totals: *mut u64, totals_len: usize, more: *const u64, more_len: usize) -> u8;
+        pub fn bridlesnow_totals_text(
+            totals: *const u64, totals_len: usize, out: *mut u8, out_len: usize, told: *mut usize, told_len: usize,
+        ) -> u8;
     }
 }
 
@@ -110,6 +125,7 @@ impl fmt::Display for Refusal {
             7 => "more than 32 keys",
             9 => "the next line to join doesn't fit",
             10 => "the canonical text is too long",
+            17 => "a total over all sheets would not fit",
             20 => "one or two of variant, wheel and valve, or a value out of range",
             21 => "a variant has one valve at two wheels",
             _ => "refused",
@@ -122,6 +138,21 @@ impl std::error::Error for Refusal {}
 /// `Ok` for 0.
 fn granted(number: u8) -> Result<(), Refusal> {
     if number == 0 { Ok(()) } else { Err(Refusal(number)) }
+}
+
+/// Adds the report `more`, the longest by the larger. Where a total would not fit, `totals` stay as they are.
+pub fn add_totals(totals: &mut Totals, more: &Totals) -> Result<(), Refusal> {
+    granted(unsafe { raw::bridlesnow_totals_add(totals.as_mut_ptr(), TOTALS, more.as_ptr(), TOTALS) })
+}
+
+/// The text of a report: a line for each total, name, tab and number.
+pub fn totals_text(totals: &Totals) -> String {
+    let mut out = vec![0u8; TOTALS_TEXT];
+    let mut len = 0;
+    let number = unsafe { raw::bridlesnow_totals_text(totals.as_ptr(), TOTALS, out.as_mut_ptr(), out.len(), &mut len, 1) };
+    assert_eq!(number, 0, "any report has room in {TOTALS_TEXT} bytes");
+    out.truncate(len);
+    String::from_utf8(out).expect("names and digits")
 }
 
 /// Whether the bytes are UTF-8.
@@ -426,6 +457,15 @@ impl Reader {
         granted(number).map_err(|refusal| NoTable { refusal, line, lines, variant })?;
         Ok(from_fn(|variant| from_fn(|wheel| u8::try_from(cells[variant * WHEELS + wheel]).ok())))
     }
+
+    /// Counts one sheet more; one that is too long or isn't UTF-8 is counted too. On a refusal `totals` stay as they are.
+    pub fn feed(&mut self, totals: &mut Totals, text: &[u8]) -> Result<(), Refusal> {
+        granted(unsafe {
+            raw::bridlesnow_totals_feed(
+                totals.as_mut_ptr(), TOTALS, text.as_ptr(), text.len(), self.join.as_mut_ptr(), self.join.len(),
+            )
+        })
+    }
 }
 
 #[cfg(test)]
@@ -690,6 +730,102 @@ mod tests {
         assert_eq!(joined(wrapped.as_bytes(), MAX - 1), (9, "".into()));
         assert_eq!(joined(&[wrapped.as_bytes(), b"\xff"].concat(), MAX), (2, "".into()));
         assert_eq!(joined(&[wrapped.as_bytes(), &vec![b'a'; MAX]].concat(), MAX), (1, "".into()));
+    }
+
+    /// The report over sheets fed one after the other.
+    fn counted(sheets: &[&[u8]]) -> Totals {
+        let mut totals = [0; TOTALS];
+        for sheet in sheets {
+            assert_eq!(Reader::new().feed(&mut totals, sheet), Ok(()));
+        }
+        totals
+    }
+
+    #[test]
+    fn totals() {
+        assert_eq!(counted(&[]), [0; TOTALS]);
+        assert_eq!(counted(&[b""]), [1, 0, 0, 0, 0, 0, 0, 0, 0, 0, 0, 0, 0]);
+        // Sheets of 1 and 2 are counted and refused by no number.
+        assert_eq!(counted(&[&vec![b'a'; MAX + 1], b"\xff", b"{a\n b}"]), [3, 1, 1, 1, 1, 0, 0, 0, 0, 2, 2, 5, 2]);
+        // Runs that are no block count their lines, and printed blocks alone their classes and keys.
+        assert_eq!(counted(&[b"{a\nb}"]), [1, 0, 0, 0, 0, 0, 0, 0, 0, 0, 1, 2, 0]);
+        assert_eq!(counted(&[b"{.a .a k k}\n{:en k}\n"]), [1, 2, 0, 0, 0, 0, 0, 0, 2, 3, 0, 0, 1]);
+        let many = |word: &str| (0..33).map(|i| format!(" {word}{i}")).collect::<String>();
+        let sheet = format!("{{{}}}\n{{{}}}\n{{k='{}'}}\n", many(".c"), many("k"), "\"".repeat(32_765));
+        assert_eq!(counted(&[sheet.as_bytes()]), [1, 0, 0, 0, 0, 1, 1, 1, 0, 0, 0, 0, 0]);
+        // Reports over two lists add up to the report over both, the longest by the larger.
+        let sheets: [&[u8]; 4] = [b"{a\n b\n c}", b"{.x}\n{a", b"\xff", b"text\n{k\n v}\n"];
+        for at in 0..=4 {
+            let mut sum = counted(&sheets[..at]);
+            assert_eq!(add_totals(&mut sum, &counted(&sheets[at..])), Ok(()));
+            assert_eq!(sum, counted(&sheets));
+        }
+    }
+
+    #[test]
+    fn totals_too_large() {
+        for place in 0..TOTALS {
+            let mut totals: Totals = from_fn(|i| if i == place { u64::MAX } else { 1 });
+            let (before, one): (Totals, Totals) = (totals, from_fn(|i| if i == place { 1 } else { u64::MAX - 1 }));
+            if place == TOTALS - 1 {
+                assert_eq!(add_totals(&mut totals, &one), Ok(()));
+                assert_eq!(totals, [u64::MAX; TOTALS]);
+            } else {
+                assert_eq!(add_totals(&mut totals, &one), Err(Refusal(17)));
+                assert_eq!(totals, before);
+            }
+        }
+        // A sheet that is counted, and one that isn't: 9 comes before 17, and a sheet of 2 needs no join buffer.
+        let mut totals: Totals = from_fn(|i| if i == 0 { u64::MAX } else { 0 });
+        let before = totals;
+        assert_eq!(Reader::new().feed(&mut totals, b""), Err(Refusal(17)));
+        assert_eq!(Reader::with_room(MAX - 1, 0).feed(&mut totals, b""), Err(Refusal(9)));
+        assert_eq!(totals, before);
+        assert_eq!(Reader::with_room(0, 0).feed(&mut totals, b"\xff"), Err(Refusal(17)));
+        totals[0] -= 1;
+        assert_eq!(Reader::with_room(0, 0).feed(&mut totals, b"\xff"), Ok(()));
+        assert_eq!((totals[0], totals[4]), (u64::MAX, 1));
+    }
+
+    #[test]
+    fn text_of_totals() {
+        assert_eq!(
+            totals_text(&from_fn(|i| i as u64 * 10)),
+            "sheets\t0\nblocks\t10\nwrapped\t20\nrefused-1\t30\nrefused-2\t40\nrefused-6\t50\nrefused-7\t60\nrefused-10\t70\n\
+             classes\t80\nkeys\t90\njoined\t100\nlookahead\t110\nlongest\t120\n"
+        );
+        assert_eq!(totals_text(&[u64::MAX; TOTALS]).len(), TOTALS_TEXT);
+    }
+
+    #[test]
+    fn room_for_totals() {
+        let (zeros, mut join) = ([0u64; TOTALS + 1], vec![0u8; MAX]);
+        for room in 0..=TOTALS + 1 {
+            let (mut totals, wanted) = (zeros, if room < TOTALS { 17 } else { 0 });
+            let fed = unsafe { raw::bridlesnow_totals_feed(totals.as_mut_ptr(), room, null(), 0, join.as_mut_ptr(), MAX) };
+            assert_eq!((fed, totals[0], totals[TOTALS]), (wanted, u64::from(room >= TOTALS), 0));
+            let mut sum = zeros;
+            let added = unsafe { raw::bridlesnow_totals_add(sum.as_mut_ptr(), TOTALS, totals.as_ptr(), room) };
+            assert_eq!((added, sum[0]), (wanted, u64::from(room >= TOTALS)));
+            let (mut out, mut len) = ([0u8; TOTALS_TEXT], 99);
+            let text = unsafe { raw::bridlesnow_totals_text(totals.as_ptr(), room, out.as_mut_ptr(), out.len(), &mut len, 1) };
+            assert_eq!((text, len == 0, out[0] == 0), (wanted, room < TOTALS, room < TOTALS));
+        }
+    }
+
+    #[test]
+    fn joined_for_totals() {
+        let joined = |totals: u64, text: &[u8], len: usize| {
+            let (mut totals, mut join): (Totals, _) = (from_fn(|i| if i == 0 { totals } else { 0 }), vec![b'.'; len]);
+            let number = unsafe { raw::bridlesnow_totals_feed(totals.as_mut_ptr(), TOTALS, text.as_ptr(), text.len(), join.as_mut_ptr(), len) };
+            let end = join.iter().rposition(|b| *b != b'.').map_or(0, |i| i + 1);
+            (number, String::from_utf8(join[..end].to_vec()).unwrap())
+        };
+        // Each run writes over the front of what the one before left, also where the total doesn't fit.
+        assert_eq!(joined(0, b"{a\n b\n{c\n", MAX), (0, "{c b".into()));
+        assert_eq!(joined(u64::MAX, b"{a\n b\n{c\n", MAX), (17, "{c b".into()));
+        assert_eq!(joined(0, b"{a\n b\n{c\n", MAX - 1), (9, "".into()));
+        assert_eq!(joined(0, b"{a\n b\n\xff", MAX), (0, "".into()));
     }
 
     #[test]

@@ -5,12 +5,14 @@
 //!     generate size FAMILY LENGTH                   how many requests that is
 //!
 //! FAMILIES are names parted by commas: leaves, brace, lines, refused, merge, sheet, rows, quick, merge2, repeats,
-//! variants; `all` stands for these eleven. The family `errors`, which is in no `all`, damages the request lines themselves.
+//! variants, report; `all` stands for these twelve. The family `errors`, which is in no `all`, damages the request lines
+//! themselves.
 //! Each request is made from the seed and its own number, so any part of the list can be made again.
 
 use std::io::{self, BufWriter, Write};
 
-const FAMILIES: [&str; 11] = ["leaves", "brace", "lines", "refused", "merge", "sheet", "rows", "quick", "merge2", "repeats", "variants"];
+const FAMILIES: [&str; 12] =
+    ["leaves", "brace", "lines", "refused", "merge", "sheet", "rows", "quick", "merge2", "repeats", "variants", "report"];
 const TEXT_LIMIT: usize = 65_535;
 
 // ---- Chance ----
@@ -624,6 +626,7 @@ fn random(family: &str, rng: &mut Rng, out: &mut Out) {
         "rows" => rows(rng, out),
         "quick" => quick(rng, out),
         "variants" => variants(rng, out),
+        "report" => report(rng, out),
         "errors" => errors(rng, out),
         _ => sheet(rng, out),
     }
@@ -1339,8 +1342,12 @@ fn repeats_at_limit(rng: &mut Rng, out: &mut Out) {
     }
 }
 
-/// A sheet: text and blocks of every kind, mostly a few, now and then up to the text limit.
 fn sheet(rng: &mut Rng, out: &mut Out) {
+    out.request("sheet", &whole_sheet(rng), "");
+}
+
+/// A sheet: text and blocks of every kind, mostly a few, now and then up to the text limit.
+fn whole_sheet(rng: &mut Rng) -> Vec<u8> {
     let mut text = match rng.weighted(&[9_600, 360, 20, 6, 14]) {
         0 => {
             let parts = rng.between(0, 7);
@@ -1377,7 +1384,7 @@ fn sheet(rng: &mut Rng, out: &mut Out) {
     let mut text = text.into_bytes();
     damage(rng, &mut text, 5);
     text.truncate(65_600);
-    out.request("sheet", &text, "");
+    text
 }
 
 /// So many parts of a sheet, each with its line end.
@@ -1723,10 +1730,115 @@ fn long_variants(rng: &mut Rng, care: &Care, text: String) -> String {
     }
 }
 
+// ---- Reports over many sheets ----
+
+/// How many numbers a report has.
+const TOTALS: usize = 13;
+
+/// One number of a report: none or few, or at most so much below 2^64.
+fn total(rng: &mut Rng, near: usize, below: usize) -> u64 {
+    if rng.percent(near) {
+        return u64::MAX - rng.below(below) as u64;
+    }
+    match rng.weighted(&[50, 30, 10, 10]) {
+        0 => 0,
+        1 => rng.below(50) as u64,
+        2 => (1u64 << rng.below(64)) - 1 + rng.below(3) as u64,
+        _ => rng.next(),
+    }
+}
+
+/// The numbers of a report, of which some may not bear one more sheet: all, a few, one, or none.
+fn totals(rng: &mut Rng) -> [u64; TOTALS] {
+    let mut out = [0; TOTALS];
+    let (near, below) = [(100, 3), (100, 40), (30, 6), (8, 30), (0, 1)][rng.weighted(&[10, 20, 25, 30, 15])];
+    for number in &mut out {
+        *number = total(rng, near, below);
+    }
+    if rng.once_in(4) {
+        // One stands at the edge and no other does.
+        let at = rng.below(TOTALS);
+        out = out.map(|number| number / 2);
+        out[at] = u64::MAX - rng.below(12) as u64;
+    }
+    out
+}
+
+fn listed(totals: [u64; TOTALS]) -> String {
+    totals.map(|number| number.to_string()).join(",")
+}
+
+/// A sheet for a report: of any kind, or one of runs that end early, of crowded blocks, or of blocks whose canonical text
+/// stands around its limit.
+fn report_sheet(rng: &mut Rng) -> Vec<u8> {
+    match rng.weighted(&[700, 240, 59, 1]) {
+        0 => whole_sheet(rng),
+        1 => {
+            let shallow = [5, 40][rng.below(2)];
+            text_of_lines(rng, shallow, 5).0
+        }
+        2 => {
+            let mut text = String::new();
+            for _ in 0..rng.between(1, 4) {
+                let list = crowd(rng);
+                text.push_str(&laid(rng, &list, 40));
+                text.push('\n');
+            }
+            text.into_bytes()
+        }
+        _ => format!("{}\n{{.a\n b}}\n{{.b .b}}", canon_edge(rng)).into_bytes(),
+    }
+}
+
+/// Reports over up to four sheets, one more sheet to a report that may be nearly full, two reports added up, and how the
+/// sheet program goes over a sheet.
+fn report(rng: &mut Rng, out: &mut Out) {
+    match rng.weighted(&[40, 40, 5, 15]) {
+        0 => {
+            out.words("report");
+            for _ in 0..rng.weighted(&[0, 30, 35, 20, 15]) {
+                out.request("", &report_sheet(rng), "");
+            }
+        }
+        1 => {
+            let before = totals(rng);
+            let text = report_sheet(rng);
+            let cap = whole_cap(rng);
+            out.request(&format!("report_feed {}", listed(before)), &text, &cap);
+        }
+        2 => {
+            let first = totals(rng);
+            let mut second = totals(rng);
+            for at in 0..TOTALS {
+                // What just fits, and one more.
+                match rng.below(10) {
+                    0..=5 => second[at] = u64::MAX - first[at],
+                    6 if rng.once_in(8) => second[at] = (u64::MAX - first[at]).wrapping_add(1),
+                    _ => {}
+                }
+            }
+            out.words(&format!("report_add {} {}", listed(first), listed(second)));
+        }
+        _ => {
+            let text = report_sheet(rng);
+            let cap = whole_cap(rng);
+            out.request("runs", &text, &cap);
+        }
+    }
+}
+
+/// Seldom a join buffer shorter than whole sheets need, or as long as it takes.
+fn whole_cap(rng: &mut Rng) -> String {
+    match rng.below(60) {
+        0 => format!(" cap={}", TEXT_LIMIT - rng.below(3)),
+        1 => format!(" cap={}", rng.pick(&["0", "1", "65535", "30000", "65534"])),
+        _ => String::new(),
+    }
+}
+
 /// A request with one fault in its line, or, now and then, none.
 fn errors(rng: &mut Rng, out: &mut Out) {
-    // The last family has only requests that the others have too.
-    random(FAMILIES[rng.below(FAMILIES.len() - 1)], rng, out);
+    random(FAMILIES[rng.below(FAMILIES.len())], rng, out);
     let mut fields: Vec<Vec<u8>> = out.line.split(|&b| b == b' ').map(<[u8]>::to_vec).collect();
     let at = rng.below(fields.len());
     match rng.below(12) {
@@ -1910,6 +2022,26 @@ const VARIANT_SECTIONS: &[Section] = &[
     },
 ];
 
+/// What sheets are made of: bytes, parts of blocks and lines, blanks.
+const SHEET_BYTES: &[&[u8]] = &[b"{", b"}", b"a", b" ", b"\n", b"\r", b"\"", b"="];
+const SHEET_PARTS: &[&[u8]] = &[b"{a", b"}", b"}{.b", b"\n", b"\n ", b" ", b"c=\"", b"\"", b"{#d}", b"text", b"\r\n"];
+const SHEET_BLANKS: &[&[u8]] = &[b"{", b"}", b"a", b"\n", b"\t", b" ", b"\\", b"\x0C"];
+
+/// A report that bears one sheet, one block, two keys and so on, and no more.
+const FULL_FEED: &str = "report_feed 18446744073709551614,18446744073709551614,18446744073709551614,18446744073709551615,18446744073709551615,\
+18446744073709551615,18446744073709551615,18446744073709551615,18446744073709551614,18446744073709551613,18446744073709551613,18446744073709551609,\
+18446744073709551615";
+
+/// Sheets with a canonical text around its limit, and that text; `Q`, `E` and `R` are those of [`EDGES`].
+const REPORT_EDGES: &[(&str, &str)] = &[
+    ("{k='Q' id='R'}", "{k=\"Q\" id=\"R\"}"),
+    ("{a}\n{.a k='Q'\n .a id='R'}\n{b\n c}", "{class=\"a\" k=\"Q\" id=\"R\"}"),
+    ("{class='Q'\n class=\"E\" id='R'}\n", "{class=\"Q\" class=\"Q\" id=\"R\"}"),
+    ("{class='Qa'\n class='Qb' id='R'}\n{.a\n .a}", "{class=\"Qa\" class=\"Qb\" id=\"R\"}"),
+];
+/// Numbers of classes and keys around their limits; none is 0 of them.
+const AROUND: [usize; 5] = [0, 31, 32, 33, 34];
+
 fn sections(family: &str) -> &'static [Section] {
     match family {
         "bytes" => &[Section {
@@ -2062,10 +2194,18 @@ fn sections(family: &str) -> &'static [Section] {
             Section { atoms: SPELLED_BLOCKS, forms: &[("parse_standalone_attrs 1", b"", b"")] },
         ],
         "variants" => VARIANT_SECTIONS,
+        "report" => &[
+            Section {
+                atoms: SHEET_BYTES,
+                forms: &[("report", b"", b""), ("runs", b"", b""), (FULL_FEED, b"{", b"}\n{b}"), ("runs", b"{", b"}\n{b}")],
+            },
+            Section { atoms: SHEET_PARTS, forms: &[("report", b"", b""), ("runs", b"", b"")] },
+            Section { atoms: SHEET_BLANKS, forms: &[("report 7b2e610a20627d", b"", b""), ("runs", b"", b""), (FULL_FEED, b"", b"")] },
+        ],
         _ => &[
-            Section { atoms: &[b"{", b"}", b"a", b" ", b"\n", b"\r", b"\"", b"="], forms: &[("sheet", b"", b""), ("sheet", b"{", b"}\n{b}")] },
-            Section { atoms: &[b"{a", b"}", b"}{.b", b"\n", b"\n ", b" ", b"c=\"", b"\"", b"{#d}", b"text", b"\r\n"], forms: &[("sheet", b"", b"")] },
-            Section { atoms: &[b"{", b"}", b"a", b"\n", b"\t", b" ", b"\\", b"\x0C"], forms: &[("sheet", b"", b"")] },
+            Section { atoms: SHEET_BYTES, forms: &[("sheet", b"", b""), ("sheet", b"{", b"}\n{b}")] },
+            Section { atoms: SHEET_PARTS, forms: &[("sheet", b"", b"")] },
+            Section { atoms: SHEET_BLANKS, forms: &[("sheet", b"", b"")] },
         ],
     }
 }
@@ -2112,13 +2252,15 @@ const BEFORE_A_BYTE: [&[u8]; 7] = [b"{", b"{ ", b"{#", b"{.", b"{.a", b"{a", b"{
 
 /// The leaves begin with all 256 byte classes, then come the texts by size, then pairs of raw and unescaped text. The
 /// quick test begins with each of the 256 bytes wherever one decides, merges over two texts with texts by size. Repeated
-/// classes begin with canonical texts around the limit, then come the lists that are cut in two.
+/// classes begin with canonical texts around the limit, then come the lists that are cut in two. Reports begin with
+/// canonical texts around the limit and with as many classes and keys as stand around theirs.
 fn extra(family: &str, length: usize) -> u64 {
     match family {
         "leaves" => 256 + (SIZES.len() * SIZED.len()) as u64 + pairs(ESCAPE_ATOMS.len(), 0, length),
         "quick" => 256 * BEFORE_A_BYTE.len() as u64,
         "merge2" => (SIZES.len() * SIZED.len() * 3 * 2) as u64,
         "repeats" => (EDGES.len() * EDGE_SIZES) as u64 + CUT_FORMS.len() as u64 * pairs(SPELLINGS.len(), 1, length),
+        "report" => ((REPORT_EDGES.len() * EDGE_SIZES + AROUND.len() * AROUND.len() * 2) * REPORT_WORDS.len()) as u64,
         _ => 0,
     }
 }
@@ -2133,6 +2275,9 @@ fn exhaustive_extra(family: &str, mut number: u64, out: &mut Out) {
     }
     if family == "repeats" {
         return exhaustive_repeats(number, out);
+    }
+    if family == "report" {
+        return exhaustive_report(number as usize, out);
     }
     if number < 256 {
         return out.words(&format!("leaf is_class {number}"));
@@ -2150,15 +2295,38 @@ fn exhaustive_extra(family: &str, mut number: u64, out: &mut Out) {
     out.hex(&b);
 }
 
+/// The text filled so that the counted canonical text has two bytes less than its limit and so many more.
+fn at_edge(text: &str, counted: &str, more: usize) -> String {
+    let takes = 2 * counted.matches('Q').count();
+    let room = TEXT_LIMIT - 2 + more - counted.replace(['Q', 'R'], "").len();
+    let (quotes, rest) = ("\"".repeat(room / takes), "x".repeat(room % takes));
+    text.replace('Q', &quotes).replace('E', &quotes.replace('"', "\\\"")).replace('R', &rest)
+}
+
+/// The requests for a sheet of a report by itself.
+const REPORT_WORDS: [&str; 3] = ["report", "runs", FULL_FEED];
+
+/// A sheet with a canonical text around the limit, or with a block of so many classes and keys, on one line or wrapped.
+fn exhaustive_report(number: usize, out: &mut Out) {
+    let (words, number) = (REPORT_WORDS[number % REPORT_WORDS.len()], number / REPORT_WORDS.len());
+    let edges = REPORT_EDGES.len() * EDGE_SIZES;
+    if number < edges {
+        let (text, counted) = REPORT_EDGES[number / EDGE_SIZES];
+        return out.request(words, at_edge(text, counted, number % EDGE_SIZES).as_bytes(), "");
+    }
+    let number = number - edges;
+    let (classes, keys) = (AROUND[number / 2 % AROUND.len()], AROUND[number / 2 / AROUND.len()]);
+    let list: Vec<String> = (0..classes).map(|n| format!(".c{n}")).chain((0..keys).map(|n| format!("k{n}"))).collect();
+    let text = format!("{{.a}}\n{{{}}}\n{{b\n c}}\n", list.join(["\n ", " "][number % 2]));
+    out.request(words, text.as_bytes(), "");
+}
+
 /// A canonical text around the limit, or a list of classes that is cut in two.
 fn exhaustive_repeats(number: u64, out: &mut Out) {
     let edges = (EDGES.len() * EDGE_SIZES) as u64;
     if number < edges {
         let (words, first, second, counted) = EDGES[number as usize / EDGE_SIZES];
-        let takes = 2 * counted.matches('Q').count();
-        let room = TEXT_LIMIT - 2 + number as usize % EDGE_SIZES - counted.replace(['Q', 'R'], "").len();
-        let (quotes, rest) = ("\"".repeat(room / takes), "x".repeat(room % takes));
-        let fill = |text: &str| text.replace('Q', &quotes).replace('E', &quotes.replace('"', "\\\"")).replace('R', &rest);
+        let fill = |text: &str| at_edge(text, counted, number as usize % EDGE_SIZES);
         return out.texts(words, &fill(first), &fill(second));
     }
     let number = number - edges;

@@ -206,10 +206,22 @@ pub fn parse_standalone_attrs(bytes: &[u8], line: usize) -> Result<Attrs, Number
 /// What a run, or a call that may make runs, leaves besides its answer.
 #[derive(Default, Clone, Debug, PartialEq)]
 pub struct Trace {
+    /// How many lines were joined, the first line of a run too.
+    pub lines: usize,
     /// The sum of the untrimmed lengths of the lines joined.
     pub lookahead: usize,
     /// What the join buffer holds at its front.
     pub joined: Vec<u8>,
+}
+
+impl Trace {
+    /// A run after this one: the counts add up, and it writes over the front of what this one left.
+    fn then(&mut self, later: Trace) {
+        self.lines += later.lines;
+        self.lookahead += later.lookahead;
+        let left = self.joined.len().min(later.joined.len());
+        self.joined.splice(..left, later.joined);
+    }
 }
 
 /// An answer with its run's trace.
@@ -248,6 +260,7 @@ struct Walked {
 fn walk<'a>(base: usize, lines: impl Iterator<Item = RunLine<'a>>, cap: usize) -> Walked {
     let mut joined = String::new();
     let mut open_quote = false;
+    let mut joined_lines = 0;
     let mut lookahead = 0;
     let mut original_lookahead = 0;
     let mut brace_column: u128 = 0;
@@ -277,6 +290,7 @@ fn walk<'a>(base: usize, lines: impl Iterator<Item = RunLine<'a>>, cap: usize) -
             joined.push(' ');
         }
         joined.push_str(trimmed);
+        joined_lines += 1;
         lookahead += line.counts;
         original_lookahead += line.text.len();
         open_quote = door::open_quote_at_end(trimmed).is_some();
@@ -285,7 +299,23 @@ fn walk<'a>(base: usize, lines: impl Iterator<Item = RunLine<'a>>, cap: usize) -
             break;
         }
     }
-    Walked { end, trace: Trace { lookahead, joined: joined.into_bytes() }, original_lookahead }
+    Walked { end, trace: Trace { lines: joined_lines, lookahead, joined: joined.into_bytes() }, original_lookahead }
+}
+
+/// How many of the lines have so many bytes together. Every line that is joined has a byte, so the original's count of
+/// bytes says how many lines it joined.
+fn lines_within<'a>(bytes: usize, lines: impl Iterator<Item = RunLine<'a>>) -> usize {
+    let mut left = bytes;
+    let mut count = 0;
+    for line in lines {
+        if left == 0 {
+            break;
+        }
+        left = left.checked_sub(line.text.len()).expect("whole lines are counted");
+        count += 1;
+    }
+    assert_eq!(left, 0, "the bytes of lines are counted");
+    count
 }
 
 /// The run over these lines, held against the original's answer and its count of the lookahead.
@@ -296,6 +326,7 @@ fn run<'a>(base: usize, lines: impl Iterator<Item = RunLine<'a>> + Clone, cap: u
         door::counted(|| door::wrapped_attrs_run_at(base.min(FAR_COLUMN), lines.clone().map(|line| line.text)));
     assert_eq!(original.as_ref(), free.end.as_ref().ok(), "the run's set and line count are the original's");
     assert_eq!(counted, free.original_lookahead, "the run's lookahead is the original's");
+    assert_eq!(lines_within(counted, lines.clone()), free.trace.lines, "the lines joined are those that the original counted");
     if free.trace.joined.len() <= cap {
         return free;
     }
@@ -563,10 +594,7 @@ pub fn ends_in_refused_brace_run(bytes: &[u8], cap: usize) -> Traced<Result<bool
         }
         let walked = refused_of(&lines[start..], cap);
         ask_original &= !walked.out_of_range;
-        out.trace.lookahead += walked.trace.lookahead;
-        // A second run writes over the front of what the first left.
-        let left = out.trace.joined.len().min(walked.trace.joined.len());
-        out.trace.joined.splice(..left, walked.trace.joined);
+        out.trace.then(walked.trace);
         match walked.answer {
             Err(number) => {
                 out.answer = Err(number);
@@ -744,23 +772,34 @@ pub struct Found {
 /// The blocks of a sheet as the sheet program finds them: from line 1 on, past each block or, with none, on one line; or
 /// 1 or 2.
 pub fn blocks(bytes: &[u8]) -> Result<Vec<Found>, Number> {
+    Ok(goes(bytes)?.answer)
+}
+
+/// The same with what all measuring runs leave, those that find no block too. Reading a block that has been measured
+/// makes the same run again, which isn't counted.
+pub fn goes(bytes: &[u8]) -> Result<Traced<Vec<Found>>, Number> {
     let lines = lines_of(bytes)?;
-    let mut out = Vec::new();
+    let mut out = untraced(Vec::new());
     let mut at = 0;
     while at < lines.len() {
-        let Ok((_, count)) = block_of(Entry::Standalone, &lines[at..], TEXT_LIMIT).answer else {
+        let measured = block_of(Entry::Standalone, &lines[at..], TEXT_LIMIT);
+        out.trace.then(measured.trace.clone());
+        let Ok((_, count)) = measured.answer else {
             at += 1;
             continue;
         };
-        let read = block_of(Entry::Block, &lines[at..], TEXT_LIMIT).answer.map(|(attrs, read_count)| {
+        let again = block_of(Entry::Block, &lines[at..], TEXT_LIMIT);
+        assert_eq!(again.trace, measured.trace, "reading and measuring make the same run");
+        let read = again.answer.map(|(attrs, read_count)| {
             assert_eq!(read_count, count, "reading and measuring agree");
             attrs
         });
         assert!(matches!(read, Ok(_) | Err(6 | 7)), "a block that is measured is read, but for its limits");
-        out.push(Found { first: at + 1, count, read });
+        out.answer.push(Found { first: at + 1, count, read });
         at += count;
     }
-    Ok(out)
+    assert!(out.trace.lines <= lines.len(), "no line is joined in two runs");
+    Ok(bounded(out, bytes))
 }
 
 /// What the sheet program writes.

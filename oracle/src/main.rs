@@ -1,5 +1,6 @@
 //! The oracle: reads request lines on standard input and writes one answer line for each. With the word `sheet` or
-//! `variants` it is the program of that name instead: standard input is one sheet, and its report or table is written.
+//! `variants` it is the program of that name instead: standard input is one sheet, and its report or table is written. With
+//! the word `numbers` it writes the report over the sheets whose files are named behind it, or over standard input.
 
 mod ast;
 mod document;
@@ -8,9 +9,18 @@ mod parse;
 mod requests;
 mod rows;
 mod standins;
+mod totals;
 mod variants;
 
+use std::fs::File;
 use std::io::{self, BufRead, BufReader, BufWriter, Read, Write};
+
+/// A sheet, as far as it takes to refuse it: one byte above the limit.
+fn read_sheet(from: impl Read) -> io::Result<Vec<u8>> {
+    let mut text = Vec::new();
+    from.take(layer::TEXT_LIMIT as u64 + 1).read_to_end(&mut text)?;
+    Ok(text)
+}
 
 fn main() -> io::Result<()> {
     let mut input = BufReader::with_capacity(1 << 20, io::stdin().lock());
@@ -21,10 +31,15 @@ fn main() -> io::Result<()> {
         _ => None,
     };
     if let Some(program) = program {
-        // One byte above the limit is as many as it takes to refuse the text.
-        let mut text = Vec::new();
-        input.take(layer::TEXT_LIMIT as u64 + 1).read_to_end(&mut text)?;
-        output.write_all(&program(&text))?;
+        output.write_all(&program(&read_sheet(input)?))?;
+        return output.flush();
+    }
+    if std::env::args().nth(1).as_deref() == Some("numbers") {
+        let mut sheets = std::env::args().skip(2).map(|name| read_sheet(File::open(name)?)).collect::<io::Result<Vec<_>>>()?;
+        if sheets.is_empty() {
+            sheets.push(read_sheet(input)?);
+        }
+        output.write_all(totals::written(&totals::report(&sheets)).as_bytes())?;
         return output.flush();
     }
     let mut request = Vec::new();

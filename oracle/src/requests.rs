@@ -6,6 +6,7 @@ use crate::layer::{self, Entry, MergeRefusal, Number, Refused, Trace, Traced};
 use crate::parse::attrs::door;
 use crate::rows::{Name, Rows, Slot};
 use crate::standins::*;
+use crate::totals::{self, Totals};
 use crate::variants;
 use std::io::Write;
 
@@ -27,6 +28,12 @@ fn number(field: &[u8]) -> Option<usize> {
     }
     let value: u64 = std::str::from_utf8(field).ok()?.parse().ok()?;
     usize::try_from(value).ok()
+}
+
+/// The numbers of a report, parted by commas.
+fn numbers(field: &[u8]) -> Option<Totals> {
+    let list: Vec<u64> = field.split(|&b| b == b',').map(|part| number(part).map(|n| n as u64)).collect::<Option<_>>()?;
+    list.try_into().ok()
 }
 
 /// The mode of a reading at a brace.
@@ -144,6 +151,10 @@ fn put_block(found: Traced<Result<(Attrs, usize), Number>>, with_set: bool, out:
     if let (Ok((attrs, _)), true) = (&found.answer, with_set) {
         put_canon(layer::canonical(attrs), out);
     }
+}
+
+fn put_report(totals: &Totals, out: &mut Vec<u8>) {
+    put!(out, "report {}", totals.map(|number| number.to_string()).join(","));
 }
 
 /// `ok SET`, or where the merge ended.
@@ -268,6 +279,29 @@ fn answer_known(request: &[u8], out: &mut Vec<u8>) -> Option<()> {
                 }
             }
             Err(refusal) => put_refused(refusal.number, out),
+        },
+        (b"report", texts @ [_, ..]) => {
+            let sheets: Vec<Vec<u8>> = texts.iter().map(|text| hex(text)).collect::<Option<_>>()?;
+            put_report(&totals::report(&sheets), out);
+        }
+        (b"report_feed", [before, text]) => {
+            let (before, text) = (numbers(before)?, hex(text)?);
+            let fed = totals::feed(&before, &text, cap);
+            if let Err(number) = fed {
+                put!(out, "refused {number} ");
+            }
+            put_report(&fed.unwrap_or(before), out);
+        }
+        (b"report_add", [a, b]) => match totals::add(&numbers(a)?, &numbers(b)?) {
+            Ok(sum) => put_report(&sum, out),
+            Err(number) => put_refused(number, out),
+        },
+        (b"runs", [text]) => match totals::runs(&hex(text)?, cap) {
+            Ok((blocks, trace)) => {
+                put!(out, "blocks {blocks} lines {}", trace.lines);
+                put_run(&trace, out);
+            }
+            Err(number) => put_refused(number, out),
         },
         _ => return None,
     }

@@ -2,8 +2,11 @@
 -- Assumes nothing.
 use mathlib.Core.Path.{_≡_, refl, sym, ap, _∙_}
 use mathlib.Core.List.{List, [], _∷_, _++_}
-use Prim.Native.Nat.{ℕ}
-use lib.ListN.{length, set}
+use Prim.Native.Nat.{ℕ, zero, suc, _+_, _≤_, _<_}
+use native.Mathlib.Numerals.{add-one}
+use native.Mathlib.Omega.{arith}
+use lib.ListN.{length, getD, set, take, length-set}
+use lib.Seq.{length-take-le, take-all, take-suc}
 use Rattle.base_refusals.specs.Numbers.{outcomeNo}
 use Rattle.base_refusals.specs.Orders.{inOrder, onPaper, orderNo, met}
 use Rattle.base_refusals.specs.declared.Outcome.{Outcome}
@@ -32,6 +35,43 @@ unfolding toldIn
 told-more [] xs x = refl
 told-more (b ∷ buf) [] x = ap (λ l. x ∷ l) (sym (told-none buf))
 told-more (b ∷ buf) (y ∷ ys) x = ap (λ l. y ∷ l) (told-more buf ys x)
+
+-- numbers for which there is no room are not told
+told-full : (buf xs : List ℕ) (n : ℕ) → length buf ≤ n → toldIn buf (take n xs) ≡ toldIn buf xs
+unfolding toldIn
+told-full [] xs n h = refl
+told-full (b ∷ buf) xs zero h = absurd (omega arith)
+told-full (b ∷ buf) [] (suc n) h = refl
+told-full (b ∷ buf) (x ∷ xs) (suc n) h = ap (λ l. x ∷ l) (told-full buf xs n (omega arith))
+
+-- ---- a loop that tells the numbers xs: i of them stand in the lent memory, which was `buf`
+
+pub record Laid (xs buf out : List ℕ) (i : ℕ) : Type 0 where
+  pub within : i ≤ length xs
+  pub size : length out ≡ length buf
+  pub front : out ≡ toldIn buf (take i xs)
+
+pub laid-start : (xs buf : List ℕ) → Laid xs buf buf 0
+laid-start xs buf = record { within = omega arith; size = refl; front = sym (told-none buf) }
+
+module _ {xs buf out : List ℕ} {i : ℕ} (inv : Laid xs buf out i) where
+  pub laid-go : (d : ℕ) {x : ℕ} → i < length xs → x ≡ getD xs i d → Laid xs buf (set out i x) (i + 1)
+  laid-go d {x} h e =
+      let front : length (take i xs) ≡ i = length-take-le i xs (omega arith) in
+      let next : take (i + 1) xs ≡ take i xs ++ (x ∷ []) = rw (add-one, e) (take-suc xs i d h) in
+      record {
+        within = omega arith;
+        size = length-set out i x ∙ inv .size;
+        front = rw next (ap (λ l. set l i x) (inv .front) ∙ rw front at (told-more buf (take i xs) x));
+      }
+
+  pub laid-end : length xs ≤ i → out ≡ toldIn buf xs
+  laid-end h = inv .front ∙ ap (toldIn buf) (take-all i xs (omega arith))
+
+  pub laid-full : length out ≤ i → out ≡ toldIn buf xs
+  laid-full h = inv .front ∙ told-full buf xs i (omega (arith, inv .size))
+
+-- ---- numbers told by their index
 
 behind : (buf xs : List ℕ) (x : ℕ) {t u : List ℕ} → t ≡ toldIn buf xs → u ≡ set t (length xs) x → u ≡ toldIn buf (xs ++ (x ∷ []))
 behind buf xs x {t} {u} e f = f ∙ ap (λ l. set l (length xs) x) e ∙ told-more buf xs x

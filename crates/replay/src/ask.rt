@@ -174,7 +174,7 @@ fn cap_of(line: &[u8], word: usize, count: usize) -> Said {
 }
 
 // The number behind `cap=`, up to the longest text.
-fn cap_at(s: &[u8]) -> Said {
+pub(crate) fn cap_at(s: &[u8]) -> Said {
     if !base_lists::same_bytes(fields::part(s, 0, 4), b"cap=") {
         return fields::bad();
     }

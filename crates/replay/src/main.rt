@@ -11,6 +11,7 @@ mod out;
 mod past;
 mod refusing;
 mod reply;
+mod reports;
 mod rows;
 mod sheets_at;
 mod two_texts;
@@ -18,8 +19,8 @@ mod two_texts;
 use crate::ask::Ask;
 use crate::reply::Reply;
 
-// A request line fits the input buffer with its LF: two texts in hex, and the words around them.
-const INPUT: usize = 263000;
+// A request line fits the input buffer with its LF: four texts in hex and the words around them, and some more.
+const INPUT: usize = 800100;
 // The longest text of a request; a canonical text is no longer.
 pub(crate) const TEXT: usize = 65600;
 // The join buffer.
@@ -38,6 +39,24 @@ fn main() {
 
 // Answers one request, its text or texts laid into a and b, behind what stands in the output up to `at`.
 pub(crate) fn answer(
+    line: &[u8],
+    a: &mut [u8],
+    b: &mut [u8],
+    join: &mut [u8],
+    output: &mut [u8],
+    at: usize,
+) -> usize {
+    let word = reports::word_of(line);
+    if word < reports::NONE {
+        let to = reports::answer(word, line, a, join, output, at);
+        by_line::clear(join);
+        return to;
+    }
+    answer_one(line, a, b, join, output, at)
+}
+
+// Answers a request about one text or two.
+fn answer_one(
     line: &[u8],
     a: &mut [u8],
     b: &mut [u8],

@@ -167,3 +167,6 @@ module _ (t : Texts) (a : Attrs) where
   pub by-listed : (buf : List ℕ) {m : List Entry} → m ≡ meaningOf t a → {w : Wrote} {b : List ℕ} → w ≡ wroteOf (canon m) (length buf) → b ≡ contentAfter buf (canon m)
       → (w ≡ wroteOf (canon (meaningOf t a)) (length buf)) × (b ≡ contentAfter buf (canon (meaningOf t a)))
   by-listed buf e f g = rw (sym e) (f, g)
+
+  pub by-measured : (size : ℕ) {m : List Entry} → m ≡ meaningOf t a → {w : Wrote} → w ≡ wroteOf (canon m) size → w ≡ wroteOf (canon (meaningOf t a)) size
+  by-measured size e f = rw (sym e) f

@@ -18,6 +18,15 @@ use Rattle.set_writer.specs.declared.Wrote.the-variants.{Refused, Bytes}
 use Rattle.set_writer.specs.Write.{hasRoom, wroteOf, contentAfter}
 use Rattle.set_writer.specs.Inner.{putIf, wroteTo}
 
+-- measured with no buffer, as with one of 65,535 bytes
+pub measured : (xs : List ℕ) → wroteTo maxText (length xs) ≡ wroteOf xs maxText
+unfolding wroteTo wroteOf hasRoom
+measured xs = go (leb (length xs) maxText)
+  where
+    go : (x : Bool) → cond x (Bytes (length xs)) (Refused CanonTooLong) ≡ cond (x && x) (Bytes (length xs)) (Refused CanonTooLong)
+    go true = refl
+    go false = refl
+
 module _ (xs buf : List ℕ) {cap : ℕ} (e : cap ≡ min (length buf) maxText) where
   room-yes : length xs ≤ cap → hasRoom (length buf) (length xs) ≡ true
   unfolding hasRoom

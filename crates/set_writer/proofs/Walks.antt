@@ -166,12 +166,12 @@ pub record Walks (t : Texts) (a : Attrs) (really : Bool) (buf₀ : List ℕ) (ca
   pub fills : Fills really buf₀ 0 (canon (listedOf t a)) buf n (textFrom n (pairs (drop p (listedOf t a))))
 
 module _ (t : Texts) (a : Attrs) (really : Bool) (buf : List ℕ) (cap : ℕ) where
-  pub walks-start : length (a .order) ≡ maxSlots → cap ≤ length buf → (really ≡ true → length (canon (listedOf t a)) ≤ cap) → Walks t a really buf cap buf 0 0
-  walks-start l h r =
+  pub walks-start : length (a .order) ≡ maxSlots → (really ≡ true → (length (canon (listedOf t a)) ≤ cap) × (cap ≤ length buf)) → Walks t a really buf cap buf 0 0
+  walks-start l r =
       record {
         long = l;
-        fits = r;
-        fills = subst (λ (xs : List ℕ). Fills really buf 0 (canon (listedOf t a)) buf 0 xs) (sym (from-front (listedOf t a))) (fills-start really buf 0 (canon (listedOf t a)) (λ y. omega (arith, r y)));
+        fits = λ y. r y .0;
+        fills = subst (λ (xs : List ℕ). Fills really buf 0 (canon (listedOf t a)) buf 0 xs) (sym (from-front (listedOf t a))) (fills-start really buf 0 (canon (listedOf t a)) (λ y. omega (arith, r y .0, r y .1)));
       }
 
 module _ {t : Texts} {a : Attrs} {really : Bool} {buf₀ : List ℕ} {cap : ℕ} {buf : List ℕ} {n p : ℕ} (inv : Walks t a really buf₀ cap buf n p) where
@@ -189,8 +189,8 @@ module _ {t : Texts} {a : Attrs} {really : Bool} {buf₀ : List ℕ} {cap : ℕ}
     unfolding pairs flatMap
     none = rw (drop-of-length-le (listedOf t a) {i = p} (omega (arith, slots-length t a (inv .long)))) (sym (append-nil (closingBytes n)))
 
-    pub close-room : cap ≤ length buf₀ → really ≡ true → (n + length (closingBytes n) ≤ length buf) × (n + length (closingBytes n) ≤ cap)
-    close-room l y = (fills-room (inv .fills) (closingBytes n) [] none y, omega (arith, fills-within (inv .fills) (closingBytes n) [] none, inv .fits y))
+    pub close-room : really ≡ true → (n + length (closingBytes n) ≤ length buf) × (n + length (closingBytes n) ≤ cap)
+    close-room y = (fills-room (inv .fills) (closingBytes n) [] none y, omega (arith, fills-within (inv .fills) (closingBytes n) [] none, inv .fits y))
 
     pub walks-end : {r : Wrote} {buf′ : List ℕ} → r ≡ wroteTo cap (n + length (closingBytes n)) → buf′ ≡ putIf really buf n (closingBytes n)
         → (r ≡ wroteTo cap (length (canon (listedOf t a)))) × (buf′ ≡ putIf really buf₀ 0 (canon (listedOf t a)))

@@ -267,8 +267,8 @@ fn walk<'a>(
     cap: usize,
     really: bool,
 ) -> Wrote
-    requires { ⌜ (cap ≤ maxText) × (cap ≤ length (now out)) ⌝ }
-    requires { ⌜ (really ≡ true → length (canon (listedOf (two (now first) (now second)) set)) ≤ cap) ⌝ }
+    requires { ⌜ cap ≤ maxText ⌝ }
+    requires { ⌜ (really ≡ true → (length (canon (listedOf (two (now first) (now second)) set)) ≤ cap) × (cap ≤ length (now out))) ⌝ }
     ensures { λ r. ⌜ r ≡ wroteTo cap (length (canon (listedOf (two (now (first .entry)) (now (second .entry))) set))) ⌝ }
     ensures { λ r. ⌜ now (out .exit) ≡ putIf really (now (out .entry)) 0 (canon (listedOf (two (now (first .entry)) (now (second .entry))) set)) ⌝ }
 {
@@ -332,6 +332,33 @@ pub fn write_set<'a>(first: &'a [u8], second: &'a [u8], set: Attrs, out: &mut [u
     }
     let kept = once::classes_once(first, second, set);
     write_listed(first, second, kept, out)
+}
+
+// How many bytes the text has that lists every class of the set; nothing is written.
+fn measure_listed<'a>(first: &'a [u8], second: &'a [u8], set: Attrs) -> Wrote
+    ensures { λ r. ⌜ r ≡ wroteOf (canon (listedOf (two (now (first .entry)) (now (second .entry))) set)) maxText ⌝ }
+{
+    let mut none = [0u8; 1];
+    walk(
+        first,
+        second,
+        set,
+        &mut none,
+        base_refusals::MAX_TEXT,
+        false,
+    )
+}
+
+// How many bytes the canonical text of a set has, if it isn't too long: what `write_set` says for a buffer of 65,535 bytes, without the buffer.
+pub fn measure_set<'a>(first: &'a [u8], second: &'a [u8], set: Attrs) -> Wrote
+    ensures { λ r. ⌜ r ≡ wroteOf (canon (meaningOf (two (now (first .entry)) (now (second .entry))) set)) maxText ⌝ }
+    ensures { λ r. ⌜ wrotePaper r ≡ onPaper (roomOrder (canon (meaningOf (two (now (first .entry)) (now (second .entry))) set)) maxText) (length (canon (meaningOf (two (now (first .entry)) (now (second .entry))) set)) ∷ []) ⌝ }
+{
+    if 2 <= set.nclass {
+        let kept = once::classes_once(first, second, set);
+        return measure_listed(first, second, kept);
+    }
+    measure_listed(first, second, set)
 }
 
 // The writer: the canonical text of a well-formed set at the front of lent memory, where it has room.

@@ -22,8 +22,7 @@ use Rattle.read_lengths.specs.Lengths.{flushLeft}
 use Rattle.read_blocks.specs.declared.Block.{Block}
 use Rattle.read_blocks.proofs.Finds.{none-holds, sized-long, sized-is}
 use Rattle.sheet_blocks.specs.declared.Next.{Next}
-use Rattle.sheet_blocks.specs.Sheets.{triesAt, isBlock, onlyBlocks, joinBehind, upToBlock, firstBlock, nextOf, nextTries}
-use Rattle.sheet_blocks.specs.Inner.{mayOpen}
+use Rattle.sheet_blocks.specs.Sheets.{mayOpen, triesAt, isBlock, onlyBlocks, joinBehind, upToBlock, firstBlock, nextOf, nextTries}
 use Rattle.sheet_blocks.proofs.Tries.{block-counted, holds-long, prose, flush, none-there, tries-end, tries-on, tries-past}
 
 -- what `read_at` answers and leaves in the join buffer

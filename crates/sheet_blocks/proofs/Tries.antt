@@ -38,8 +38,7 @@ use Rattle.read_blocks.specs.Blocks.{Found, nothing, closedRun, endedRun, runFo
 use Rattle.read_lengths.specs.Lengths.{flushLeft}
 use Rattle.block_trimmed_line.proofs.Trimmed.{line-none, indent-is}
 use Rattle.read_blocks.proofs.Finds.{found-none}
-use Rattle.sheet_blocks.specs.Sheets.{Try, triesFrom, triesAt, isBlock}
-use Rattle.sheet_blocks.specs.Inner.{mayOpen}
+use Rattle.sheet_blocks.specs.Sheets.{mayOpen, Try, triesFrom, triesAt, isBlock}
 
 -- ---- each way through the tests of a block
 
@@ -218,6 +217,10 @@ module _ (t : List ℕ) (at : ℕ) (h : at < length t) where
   pub flush : (cap : ℕ) → mayOpen (drop at t) ≡ true → flushLeft t cap at ≡ found t at 0 cap
   unfolding flushLeft isIndent isIn all
   flush cap m = rw (← indent-is t at h, among-not isIndent (12 ∷ 13 ∷ 123 ∷ []) (getD t at 0) refl (both _ _ (opener-is ∙ m) .0))
+
+pub opener-none : (t : List ℕ) (at : ℕ) → length t ≤ at → false ≡ mayOpen (drop at t)
+unfolding mayOpen
+opener-none t at h = rw (drop-of-length-le t h)
 
 pub lf-none : (t : List ℕ) (at : ℕ) → length t ≤ at → true ≡ not (beforeLf (drop at t))
 lf-none t at h = rw (drop-of-length-le t h)

@@ -1,3 +1,2 @@
 -- The definitions that the contracts of sheet_blocks cite.
 pub mod Sheets
-pub mod Inner

@@ -1,6 +1,6 @@
 -- "The sheet program": the blocks of a sheet, and how a caller goes from one to the next.
 use Prim.Native.Nat.{ℕ, zero, suc, _-_}
-use mathlib.Core.Bool.{Bool, true, false, cond}
+use mathlib.Core.Bool.{Bool, true, false, cond, not, _&&_}
 use mathlib.Core.List.{List, [], _∷_, foldl}
 use lib.Dec.{ltb}
 use lib.ListN.{drop}
@@ -8,13 +8,21 @@ use Rattle.base_refusals.specs.Numbers.{maxText, tooLong}
 use Rattle.base_refusals.specs.Orders.{Ground}
 use Rattle.base_refusals.specs.declared.Refusal.{Refusal}
 use Rattle.base_refusals.specs.declared.Refusal.the-variants.{TextTooLong, NothingThere, JoinFull}
-use Rattle.text_lines.specs.Lines.{rangesFrom, ranges}
+use Rattle.base_lists.specs.Lists.{isIn}
+use Rattle.base_bytes.specs.Bytes.{cr, ff, openBrace}
+use Rattle.text_lines.specs.Lines.{isDropped, rangesFrom, ranges}
 use Rattle.text_lines.specs.declared.Range.{Range}
 use Rattle.read_blocks.specs.Blocks.{Found, linesOf, joinHolds, blockOf, unread, sizedOrder, foundOrder, readOrder}
 use Rattle.read_lengths.specs.Lengths.{flushLeft}
 use Rattle.sheet_blocks.specs.declared.Next.{Next}
 
 -- ---- the lines at which a block is looked for
+
+-- 3: "trimmed line doesn't start with `{`; for `standalone_attrs_block_len`, first line starts with space or tab". So a line at the front of which a block can stand
+-- begins with `{`, or with FF or CR, which are trimmed and don't indent. A CR before an LF is a blank line's, and behind the text there is no line.
+unfoldable pub mayOpen : List ℕ → Bool
+mayOpen [] = false
+mayOpen (b ∷ s) = isIn (ff ∷ cr ∷ openBrace ∷ []) b && not (isDropped b s)
 
 -- such a line: its number, where it begins, and what is found there
 pub record Try : Type 0 where

@@ -5,16 +5,14 @@ use read_blocks::Block;
 use set_table::Attrs;
 ghost use mathlib.Core.Bool.{not};
 ghost use mathlib.Core.Path.{_≡_};
-ghost use Prim.Native.Nat.{_<_};
 ghost use lib.ListN.{length, drop};
 ghost use Rattle.base_refusals.specs.Numbers.{outcomeNo};
 ghost use Rattle.base_refusals.specs.Orders.{orderNo};
 ghost use Rattle.text_lines.specs.Lines.{beforeLf};
-ghost use Rattle.sheet_blocks.specs.Sheets.{joinBehind, nextOf, nextTries, nextOrder};
+ghost use Rattle.sheet_blocks.specs.Sheets.{mayOpen, joinBehind, nextOf, nextTries, nextOrder};
 ghost use Rattle.base_refusals.specs.declared.Refusal.the-variants.{JoinFull};
 ghost use Rattle.base_refusals.specs.declared.Outcome.the-variants.{Refused};
 ghost use Rattle.read_blocks.specs.Blocks.{blockBy};
-ghost use Rattle.sheet_blocks.specs.Inner.{mayOpen};
 
 // The next block: how many lines are gone past before it, where its first line begins, and what it reads. With no block `block.lines` is 0.
 pub struct Next {
@@ -33,11 +31,14 @@ fn lacks_lf(text: &[u8], at: usize) -> bool
     text[at] != b'\n'
 }
 
-// Whether a block that isn't indented can stand in the line that begins at the place: by its first byte, without reading on.
-fn may_open(text: &[u8], at: usize) -> bool
-    requires { ⌜ at < length (now text) ⌝ }
+// Whether a block that isn't indented can stand in the line that begins at the place: by its first byte, without reading on. So whoever goes from line to line passes
+// prose and makes no set for it.
+pub fn may_open(text: &[u8], at: usize) -> bool
     ensures { λ r. ⌜ r ≡ mayOpen (drop at (now (text .entry))) ⌝ }
 {
+    if text.len() <= at {
+        return false;
+    }
     let b = text[at];
     match b {
         12 | b'{' => true,

@@ -19,6 +19,16 @@ pub fn count() -> usize {
     n - 1
 }
 
+// Whether the first argument is that word.
+pub fn first_is(word: &[u8]) -> bool {
+    if os::arg_count() <= 1 {
+        return false;
+    }
+    let mut name = io::buffer();
+    let n = os::arg(1, &mut name);
+    base_lists::same_bytes(&name[..n], word)
+}
+
 // Reads a sheet by its number, counted from 0, into lent memory. One that an argument names stands under a heading, and `-` names standard input.
 pub fn read(i: usize, text: &mut [u8]) -> Sheet {
     if os::arg_count() <= 1 {
@@ -32,7 +42,43 @@ pub fn read(i: usize, text: &mut [u8]) -> Sheet {
     say(b"==> ");
     say(&name[..n]);
     say(b" <==\n");
-    read_named(&name[..n], text)
+    match read_named(&name[..n], text) {
+        Sheet::Bytes(k) => Sheet::Bytes(k),
+        Sheet::Missing => {
+            say(b"not there\n");
+            Sheet::Missing
+        }
+    }
+}
+
+// The same without a heading. What can't be read is told on standard error.
+pub fn read_plain(i: usize, text: &mut [u8]) -> Sheet {
+    if os::arg_count() <= 1 {
+        return Sheet::Bytes(io::read_full(libc::STDIN_FILENO, text));
+    }
+    if i == usize::MAX {
+        return Sheet::Missing;
+    }
+    let mut name = io::buffer();
+    let n = os::arg(i + 1, &mut name);
+    match read_named(&name[..n], text) {
+        Sheet::Bytes(k) => Sheet::Bytes(k),
+        Sheet::Missing => {
+            os::fail(&name[..n]);
+            Sheet::Missing
+        }
+    }
+}
+
+// Says on standard error what is wrong with the sheet of that number.
+pub fn complain(i: usize, words: &[u8]) {
+    if i == usize::MAX {
+        return;
+    }
+    let mut name = io::buffer();
+    let n = os::arg(i + 1, &mut name);
+    warn(&name[..n]);
+    warn(words);
 }
 
 // Reads the sheet of that name.
@@ -42,12 +88,16 @@ fn read_named(name: &[u8], text: &mut [u8]) -> Sheet {
     }
     let fd = os::open_read(name);
     if fd < 0 {
-        say(b"not there\n");
         return Sheet::Missing;
     }
     let n = io::read_full(fd, text);
     libc::close(fd);
     Sheet::Bytes(n)
+}
+
+// Writes bytes to standard error.
+pub fn warn(words: &[u8]) {
+    io::write_all(libc::STDERR_FILENO, words);
 }
 
 // Writes bytes to standard output, and answers whether all were.

@@ -3,6 +3,7 @@ use native.Mathlib.Omega.{arith}
 use borrow.Author.Needs.{needs}
 use lib.ListN.{length-map}
 use Rattle.sheet_valves.specs.Tables.{cellCount}
+use Rattle.door_shared.proofs.Laws.{laid-full}
 use Rattle.door_valves.proofs.Says as laws
 use Rattle.door_valves.proofs.lay_cells.Statement.{statement}
 use Rattle.door_valves.proofs.lay_cells.Tie as tie
@@ -17,10 +18,10 @@ loop-holds : tie.Need-loop-holds Inv-loop μ-loop
 loop-holds c = laws.cells-start _ _
 
 same-length : tie.Need-same-length Inv-loop μ-loop
-same-length c = c .before .before .loop .inv .size
+same-length c = c .before .before .loop .inv .laid .size
 
 returns : tie.Need-returns Inv-loop μ-loop
-returns c = laws.cells-full (simp length-map at (c .before .before .before .before .good .0 .1 .1 .0 .1 .0 .1)) (c .before .before .loop .inv) (c .if1 .taken)
+returns c = laid-full (c .before .before .loop .inv .laid) (c .if1 .taken)
 
 mul-cell-number : tie.Need-mul-cell-number Inv-loop μ-loop
 mul-cell-number c = search needs
@@ -49,7 +50,7 @@ loop-again c =
     rw (c .cell-number .ensures) (laws.cells-go (simp length-map at (turn .before .before .good .0 .1 .1 .0 .1 .0 .1)) (turn .loop .inv) (omega arith))
 
 same-length-2 : tie.Need-same-length-2 Inv-loop μ-loop
-same-length-2 c = c .before .loop .inv .size
+same-length-2 c = c .before .loop .inv .laid .size
 
 returns-2 : tie.Need-returns-2 Inv-loop μ-loop
 returns-2 c = laws.cells-end (simp length-map at (c .before .before .before .good .0 .1 .1 .0 .1 .0 .1)) (c .before .loop .inv) (omega arith)

@@ -8,7 +8,7 @@ use Rattle.replay.proofs.main.Statement.{statement}
 use Rattle.replay.proofs.main.Tie as tie
 
 slice-aggregate-answer-all : tie.Need-slice-aggregate-answer-all
-slice-aggregate-answer-all c = sym (length-replicate {A = ℕ} 263000 0)
+slice-aggregate-answer-all c = sym (length-replicate {A = ℕ} 800100 0)
 
 slice-aggregate-answer-all-2 : tie.Need-slice-aggregate-answer-all-2
 slice-aggregate-answer-all-2 c = sym (length-replicate {A = ℕ} 65600 0)

@@ -27,7 +27,7 @@ least-requires-2 : tie.Need-least-requires-2 Inv-slots μ-slots
 least-requires-2 c κs = search needs
 
 slots-holds : tie.Need-slots-holds Inv-slots μ-slots
-slots-holds c = let at5 = c .before .before .before .before .before in let e : length (at5 .args .t3 .order) ≡ maxSlots = simp length-map at (at5 .good .1 .1 .0 .1 .1 .1 .1 .1 .1 .1 .1 .1 .0 .1 .0 .1) in walks.walks-start _ _ _ _ _ e (at5 .pre .0 .1) (at5 .pre .1)
+slots-holds c = let at5 = c .before .before .before .before .before in let e : length (at5 .args .t3 .order) ≡ maxSlots = simp length-map at (at5 .good .1 .1 .0 .1 .1 .1 .1 .1 .1 .1 .1 .1 .0 .1 .0 .1) in walks.walks-start _ _ _ _ _ e (at5 .pre .1)
 
 same-length : tie.Need-same-length Inv-slots μ-slots
 same-length c = (c .before .slots .inv .fills .long)
@@ -38,7 +38,7 @@ returns c = walks.walks-over ((c .before .slots .inv)) (omega (arith, (c .if1 .t
 close-requires : tie.Need-close-requires Inv-slots μ-slots
 close-requires c κs =
     let at5 = c .before .before .before .before .before in let at9 = at5 .before .before .before .before in
-    (omega (arith, (c .before .before .if1 .left), (at9 .pre .0)), walks.close-room (c .before .before .before .slots .inv) (omega (arith, (at5 .least .ensures), (c .before .if2 .taken))) (at9 .pre .0 .1))
+    (omega (arith, (c .before .before .if1 .left), (at9 .pre .0)), walks.close-room (c .before .before .before .slots .inv) (omega (arith, (at5 .least .ensures), (c .before .if2 .taken))))
 
 same-length-2 : tie.Need-same-length-2 Inv-slots μ-slots
 same-length-2 c = omega (arith, (c .before .before .before .before .before .before .slots .inv .fills .long), (c .before .before .close .kept .0))

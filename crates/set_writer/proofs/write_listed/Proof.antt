@@ -14,7 +14,7 @@ least-requires : tie.Need-least-requires
 least-requires c κs = search needs
 
 walk-requires : tie.Need-walk-requires
-walk-requires c κs = ((omega (arith, (c .before .least .ensures)), omega (arith, (c .before .least .ensures))), λ e. contra false e refl)
+walk-requires c κs = (omega (arith, (c .before .least .ensures)), λ e. contra false e refl)
 
 enum-known-why : tie.Need-enum-known-why
 enum-known-why c = search needs
@@ -26,7 +26,7 @@ walk-requires-2 : tie.Need-walk-requires-2
 walk-requires-2 c κs =
     let at5 = c .before .before .before .before .before in let at7 = at5 .before .before in let at11 = at7 .before .before .before .before in
     let xs = canon (listedOf (two (at11 .args .first .now) (at11 .args .second .now)) (at11 .args .set)) in
-    ((omega (arith, (at7 .least .ensures)), omega (arith, (at7 .least .ensures), (at5 .walk .kept .1 .1 .1 .0))), λ e. room.fits xs (at11 .args .out .now) (at7 .least .ensures) (at5 .walk .ensures .0) (at5 .walk .ensures .1) (c .before .enum-told .given .1))
+    (omega (arith, (at7 .least .ensures)), λ e. (room.fits xs (at11 .args .out .now) (at7 .least .ensures) (at5 .walk .ensures .0) (at5 .walk .ensures .1) (c .before .enum-told .given .1), omega (arith, (at7 .least .ensures), (at5 .walk .kept .1 .1 .1 .0))))
 
 same-length : tie.Need-same-length
 same-length c = search needs

@@ -1,0 +1,2 @@
+-- The laws of door_totals.
+pub mod Says

@@ -1,0 +1,1 @@
+// Theorems about the numbers over all sheets.

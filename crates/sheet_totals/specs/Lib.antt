@@ -1,0 +1,2 @@
+-- The definitions that the contracts of sheet_totals cite.
+pub mod Totals

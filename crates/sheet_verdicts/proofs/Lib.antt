@@ -1,0 +1,2 @@
+-- The laws that the proofs of sheet_verdicts cite.
+pub mod Verdicts
