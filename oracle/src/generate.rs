@@ -5,14 +5,35 @@
 //!     generate size FAMILY LENGTH                   how many requests that is
 //!
 //! FAMILIES are names parted by commas: leaves, brace, lines, refused, merge, sheet, rows, quick, merge2, repeats,
-//! variants, report; `all` stands for these twelve. The family `errors`, which is in no `all`, damages the request lines
-//! themselves.
-//! Each request is made from the seed and its own number, so any part of the list can be made again.
+//! variants, report, index, mends; `all` stands for these fourteen. The family `errors`, which is in no `all`, damages the
+//! request lines themselves.
+//! Each request is made from the seed and its own number, so any part of the list can be made again. A request that
+//! carries the index of a text has it from the oracle's own modules.
 
+#[allow(dead_code)]
+mod ast;
+#[allow(dead_code)]
+mod document;
+#[allow(dead_code)]
+mod index;
+#[allow(dead_code)]
+mod layer;
+#[allow(dead_code, unused_imports)]
+mod parse;
+#[allow(dead_code)]
+mod rows;
+#[allow(dead_code)]
+mod standins;
+
+use index::{INDEX_LIMIT, ROWS_LIMIT};
 use std::io::{self, BufWriter, Write};
+use std::sync::{Mutex, OnceLock};
 
-const FAMILIES: [&str; 12] =
-    ["leaves", "brace", "lines", "refused", "merge", "sheet", "rows", "quick", "merge2", "repeats", "variants", "report"];
+const FAMILIES: [&str; 12] = [
+    "leaves", "brace", "lines", "refused", "merge", "sheet", "rows", "quick", "merge2", "repeats", "variants", "report",
+];
+/// Families of requests that the oracle alone answers as yet: only when named.
+const COMING: [&str; 2] = ["index", "mends"];
 const TEXT_LIMIT: usize = 65_535;
 
 // ---- Chance ----
@@ -627,6 +648,8 @@ fn random(family: &str, rng: &mut Rng, out: &mut Out) {
         "quick" => quick(rng, out),
         "variants" => variants(rng, out),
         "report" => report(rng, out),
+        "index" => indexes(rng, out),
+        "mends" => mends(rng, out),
         "errors" => errors(rng, out),
         _ => sheet(rng, out),
     }
@@ -1836,6 +1859,232 @@ fn whole_cap(rng: &mut Rng) -> String {
     }
 }
 
+// ---- Indexes ----
+
+/// Lines of sheets that have an index: blocks with and without an id, parts of wrapped ones, what looks like a record.
+const INDEX_LINES: &[&str] = &[
+    "{a}", "{#x}", "{#x", "{.a #y", " b}", " k=1", " k=1}", " .c}", "\"", "", " ", "\t", "\u{c}", "\u{c}{b}", "\r{c}", "text", "{#x}{.a}", "{#y}", "{id}",
+    "{id=\"\"}", "{id='a\tb'}", "{id='\t'}", "{id=\"a\r\"}", "{id='\"'}", "{id=\"\\\"\"}", "{id='\\\\'}", "{id='\\a'}", "{id='1\t1\t0'}", "{id=x}", "{id=é}",
+    "{a\r", "{a=\"", " b\"}", "\tb}", "}", "{", "{%", " %}", "x}", "{k=\"}\"}", " {a}", "{}", "{a=}", "carve-attr-index\t1", "1\t1\t0",
+];
+
+/// Some of these lines, each with its LF or CR LF.
+fn index_lines(rng: &mut Rng, most: usize, crlf: bool) -> String {
+    let mut text = String::new();
+    for _ in 0..rng.below(most + 1) {
+        text.push_str(if rng.once_in(12) { " " } else { "" });
+        text.push_str(rng.pick(INDEX_LINES));
+        text.push_str(if crlf { "\r\n" } else { "\n" });
+    }
+    text
+}
+
+/// A sheet that has an index, with few lines mostly.
+fn indexed_sheet(rng: &mut Rng) -> Vec<u8> {
+    if rng.once_in(3000) {
+        let size = long_size(rng);
+        let line = rng.pick(&["{a}\n", "{.a}\n", "{#x}\n", "{#x\n y}\n", " {a}\n", "{id='\t'}\n", "{a\n", "text\n", "{a}\r\n"]);
+        return filled(size, "", line, "").into_bytes();
+    }
+    let crlf = rng.once_in(8);
+    let mut text = match rng.weighted(&[780, 150, 60, 10]) {
+        0 => index_lines(rng, 8, crlf).into_bytes(),
+        1 => text_of_lines(rng, 20, 5).0,
+        2 => {
+            let parts = rng.between(1, 6);
+            sheet_parts(rng, parts).into_bytes()
+        }
+        _ => whole_sheet(rng),
+    };
+    if rng.once_in(3) && text.last() == Some(&b'\n') {
+        text.pop();
+    }
+    damage(rng, &mut text, 30);
+    text.truncate(65_600);
+    text
+}
+
+/// The index of a text, as the oracle builds it; of one that isn't read, that of no byte.
+fn index_of(text: &[u8]) -> Vec<u8> {
+    index::build(text, index::AMPLE).unwrap_or_else(|_| index::header())
+}
+
+/// What is lent for an index, which is this one where it is built: seldom exactly as much as it takes, or one less.
+fn lent(rng: &mut Rng, index: &[u8], with_buffer: bool) -> String {
+    let mut out = if with_buffer { whole_cap(rng) } else { String::new() };
+    if rng.once_in(6) {
+        let records = index.iter().filter(|&&b| b == b'\n').count().saturating_sub(1);
+        let rows = [records, records, records.saturating_sub(1), records + 1, 0, ROWS_LIMIT][rng.below(6)];
+        out.push_str(&format!(" rows={}", rows.min(ROWS_LIMIT)));
+    }
+    if with_buffer && rng.once_in(6) {
+        let buf = [index.len(), index.len(), index.len().saturating_sub(1), index.len() + 1, 0, INDEX_LIMIT][rng.below(6)];
+        out.push_str(&format!(" buf={}", buf.min(INDEX_LIMIT)));
+    }
+    out
+}
+
+/// Numbers of a record that are of the form, and some that aren't.
+const RECORD_NUMBERS: &[&str] = &[
+    "1", "2", "3", "9", "10", "65535", "65534", "12345", "0", "65536", "01", "00", "", "+1", "-1", " 1", "1 ", "1\r", "99999", "655350", "4294967297",
+    "18446744073709551617", "x", "1.0", "\u{661}",
+];
+/// Ids of records, also such as no text of UTF-8 has.
+const RECORD_IDS: &[&[u8]] =
+    &[b"", b"x", b"y", b"xx", b"\t", b"a\tb", b"\r", b"x\r", b" ", b"x ", b"1\t1\t0", b"\"", b"\\", b"\xC3\xA9", b"\xFF", b"\0", b"carve-attr-index\t1"];
+
+/// An index text by hand: mostly of the form, the numbers of its records in no order.
+fn index_by_hand(rng: &mut Rng) -> Vec<u8> {
+    let mut out = index::header();
+    for _ in 0..rng.below(5) {
+        for field in 0..3 {
+            // The first eight are of the form anywhere.
+            let number = if rng.percent(97) { RECORD_NUMBERS[rng.below(8)] } else { rng.pick(RECORD_NUMBERS) };
+            out.extend_from_slice(if field > 0 { b"\t" } else { b"" });
+            out.extend_from_slice(number.as_bytes());
+        }
+        if rng.percent(60) {
+            out.push(b'\t');
+            out.extend_from_slice(rng.pick(RECORD_IDS));
+        }
+        out.push(b'\n');
+    }
+    out
+}
+
+/// An index with one fault, or of another text.
+fn wrong_index(rng: &mut Rng, index: &mut Vec<u8>) {
+    let at = rng.below(index.len());
+    match rng.below(10) {
+        0 => index[at] = b"0123456789\t\n\r x-cC\xFF"[rng.below(19)],
+        1 => drop(index.remove(at)),
+        2 => index.insert(at, b"0123456789\t\n\r x"[rng.below(15)]),
+        3 => index.truncate(at),
+        4 => drop(index.pop()),
+        5 => index.extend_from_slice(rng.pick(&["1\t1\t0\n", "1\t1\t0", "\n", "1\t1\t0\tx\n", "\r\n", "x", "65535\t1\t65535\t\n"]).as_bytes()),
+        6 | 7 => {
+            // A record twice, or left out.
+            let mut lines: Vec<Vec<u8>> = index.split_inclusive(|&b| b == b'\n').map(<[u8]>::to_vec).collect();
+            let line = rng.below(lines.len());
+            if rng.percent(50) {
+                lines.insert(line, lines[line].clone());
+            } else {
+                lines.remove(line);
+            }
+            *index = lines.concat();
+        }
+        8 => {
+            let first = rng.pick(&["carve-attr-index\t2\n", "carve-attr-index\t1\r\n", "carve-attr-index\n", "carve-attr-index 1\n", "Carve-attr-index\t1\n", "carve-attr-index\t0\n"]);
+            let behind = index.iter().position(|&b| b == b'\n').map_or(index.len(), |at| at + 1);
+            drop(index.splice(..behind, first.bytes()));
+        }
+        _ => *index = index_by_hand(rng),
+    }
+}
+
+/// Building, reading and looking up.
+fn indexes(rng: &mut Rng, out: &mut Out) {
+    if rng.percent(30) {
+        let text = indexed_sheet(rng);
+        let lent = lent(rng, &index_of(&text), true);
+        return out.request("index_build", &text, &lent);
+    }
+    let mut text = if rng.percent(40) { index_by_hand(rng) } else { index_of(&indexed_sheet(rng)) };
+    if rng.once_in(4) {
+        wrong_index(rng, &mut text);
+    }
+    if rng.once_in(4000) {
+        // As long as a request carries it, or nearly; one byte more is no request.
+        let size = INDEX_LIMIT + 1 - rng.below(3);
+        text = [index::header(), b"1\t1\t0\n".repeat(ROWS_LIMIT)].concat();
+        text.truncate(size);
+        if rng.percent(60) {
+            let whole = text.iter().rposition(|&b| b == b'\n').expect("a line");
+            text[whole] = b'\t';
+            text[size - 1] = b'\n';
+        }
+    }
+    if rng.percent(55) {
+        let lent = lent(rng, &text, false);
+        return out.request("index_read", &text, &lent);
+    }
+    // An id that stands in it, as a field of four, or any.
+    let ids: Vec<&[u8]> = text.split(|&b| b == b'\n').filter_map(|line| line.splitn(4, |&b| b == b'\t').nth(3)).collect();
+    let mut id = if ids.is_empty() || rng.once_in(4) { rng.pick(RECORD_IDS).to_vec() } else { ids[rng.below(ids.len())].to_vec() };
+    if rng.once_in(8) {
+        id.push(b"\t\r x"[rng.below(4)]);
+    }
+    if rng.once_in(12) {
+        id.pop();
+    }
+    out.request("index_lookup", &text, " ");
+    out.hex(&id);
+}
+
+/// What stands in place of these lines: nothing, other lines, lines that run into the next, or the old ones changed.
+fn new_part(rng: &mut Rng, old: &[u8]) -> Vec<u8> {
+    let crlf = rng.once_in(10);
+    match rng.below(8) {
+        0 => Vec::new(),
+        1 | 2 => index_lines(rng, 3, crlf).into_bytes(),
+        3 => {
+            // The next line grows.
+            let mut part = index_lines(rng, 2, crlf);
+            part.push_str(rng.pick(INDEX_LINES));
+            part.into_bytes()
+        }
+        4 => old.iter().copied().filter(|&b| b != b'\n').collect(),
+        5 => [b" ", old].concat(),
+        6 => old.trim_ascii_start().to_vec(),
+        _ => {
+            let mut part = old.to_vec();
+            let at = rng.below(part.len() + 1);
+            drop(part.splice(at..at, rng.pick(SPECIAL).bytes()));
+            part
+        }
+    }
+}
+
+/// An index mended after lines of its text were replaced.
+fn mends(rng: &mut Rng, out: &mut Out) {
+    let old = indexed_sheet(rng);
+    let lines: Vec<&[u8]> = old.split_inclusive(|&b| b == b'\n').collect();
+    let count = lines.len();
+    // At the front, at the end or anywhere, one line mostly.
+    let first = match rng.below(4) {
+        0 => 1,
+        1 => count.max(1),
+        _ => rng.between(1, count.max(1)),
+    };
+    let last = [first, first + 1, first + 2, count][rng.weighted(&[60, 20, 10, 10])].clamp(first, count.max(first));
+    let (before, behind) = (lines[..first - 1].concat(), lines[last.min(count)..].concat());
+    let replaced = lines[(first - 1).min(count)..last.min(count)].concat();
+    let mut new = [before, new_part(rng, &replaced), behind].concat();
+    if rng.once_in(25) {
+        // Something else has changed, or the parts that stay overlap.
+        match rng.below(4) {
+            0 => new.truncate(rng.below(new.len() + 1)),
+            1 => drop(new.drain(..rng.below(new.len() + 1))),
+            2 => new = old.clone(),
+            _ => damage(rng, &mut new, 1),
+        }
+    }
+    new.truncate(65_600);
+    let mut index = index_of(&old);
+    match rng.below(40) {
+        0 | 1 => wrong_index(rng, &mut index),
+        2 => index = index_of(&new),
+        _ => {}
+    }
+    let (a, b) = (number(rng, first, 98), number(rng, last, 98));
+    let lent = if rng.percent(30) { lent(rng, &index_of(&new), true) } else { String::new() };
+    out.request(&format!("index_mend {a} {b}"), &old, " ");
+    out.hex(&new);
+    out.words(" ");
+    out.hex(&index);
+    out.words(&lent);
+}
+
 /// A request with one fault in its line, or, now and then, none.
 fn errors(rng: &mut Rng, out: &mut Out) {
     random(FAMILIES[rng.below(FAMILIES.len())], rng, out);
@@ -1845,7 +2094,13 @@ fn errors(rng: &mut Rng, out: &mut Out) {
         0 => drop(fields.remove(at)),
         1 => fields.insert(at, b"".to_vec()),
         2 => fields.push(b"".to_vec()),
-        3 => fields.push(rng.pick(&["cap=65536", "cap=", "cap=-1", "cap=18446744073709551616", "cap=5", "cap=5 cap=5", "cap=5 -", "x"]).as_bytes().to_vec()),
+        3 => {
+            let lent = [
+                "cap=65536", "cap=", "cap=-1", "cap=18446744073709551616", "cap=5", "cap=5 cap=5", "cap=5 -", "x", "rows=5", "rows=43691", "rows=", "buf=5",
+                "buf=262145", "buf=-", "cap=5 rows=5", "rows=5 buf=5", "cap=65535 rows=5 buf=50", "buf=5 rows=5", "rows=5 cap=5", "rows=5 rows=5", "Rows=5",
+            ];
+            fields.push(rng.pick(&lent).as_bytes().to_vec());
+        }
         4 => fields[at].make_ascii_uppercase(),
         5 => drop(fields[at].pop()),
         6 => fields[at].push(b"0a-gG.\t\r"[rng.below(8)]),
@@ -2022,6 +2277,11 @@ const VARIANT_SECTIONS: &[Section] = &[
     },
 ];
 
+/// The first line of an index without its LF, with it, and then the first two numbers of a record.
+const INDEX_HEADER: &[u8] = b"carve-attr-index\t1";
+const INDEX_FRONT: &[u8] = b"carve-attr-index\t1\n";
+const INDEX_RECORD: &[u8] = b"carve-attr-index\t1\n1\t65535";
+
 /// What sheets are made of: bytes, parts of blocks and lines, blanks.
 const SHEET_BYTES: &[&[u8]] = &[b"{", b"}", b"a", b" ", b"\n", b"\r", b"\"", b"="];
 const SHEET_PARTS: &[&[u8]] = &[b"{a", b"}", b"}{.b", b"\n", b"\n ", b" ", b"c=\"", b"\"", b"{#d}", b"text", b"\r\n"];
@@ -2194,6 +2454,20 @@ fn sections(family: &str) -> &'static [Section] {
             Section { atoms: SPELLED_BLOCKS, forms: &[("parse_standalone_attrs 1", b"", b"")] },
         ],
         "variants" => VARIANT_SECTIONS,
+        "mends" => &[],
+        "index" => &[
+            // What is read, from the first line on, behind it, and in the middle of a record; and looked up.
+            Section {
+                atoms: &[INDEX_HEADER, b"1", b"0", b"65535", b"65536", b"\t", b"\n", b"\r", b"x"],
+                forms: &[
+                    ("index_read", b"", b""),
+                    ("index_read", INDEX_FRONT, b""),
+                    ("index_read", INDEX_RECORD, b"\n"),
+                    ("index_lookup 78", INDEX_RECORD, b"\n1\t2\t3\tx\n"),
+                ],
+            },
+            Section { atoms: MEND_ATOMS, forms: &[("index_build", b"", b""), ("index_build", b"{#y\n", b"")] },
+        ],
         "report" => &[
             Section {
                 atoms: SHEET_BYTES,
@@ -2260,12 +2534,13 @@ fn extra(family: &str, length: usize) -> u64 {
         "quick" => 256 * BEFORE_A_BYTE.len() as u64,
         "merge2" => (SIZES.len() * SIZED.len() * 3 * 2) as u64,
         "repeats" => (EDGES.len() * EDGE_SIZES) as u64 + CUT_FORMS.len() as u64 * pairs(SPELLINGS.len(), 1, length),
+        "mends" => *mend_starts(length).last().expect("a start"),
         "report" => ((REPORT_EDGES.len() * EDGE_SIZES + AROUND.len() * AROUND.len() * 2) * REPORT_WORDS.len()) as u64,
         _ => 0,
     }
 }
 
-fn exhaustive_extra(family: &str, mut number: u64, out: &mut Out) {
+fn exhaustive_extra(family: &str, length: usize, mut number: u64, out: &mut Out) {
     if family == "quick" {
         let text = [BEFORE_A_BYTE[(number / 256) as usize], &[(number % 256) as u8]].concat();
         return out.request("attr_payload_provably_invalid 0", &text, "");
@@ -2278,6 +2553,9 @@ fn exhaustive_extra(family: &str, mut number: u64, out: &mut Out) {
     }
     if family == "report" {
         return exhaustive_report(number as usize, out);
+    }
+    if family == "mends" {
+        return exhaustive_mend(length, number, out);
     }
     if number < 256 {
         return out.words(&format!("leaf is_class {number}"));
@@ -2348,6 +2626,66 @@ fn exhaustive_sizes(number: usize, out: &mut Out) {
     out.hex(if sides == 0 { short } else { &text });
 }
 
+/// What old texts and new parts of mends are made of.
+const MEND_ATOMS: &[&[u8]] = &[b"{a}", b"{#x", b" b}", b"\"", b"\n", b" ", b"k=1", b"\x0C"];
+/// How many atoms a new part has at most.
+const PART_LENGTH: usize = 2;
+
+fn lines_in(text: &[u8]) -> u64 {
+    text.split_inclusive(|&b| b == b'\n').count() as u64
+}
+
+/// Where the requests of each old text begin in the list, and where the list ends: every range of its lines with every new
+/// part, and a range that isn't there. It is made once, for the one length that the program is asked for.
+fn mend_starts(length: usize) -> &'static [u64] {
+    static STARTS: OnceLock<Vec<u64>> = OnceLock::new();
+    STARTS.get_or_init(|| {
+        let mut starts = vec![0];
+        for number in 0..strings(MEND_ATOMS.len(), length) {
+            let lines = lines_in(&nth_string(MEND_ATOMS, number).concat());
+            let requests = lines * (lines + 1) / 2 * strings(MEND_ATOMS.len(), PART_LENGTH);
+            starts.push(starts[number as usize] + requests + 1);
+        }
+        starts
+    })
+}
+
+/// One of them. The index is that of the old text, which is the same for many requests in a row.
+fn exhaustive_mend(length: usize, number: u64, out: &mut Out) {
+    static LAST: Mutex<Option<(u64, Vec<u8>)>> = Mutex::new(None);
+    let starts = mend_starts(length);
+    let text = starts.partition_point(|&start| start <= number) as u64 - 1;
+    let mut number = number - starts[text as usize];
+    let old = nth_string(MEND_ATOMS, text).concat();
+    let mut last_index = LAST.lock().expect("one thread");
+    if last_index.as_ref().map(|(of, _)| *of) != Some(text) {
+        *last_index = Some((text, index_of(&old)));
+    }
+    let parts = strings(MEND_ATOMS.len(), PART_LENGTH);
+    let part = nth_string(MEND_ATOMS, number % parts).concat();
+    number /= parts;
+    let lines: Vec<&[u8]> = old.split_inclusive(|&b| b == b'\n').collect();
+    let count = lines.len();
+    // By their first lines, then by their last; behind all ranges one that isn't there.
+    let ranges = (1..=count).flat_map(|a| (a..=count).map(move |b| (a, b)));
+    let (a, b) = ranges.chain([(count.max(1), count + 1)]).nth(number as usize).expect("a range");
+    let new = [&lines[..a - 1].concat(), &part[..], &lines[b.min(count)..].concat()].concat();
+    out.request(&format!("index_mend {a} {b}"), &old, " ");
+    out.hex(&new);
+    out.words(" ");
+    out.hex(&last_index.as_ref().expect("just made").1);
+}
+
+/// One of the strings over these atoms: first the length, then the atoms as digits.
+fn nth_string(atoms: &[&'static [u8]], mut number: u64) -> Vec<&'static [u8]> {
+    let mut count = 0;
+    while number >= (atoms.len() as u64).pow(count) {
+        number -= (atoms.len() as u64).pow(count);
+        count += 1;
+    }
+    digits(atoms, number, count)
+}
+
 /// As many atoms, as digits of the number.
 fn digits(atoms: &[&'static [u8]], mut number: u64, count: u32) -> Vec<&'static [u8]> {
     let mut list = Vec::new();
@@ -2364,7 +2702,7 @@ fn exhaustive_size(family: &str, length: usize) -> u64 {
 
 fn exhaustive(family: &str, length: usize, mut number: u64, out: &mut Out) {
     if number < extra(family, length) {
-        return exhaustive_extra(family, number, out);
+        return exhaustive_extra(family, length, number, out);
     }
     number -= extra(family, length);
     for section in sections(family) {
@@ -2375,15 +2713,12 @@ fn exhaustive(family: &str, length: usize, mut number: u64, out: &mut Out) {
         }
         let forms = section.forms.len() as u64;
         let (words, before, behind) = section.forms[(number % forms) as usize];
-        let mut rest = number / forms;
-        let atoms = section.atoms.len() as u64;
-        // First the length, then the atoms as digits.
-        let mut count = 0;
-        while rest >= atoms.pow(count) {
-            rest -= atoms.pow(count);
-            count += 1;
+        let list = nth_string(section.atoms, number / forms);
+        if family == "index" {
+            // What is looked up stands behind the index.
+            let (words, id) = words.split_once(' ').map_or((words, String::new()), |(words, id)| (words, format!(" {id}")));
+            return out.request(words, &[before, &list.concat(), behind].concat(), &id);
         }
-        let list = digits(section.atoms, rest, count);
         if family == "merge" || family == "merge2" {
             // One half on each side, and the join buffer's length behind them.
             let (a, b) = list.split_at(list.len() / 2);
@@ -2402,7 +2737,7 @@ fn main() -> io::Result<()> {
     let words: Vec<String> = std::env::args().skip(1).collect();
     let words: Vec<&str> = words.iter().map(String::as_str).collect();
     let number_of = |word: &str| word.parse::<u64>().ok();
-    let known = |name: &str| FAMILIES.contains(&name);
+    let known = |name: &str| FAMILIES.contains(&name) || COMING.contains(&name);
     let listed = |name: &str| known(name) || ["payload", "text", "refused-text", "bytes"].contains(&name);
     let mut to = BufWriter::with_capacity(1 << 20, io::stdout().lock());
     let mut out = Out { line: Vec::new() };

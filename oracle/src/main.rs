@@ -1,9 +1,11 @@
 //! The oracle: reads request lines on standard input and writes one answer line for each. With the word `sheet` or
 //! `variants` it is the program of that name instead: standard input is one sheet, and its report or table is written. With
-//! the word `numbers` it writes the report over the sheets whose files are named behind it, or over standard input.
+//! the word `numbers` it writes the report over the sheets whose files are named behind it, or over standard input. With
+//! the word `index` it is the program `index`, its words and files behind it.
 
 mod ast;
 mod document;
+mod index;
 mod layer;
 mod parse;
 mod requests;
@@ -40,6 +42,12 @@ fn main() -> io::Result<()> {
             sheets.push(read_sheet(input)?);
         }
         output.write_all(totals::written(&totals::report(&sheets)).as_bytes())?;
+        return output.flush();
+    }
+    if std::env::args().nth(1).as_deref() == Some("index") {
+        let words: Vec<String> = std::env::args().skip(2).collect();
+        let made = index::program(&words, |name| std::fs::read(name).expect("a file to read"));
+        output.write_all(&made.expect("build SHEET, find INDEX ID or mend A B OLD NEW INDEX"))?;
         return output.flush();
     }
     let mut request = Vec::new();

@@ -2,6 +2,7 @@
 
 use crate::ast::Attrs;
 use crate::document::Value;
+use crate::index::{self, Lent, Record};
 use crate::layer::{self, Entry, MergeRefusal, Number, Refused, Trace, Traced};
 use crate::parse::attrs::door;
 use crate::rows::{Name, Rows, Slot};
@@ -10,13 +11,15 @@ use crate::totals::{self, Totals};
 use crate::variants;
 use std::io::Write;
 
-/// The longest text that a request may carry.
+/// The longest text that a request may carry, but for an index.
 const HEX_LIMIT: usize = 65_600;
+/// The longest request line.
+const LINE_LIMIT: usize = 800_000;
 
 /// Answers one request; the answer line has no LF yet.
 pub fn answer(request: &[u8], out: &mut Vec<u8>) {
     let at = out.len();
-    if answer_known(request, out).is_none() {
+    if request.len() > LINE_LIMIT || answer_known(request, out).is_none() {
         out.truncate(at);
         out.extend_from_slice(b"error");
     }
@@ -55,10 +58,14 @@ fn digit(byte: u8) -> Option<u8> {
 
 /// Lower-case hex, or `-` for no bytes.
 fn hex(field: &[u8]) -> Option<Vec<u8>> {
+    hex_within(field, HEX_LIMIT)
+}
+
+fn hex_within(field: &[u8], most: usize) -> Option<Vec<u8>> {
     if field == b"-" {
         return Some(Vec::new());
     }
-    if field.is_empty() || field.len() % 2 != 0 || field.len() > 2 * HEX_LIMIT {
+    if field.is_empty() || field.len() % 2 != 0 || field.len() > 2 * most {
         return None;
     }
     field.chunks_exact(2).map(|pair| Some(digit(pair[0])? * 16 + digit(pair[1])?)).collect()
@@ -170,18 +177,52 @@ fn put_merge(merged: Result<Attrs, MergeRefusal>, out: &mut Vec<u8>) {
     }
 }
 
+fn put_index(made: Result<Vec<u8>, Number>, out: &mut Vec<u8>) {
+    match made {
+        Ok(text) => {
+            out.extend_from_slice(b"ok ");
+            put_hex(&text, out);
+        }
+        Err(number) => put_refused(number, out),
+    }
+}
+
+fn put_records(records: &[Record], out: &mut Vec<u8>) {
+    put!(out, "records {}", records.len());
+    for Record { line, count, offset, id } in records {
+        put!(out, " {line} {count} {offset} ");
+        match id {
+            Some(id) => put_hex(id, out),
+            None => out.extend_from_slice(b"none"),
+        }
+    }
+}
+
+/// The number behind this word where the last field begins with it, which is then taken off; else the most that it may be.
+fn lent(fields: &mut Vec<&[u8]>, word: &[u8], most: usize) -> Option<usize> {
+    match fields[1..].last().and_then(|field| field.strip_prefix(word)) {
+        Some(given) => {
+            fields.pop();
+            number(given).filter(|&given| given <= most)
+        }
+        None => Some(most),
+    }
+}
+
 fn answer_known(request: &[u8], out: &mut Vec<u8>) -> Option<()> {
     let mut fields: Vec<&[u8]> = request.split(|&b| b == b' ').collect();
     if fields[0] == b"leaf" {
         return answer_leaf(&fields[1..], out);
     }
-    let mut cap = layer::TEXT_LIMIT;
-    if fields.len() > 1 {
-        if let Some(given) = fields.last().and_then(|field| field.strip_prefix(b"cap=")) {
-            cap = number(given).filter(|&cap| cap <= layer::TEXT_LIMIT)?;
-            fields.pop();
-        }
+    // What is lent stands at the end, in the order `cap=`, `rows=`, `buf=`; only an index has the last two.
+    let (mut buf, mut rows) = (index::INDEX_LIMIT, index::ROWS_LIMIT);
+    if [&b"index_build"[..], b"index_mend"].contains(&fields[0]) {
+        buf = lent(&mut fields, b"buf=", buf)?;
     }
+    if [&b"index_build"[..], b"index_mend", b"index_read"].contains(&fields[0]) {
+        rows = lent(&mut fields, b"rows=", rows)?;
+    }
+    let cap = lent(&mut fields, b"cap=", layer::TEXT_LIMIT)?;
     match (fields[0], &fields[1..]) {
         (b"read_attrs_at", [place, mode, text]) => {
             let (place, loose, text) = (number(place)?, is_loose(mode)?, hex(text)?);
@@ -303,6 +344,23 @@ fn answer_known(request: &[u8], out: &mut Vec<u8>) -> Option<()> {
             }
             Err(number) => put_refused(number, out),
         },
+        (b"index_build", [text]) => put_index(index::build(&hex(text)?, Lent { cap, rows, buf }), out),
+        (b"index_read", [text]) => match index::read(&hex_within(text, index::INDEX_LIMIT)?, rows) {
+            Ok(records) => put_records(&records, out),
+            Err(number) => put_refused(number, out),
+        },
+        (b"index_lookup", [text, id]) => {
+            match index::look_up(&hex_within(text, index::INDEX_LIMIT)?, &hex(id)?) {
+                Ok(Some(Record { line, count, offset, .. })) => put!(out, "record {line} {count} {offset}"),
+                Ok(None) => out.extend_from_slice(b"not found"),
+                Err(number) => put_refused(number, out),
+            }
+        }
+        (b"index_mend", [a, b, old, new, text]) => {
+            let (a, b, old, new) = (number(a)?, number(b)?, hex(old)?, hex(new)?);
+            let text = hex_within(text, index::INDEX_LIMIT)?;
+            put_index(index::mend(a, b, &old, &new, &text, Lent { cap, rows, buf }), out);
+        }
         _ => return None,
     }
     Some(())
