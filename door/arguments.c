@@ -33,6 +33,7 @@ int main(void)
     EXPECT(bridlesnow_wrapped_attrs_run_at(NULL, 0, 1, SIZE_MAX, NULL, 0, NULL, 0, NULL, 0) == 3);
     EXPECT(bridlesnow_read_block_at(NULL, 0, SIZE_MAX, NULL, 0, NULL, 0, NULL, 0) == 3);
     EXPECT(bridlesnow_merge_blocks(NULL, 0, 1, 2, NULL, 0, NULL, 0, NULL, 0, NULL, 0) == 3);
+    EXPECT(bridlesnow_consume_loose(NULL, 0, 1, NULL, 0, NULL, 0, NULL, 0) == 3);
     EXPECT(bridlesnow_standalone_attrs_block_len(NULL, 0, 1, NULL, 0, NULL, 0) == 3);
     EXPECT(bridlesnow_indented_wrapped_attrs_block_len(NULL, 0, 1, NULL, 0, NULL, 0) == 3);
     EXPECT(bridlesnow_attrs_block_len_at(NULL, 0, 1, SIZE_MAX, NULL, 0, NULL, 0) == 3);
@@ -87,6 +88,26 @@ int main(void)
     EXPECT(told[0] == 2 && told[2] == 2 && told[3] == 0 && memcmp(other_join, "{d", 2) == 0);
     EXPECT(bridlesnow_merge_blocks(sheet, 24, 2, 4, join, 8, other_join, 8, merged, 20, told, 4) == 10);
     EXPECT(told[0] == 3 && told[1] == 0 && told[2] == 2 && told[3] == 2 && merged[0] == 9);
+
+    /* A check list: the key taken out, nothing left, one that has a value, and a buffer one byte short. */
+    static const uint8_t checks[] = "{loose\n .a}\n{loose}\n{loose=x}\n";
+    size_t taken[7];
+    memset(join, 7, sizeof join);
+    memset(merged, 9, sizeof merged);
+    taken[6] = 5;
+    EXPECT(bridlesnow_consume_loose(checks, sizeof checks - 1, 1, join, 8, merged, 24, taken, 7) == 9);
+    EXPECT(taken[0] == 0 && taken[1] == 0 && taken[2] == 0 && taken[6] == 5 && merged[0] == 9);
+    EXPECT(bridlesnow_consume_loose(checks, sizeof checks - 1, 1, other_join, 8, merged, 24, taken, 7) == 9);
+    uint8_t wide[16];
+    EXPECT(bridlesnow_consume_loose(checks, sizeof checks - 1, 1, wide, 16, merged, 10, taken, 7) == 10);
+    EXPECT(taken[0] == 1 && taken[1] == 0 && taken[2] == 2 && merged[0] == 9);
+    EXPECT(bridlesnow_consume_loose(checks, sizeof checks - 1, 1, wide, 16, merged, 11, taken, 7) == 0);
+    EXPECT(taken[0] == 1 && taken[1] == 11 && taken[2] == 2 && taken[3] == 12 && taken[4] == 10 && taken[5] == 10 && taken[6] == 5);
+    EXPECT(memcmp(merged, "{class=\"a\"}\11", 12) == 0 && memcmp(wide, "{loose .a}", 10) == 0);
+    EXPECT(bridlesnow_consume_loose(checks, sizeof checks - 1, 3, NULL, 0, merged, 24, taken, 6) == 12);
+    EXPECT(taken[0] == 1 && taken[1] == 0 && taken[2] == 1 && taken[3] == 20 && merged[0] == '{');
+    EXPECT(bridlesnow_consume_loose(checks, sizeof checks - 1, 4, NULL, 0, merged, 24, taken, 2) == 0);
+    EXPECT(taken[0] == 0 && taken[1] == 11 && memcmp(merged, "{loose=\"x\"}", 11) == 0);
 
     static uint8_t lines[BRIDLESNOW_MAX], report[BRIDLESNOW_LINE];
     EXPECT(bridlesnow_report_start(block, 4, lines, sizeof lines - 1, report, sizeof report, told, 3) == 9);

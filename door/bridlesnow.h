@@ -9,7 +9,7 @@
  *     2  it isn't UTF-8                             9  the next line to join doesn't fit `join`
  *     3  nothing is there to read                  10  the canonical text has more than 65,535 bytes, or a text more than `out`
  *     4  no close                                  11  (never given here: a set that isn't well-formed)
- *     5  no reading                                12  (never given here: an empty set)
+ *     5  no reading                                12  nothing is left of a set (bridlesnow_consume_loose alone)
  *     6  more than 32 classes                      17  a total over all sheets would not fit 64 bits, or has no room
  *                                                  20  one or two of `variant`, `wheel` and `valve`, or a value out of range
  *                                                  21  a variant has one valve at two wheels
@@ -125,6 +125,15 @@ uint8_t bridlesnow_read_block_at(const uint8_t *text, size_t text_len, size_t at
 uint8_t bridlesnow_merge_blocks(const uint8_t *text, size_t text_len, size_t common, size_t variant,
                                 uint8_t *join, size_t join_len, uint8_t *other_join, size_t other_join_len,
                                 uint8_t *out, size_t out_len, size_t *told, size_t told_len);
+
+/* Reads the block of one or more lines that begins at a line, as bridlesnow_parse_standalone_attrs_block does, and takes its key `loose` out where that
+ * has no value, as in {loose .tools}: for check lists, which must say so once. `out` gets the canonical text of what is left.
+ * Order: the numbers of the block, then 12 where nothing is left, as of {loose}, and 10. 12 is no fault of the block: where it is given, 1 is told first,
+ * and no byte is written. 10 may come with a 1 too.
+ * Tells: 1 where the key was taken out, else 0; the length of the canonical text; the block's lines, the place behind it, the lookahead, and how many
+ * bytes were joined, each as bridlesnow_parse_standalone_attrs_block tells them. */
+uint8_t bridlesnow_consume_loose(const uint8_t *text, size_t text_len, size_t line, uint8_t *join, size_t join_len,
+                                 uint8_t *out, size_t out_len, size_t *told, size_t told_len);
 
 /* Measures the block at a line: one that isn't indented; a wrapped one, whatever its indentation; one whose line stands in a column.
  * Order: 1, 2, 3, then 9 or 5 as its lines are met.

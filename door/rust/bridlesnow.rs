@@ -71,6 +71,10 @@ mod raw {
             join: *mut u8, join_len: usize, other_join: *mut u8, other_join_len: usize,
             out: *mut u8, out_len: usize, told: *mut usize, told_len: usize,
         ) -> u8;
+        pub fn bridlesnow_consume_loose(
+            text: *const u8, len: usize, line: usize, join: *mut u8, join_len: usize,
+            out: *mut u8, out_len: usize, told: *mut usize, told_len: usize,
+        ) -> u8;
         pub fn bridlesnow_standalone_attrs_block_len(
             text: *const u8, len: usize, line: usize, join: *mut u8, join_len: usize, told: *mut usize, told_len: usize,
         ) -> u8;
@@ -357,6 +361,26 @@ impl Reader {
         Ok((told[2], told[3], text))
     }
 
+    /// The block of one or more lines at a line without its key `loose`, which is taken out where it has no value: whether that was done, the block's
+    /// lines, and the canonical text of what is left, none where nothing is.
+    pub fn consume_loose(&mut self, text: &[u8], line: usize) -> Result<(bool, Lines, Option<&str>), (Refusal, Lines)> {
+        let mut told = [0usize; 6];
+        let number = unsafe {
+            raw::bridlesnow_consume_loose(
+                text.as_ptr(), text.len(), line, self.join.as_mut_ptr(), self.join.len(),
+                self.out.as_mut_ptr(), self.out.len(), told.as_mut_ptr(), told.len(),
+            )
+        };
+        let (acted, lines) = (told[0] == 1, Lines::of(&told[2..]));
+        // 12 is the writer's word for an empty set, and no refusal of the block.
+        if number == 12 {
+            return Ok((acted, lines, None));
+        }
+        granted(number).map_err(|refusal| (refusal, lines))?;
+        let text = self.canonical(told[1]).map_err(|refusal| (refusal, lines))?;
+        Ok((acted, lines, Some(text)))
+    }
+
     fn measured(number: u8, told: [usize; 4]) -> Result<Lines, (Refusal, Lines)> {
         granted(number).map(|()| Lines::of(&told)).map_err(|refusal| (refusal, Lines::of(&told)))
     }
@@ -600,6 +624,33 @@ mod tests {
         assert_eq!(Reader::with_room(16, 37).merge_blocks(text, 2, 1), Err((Refusal(9), 1)));
         assert!(Reader::with_room(0, 27).merge_blocks(text, 1, 1).is_ok());
         assert_eq!(Reader::with_room(0, 26).merge_blocks(text, 1, 1), Err((Refusal(10), 3)));
+    }
+
+    #[test]
+    fn loose_lists() {
+        let mut reader = Reader::new();
+        let text = b"{loose .tools}\n{loose}\n{loose=x}\n{.a\n loose=\"\"}\n{loose loose=x}\n{loose=x loose}\n{.loose #loose LOOSE loose-list}\ntext\n{loose";
+        let one = |next| Lines { count: 1, next, lookahead: 0, joined: 0 };
+        assert_eq!(reader.consume_loose(text, 1), Ok((true, one(15), Some("{class=\"tools\"}"))));
+        assert_eq!(reader.consume_loose(text, 2), Ok((true, one(23), None)));
+        assert_eq!(reader.consume_loose(text, 3), Ok((false, one(33), Some("{loose=\"x\"}"))));
+        let wrapped = Lines { count: 2, next: 48, lookahead: 13, joined: 13 };
+        assert_eq!(reader.consume_loose(text, 4), Ok((true, wrapped, Some("{class=\"a\"}"))));
+        assert_eq!(reader.joined(13), b"{.a loose=\"\"}");
+        // The last value counts.
+        assert_eq!(reader.consume_loose(text, 6), Ok((false, one(64), Some("{loose=\"x\"}"))));
+        assert_eq!(reader.consume_loose(text, 7), Ok((true, one(80), None)));
+        // A class, an id and other names are something else.
+        assert_eq!(reader.consume_loose(text, 8), Ok((false, one(113), Some("{class=\"loose\" id=\"loose\" LOOSE=\"\" loose-list=\"\"}"))));
+        assert_eq!(reader.consume_loose(text, 9).map_err(|e| e.0), Err(Refusal(3)));
+        assert_eq!(reader.consume_loose(text, 10).map_err(|e| e.0), Err(Refusal(5)));
+        assert_eq!(reader.consume_loose(text, 11).map_err(|e| e.0), Err(Refusal(3)));
+        assert_eq!(reader.consume_loose(b"{loose}\n\xff", 1), Err((Refusal(2), Lines::default())));
+        // As much room as is needed, and one byte less; nothing needs none.
+        assert!(Reader::with_room(13, 11).consume_loose(text, 4).is_ok());
+        assert_eq!(Reader::with_room(13, 10).consume_loose(text, 4), Err((Refusal(10), wrapped)));
+        assert_eq!(Reader::with_room(12, 11).consume_loose(text, 4).map_err(|e| e.0), Err(Refusal(9)));
+        assert_eq!(Reader::with_room(0, 0).consume_loose(text, 2), Ok((true, one(23), None)));
     }
 
     fn reported(reader: &mut Reader, text: &[u8]) -> (String, usize, Result<(), Refusal>) {
@@ -863,6 +914,8 @@ mod tests {
             assert_eq!(raw::bridlesnow_standalone_attrs_block_len(b"{a\n b}".as_ptr(), 6, 1, null_mut(), 0, null_mut(), 0), 9);
             assert_eq!(raw::bridlesnow_merge_lines(null(), 0, 1, 2, null_mut(), 0, null_mut(), 0), 3);
             assert_eq!(raw::bridlesnow_merge_blocks(null(), 0, 1, 2, null_mut(), 0, null_mut(), 0, null_mut(), 0, null_mut(), 0), 3);
+            assert_eq!(raw::bridlesnow_consume_loose(null(), 0, 1, null_mut(), 0, null_mut(), 0, null_mut(), 0), 3);
+            assert_eq!(raw::bridlesnow_consume_loose(b"{loose}".as_ptr(), 7, 1, null_mut(), 0, null_mut(), 0, null_mut(), 0), 12);
             assert_eq!(raw::bridlesnow_variants(null(), 0, null_mut(), 0, null_mut(), 0, null_mut(), 0), 9);
             let mut join = vec![0u8; MAX];
             assert_eq!(raw::bridlesnow_variants(null(), 0, join.as_mut_ptr(), MAX, null_mut(), 0, null_mut(), 0), 0);

@@ -5,8 +5,8 @@
 //!     generate size FAMILY LENGTH                   how many requests that is
 //!
 //! FAMILIES are names parted by commas: leaves, brace, lines, refused, merge, sheet, rows, quick, merge2, repeats,
-//! variants, report, index, mends; `all` stands for these fourteen. The family `errors`, which is in no `all`, damages the
-//! request lines themselves.
+//! variants, report, index, mends, loose; `all` stands for these fifteen. The family `errors`, which is in no `all`,
+//! damages the request lines themselves.
 //! Each request is made from the seed and its own number, so any part of the list can be made again. A request that
 //! carries the index of a text has it from the oracle's own modules.
 
@@ -29,8 +29,8 @@ use index::{INDEX_LIMIT, ROWS_LIMIT};
 use std::io::{self, BufWriter, Write};
 use std::sync::{Mutex, OnceLock};
 
-const FAMILIES: [&str; 12] = [
-    "leaves", "brace", "lines", "refused", "merge", "sheet", "rows", "quick", "merge2", "repeats", "variants", "report",
+const FAMILIES: [&str; 13] = [
+    "leaves", "brace", "lines", "refused", "merge", "sheet", "rows", "quick", "merge2", "repeats", "variants", "report", "loose",
 ];
 /// Families of requests that the oracle alone answers as yet: only when named.
 const COMING: [&str; 2] = ["index", "mends"];
@@ -650,6 +650,7 @@ fn random(family: &str, rng: &mut Rng, out: &mut Out) {
         "report" => report(rng, out),
         "index" => indexes(rng, out),
         "mends" => mends(rng, out),
+        "loose" => loose(rng, out),
         "errors" => errors(rng, out),
         _ => sheet(rng, out),
     }
@@ -2085,6 +2086,63 @@ fn mends(rng: &mut Rng, out: &mut Out) {
     out.words(&lent);
 }
 
+// ---- Loose lists ----
+
+/// Tokens that are the key `loose` in all its spellings, and what only looks like it.
+const LOOSE: &[&str] = &[
+    "loose", "loose", "loose", "loose=\"\"", "loose=''", "loose=x", "loose=\" \"", "loose='\\\\'", "loose=\"\\\"\"", "loose=loose", ".loose", "#loose", "LOOSE",
+    "Loose", "loose-list", "loosen", "loos", "_loose", "loose_", ":loose", "class=loose", "id=loose", "lang=loose", "k=loose", "k='loose'",
+];
+
+/// The tokens of a list's block: some of these among others, or as many keys as stand around 32 and 64.
+fn loose_tokens(rng: &mut Rng) -> Vec<String> {
+    if rng.once_in(25) {
+        let keys = rng.between(30, 33) + 32 * rng.below(2);
+        let mut list: Vec<String> = (0..keys).map(|n| format!("k{n}")).collect();
+        let at = [0, list.len(), rng.below(list.len() + 1)][rng.below(3)];
+        list.insert(at, rng.pick(LOOSE).to_string());
+        if rng.once_in(3) {
+            list.insert(rng.below(list.len()), rng.pick(&[".a", "#b", "loose=x", "class='a b'", ":en"]).to_string());
+        }
+        return list;
+    }
+    let mut list = Vec::new();
+    for _ in 0..rng.weighted(&[0, 30, 30, 20, 12, 8]) {
+        list.push(match rng.weighted(&[50, 25, 25]) {
+            0 => rng.pick(LOOSE).to_string(),
+            1 => rng.pick(&["k=1", "k", ".a", ".b", "#c", ":en", ":", "m=''", "id", "class", "lang"]).to_string(),
+            _ => token(rng),
+        });
+    }
+    list
+}
+
+/// A loose list's block at some line, or two texts of which each has one at line 1.
+fn loose(rng: &mut Rng, out: &mut Out) {
+    let text = |rng: &mut Rng| {
+        if rng.once_in(4000) {
+            // What is left has a canonical text around its limit, or what there was has.
+            let room = TEXT_LIMIT + rng.below(5) - 2 - "{k=\"\"}".len() - 9 * rng.below(2);
+            let between = rng.pick(&[" ", "\n ", "}{"]);
+            let value = "\"".repeat(room / 2) + &"x".repeat(room % 2);
+            return format!("{{loose{between}k='{value}'}}").into_bytes();
+        }
+        let list = loose_tokens(rng);
+        let block = laid(rng, &list, 40);
+        at_line_one(rng, &block)
+    };
+    if rng.percent(40) {
+        out.request("loose2", &text(rng), " ");
+        return out.hex(&text(rng));
+    }
+    let before = rng.weighted(&[75, 15, 10]);
+    let mut lines: Vec<u8> = (0..before).flat_map(|_| rng.pick(&["text\n", "\n", "{a}\n", "{b\n", "\r\n"]).bytes()).collect();
+    lines.extend(text(rng));
+    lines.truncate(65_600);
+    let line = number(rng, before + 1, 95);
+    out.request(&format!("loose {line}"), &lines, "");
+}
+
 /// A request with one fault in its line, or, now and then, none.
 fn errors(rng: &mut Rng, out: &mut Out) {
     random(FAMILIES[rng.below(FAMILIES.len())], rng, out);
@@ -2277,6 +2335,13 @@ const VARIANT_SECTIONS: &[Section] = &[
     },
 ];
 
+/// The tokens of loose lists.
+const LOOSE_ATOMS: &[&[u8]] = &[
+    b"loose ", b"loose=\"\" ", b"loose='' ", b"loose=x ", b"loose=\"\\\"\" ", b".loose ", b"#loose ", b"k=1 ", b":en ", b".a ", b"LOOSE ",
+];
+/// How the second of two blocks begins.
+const LOOSE_PAIRS: [&[u8]; 2] = [b"{", b"{\n "];
+
 /// The first line of an index without its LF, with it, and then the first two numbers of a record.
 const INDEX_HEADER: &[u8] = b"carve-attr-index\t1";
 const INDEX_FRONT: &[u8] = b"carve-attr-index\t1\n";
@@ -2455,6 +2520,22 @@ fn sections(family: &str) -> &'static [Section] {
         ],
         "variants" => VARIANT_SECTIONS,
         "mends" => &[],
+        "loose" => &[
+            Section { atoms: LOOSE_ATOMS, forms: &[("loose 1", b"{", b"}")] },
+            Section {
+                atoms: &[
+                    b"{loose}", b"{loose=\"\"}", b"{loose=''}", b"{loose=x}", b"{loose=\"\\\"\"}", b"{.loose}", b"{#loose}", b"{k=1}", b"{:en}", b"{.a}", b"{LOOSE}",
+                ],
+                forms: &[("loose 1", b"", b"")],
+            },
+            Section {
+                atoms: &[
+                    b"\n loose", b"\n loose=\"\"", b"\n loose=''", b"\n loose=x", b"\n loose=\"\\\"\"", b"\n .loose", b"\n #loose", b"\n k=1", b"\n :en", b"\n .a",
+                    b"\n LOOSE",
+                ],
+                forms: &[("loose 2", b"text\n{", b"}\n")],
+            },
+        ],
         "index" => &[
             // What is read, from the first line on, behind it, and in the middle of a record; and looked up.
             Section {
@@ -2527,13 +2608,15 @@ const BEFORE_A_BYTE: [&[u8]; 7] = [b"{", b"{ ", b"{#", b"{.", b"{.a", b"{a", b"{
 /// The leaves begin with all 256 byte classes, then come the texts by size, then pairs of raw and unescaped text. The
 /// quick test begins with each of the 256 bytes wherever one decides, merges over two texts with texts by size. Repeated
 /// classes begin with canonical texts around the limit, then come the lists that are cut in two. Reports begin with
-/// canonical texts around the limit and with as many classes and keys as stand around theirs.
+/// canonical texts around the limit and with as many classes and keys as stand around theirs. Mends are all of this kind,
+/// and loose lists begin with the pairs of blocks.
 fn extra(family: &str, length: usize) -> u64 {
     match family {
         "leaves" => 256 + (SIZES.len() * SIZED.len()) as u64 + pairs(ESCAPE_ATOMS.len(), 0, length),
         "quick" => 256 * BEFORE_A_BYTE.len() as u64,
         "merge2" => (SIZES.len() * SIZED.len() * 3 * 2) as u64,
         "repeats" => (EDGES.len() * EDGE_SIZES) as u64 + CUT_FORMS.len() as u64 * pairs(SPELLINGS.len(), 1, length),
+        "loose" => LOOSE_PAIRS.len() as u64 * pairs(LOOSE_ATOMS.len(), 1, length),
         "mends" => *mend_starts(length).last().expect("a start"),
         "report" => ((REPORT_EDGES.len() * EDGE_SIZES + AROUND.len() * AROUND.len() * 2) * REPORT_WORDS.len()) as u64,
         _ => 0,
@@ -2556,6 +2639,12 @@ fn exhaustive_extra(family: &str, length: usize, mut number: u64, out: &mut Out)
     }
     if family == "mends" {
         return exhaustive_mend(length, number, out);
+    }
+    if family == "loose" {
+        // Two blocks, the second on one line or wrapped.
+        let [a, b] = pair(LOOSE_ATOMS, 1, number / LOOSE_PAIRS.len() as u64);
+        out.request("loose2", &[b"{", &a[..], b"}"].concat(), " ");
+        return out.hex(&[LOOSE_PAIRS[(number % LOOSE_PAIRS.len() as u64) as usize], &b[..], b"}"].concat());
     }
     if number < 256 {
         return out.words(&format!("leaf is_class {number}"));

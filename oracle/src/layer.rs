@@ -708,6 +708,49 @@ fn line_one(bytes: &[u8]) -> String {
     trim_ascii(lines_of(bytes).expect("a text that was read")[0]).to_string()
 }
 
+// ---- Loose lists ----
+
+/// Whether the original took the key `loose` off a set, and what is left, which may be nothing.
+pub struct Consumed {
+    pub acted: bool,
+    pub left: Attrs,
+}
+
+fn consume_loose(attrs: Attrs) -> Consumed {
+    let mut left = attrs.clone();
+    let acted = door::consume_loose(&mut left);
+    assert_eq!(acted, attrs.key_values.get("loose").is_some_and(String::is_empty), "an empty value is taken, and no other");
+    let mut others = attrs.clone();
+    if acted {
+        others.key_values.retain(|key, _| key != "loose");
+        others.order.retain(|slot| *slot != AttrSlot::Key("loose".to_string()));
+        assert_eq!(others.order.len() + 1, attrs.order.len(), "one slot goes");
+    }
+    assert_eq!(left, others, "all others stay, in their order");
+    assert_eq!(door::attrs_are_empty(&left), slot_count(&left) == 0, "a set is empty where it has no slot");
+    assert!(!door::consume_loose(&mut others), "what is taken once is not there again");
+    Consumed { acted, left }
+}
+
+/// The set of the block at that line after `consume_loose`, or why it isn't read.
+pub fn loose(bytes: &[u8], line: usize, cap: usize) -> Result<Consumed, Number> {
+    let (attrs, _) = block(Entry::Block, bytes, line, cap).answer?;
+    Ok(consume_loose(attrs))
+}
+
+/// The merge of the blocks at line 1 of two texts after it.
+pub fn loose2(a: &[u8], b: &[u8], cap: usize) -> Result<Consumed, MergeRefusal> {
+    merge2_block(a, b, cap).map(consume_loose)
+}
+
+/// What the writer makes of a set that may be empty: 12 where it is.
+pub fn canonical_or_12(attrs: &Attrs) -> Result<Vec<u8>, Number> {
+    if door::attrs_are_empty(attrs) {
+        return Err(12);
+    }
+    canonical(attrs)
+}
+
 // ---- Canonical text ----
 
 /// What a set means, after document 02: a class equal byte for byte to an earlier one doesn't count, and the first place

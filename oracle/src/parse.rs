@@ -140,5 +140,11 @@ pub(crate) mod attrs {
         pub(crate) fn merge_leading_attrs(target: &mut Option<Attrs>, leading: Attrs) {
             super::merge_leading_attrs(target, leading)
         }
+        pub(crate) fn consume_loose(attrs: &mut Attrs) -> bool {
+            super::consume_loose(attrs)
+        }
+        pub(crate) fn attrs_are_empty(attrs: &Attrs) -> bool {
+            super::attrs_are_empty(attrs)
+        }
     }
 }

@@ -3,7 +3,7 @@
 use crate::ast::Attrs;
 use crate::document::Value;
 use crate::index::{self, Lent, Record};
-use crate::layer::{self, Entry, MergeRefusal, Number, Refused, Trace, Traced};
+use crate::layer::{self, Consumed, Entry, MergeRefusal, Number, Refused, Trace, Traced};
 use crate::parse::attrs::door;
 use crate::rows::{Name, Rows, Slot};
 use crate::standins::*;
@@ -171,10 +171,23 @@ fn put_merge(merged: Result<Attrs, MergeRefusal>, out: &mut Vec<u8>) {
             out.extend_from_slice(b"ok");
             put_canon(layer::canonical(&attrs), out);
         }
-        Err(MergeRefusal::First(number)) => put!(out, "unread first {number}"),
-        Err(MergeRefusal::Second(number)) => put!(out, "unread second {number}"),
-        Err(MergeRefusal::Merge(number)) => put_refused(number, out),
+        Err(refusal) => put_unmerged(refusal, out),
     }
+}
+
+/// Where a merge ended that has no set.
+fn put_unmerged(refusal: MergeRefusal, out: &mut Vec<u8>) {
+    match refusal {
+        MergeRefusal::First(number) => put!(out, "unread first {number}"),
+        MergeRefusal::Second(number) => put!(out, "unread second {number}"),
+        MergeRefusal::Merge(number) => put_refused(number, out),
+    }
+}
+
+/// `yes SET` or `no SET`.
+fn put_consumed(consumed: &Consumed, out: &mut Vec<u8>) {
+    put_yes(consumed.acted, out);
+    put_canon(layer::canonical_or_12(&consumed.left), out);
 }
 
 fn put_index(made: Result<Vec<u8>, Number>, out: &mut Vec<u8>) {
@@ -361,6 +374,14 @@ fn answer_known(request: &[u8], out: &mut Vec<u8>) -> Option<()> {
             let text = hex_within(text, index::INDEX_LIMIT)?;
             put_index(index::mend(a, b, &old, &new, &text, Lent { cap, rows, buf }), out);
         }
+        (b"loose", [line, text]) => match layer::loose(&hex(text)?, number(line)?, cap) {
+            Ok(consumed) => put_consumed(&consumed, out),
+            Err(number) => put!(out, "unread {number}"),
+        },
+        (b"loose2", [a, b]) => match layer::loose2(&hex(a)?, &hex(b)?, cap) {
+            Ok(consumed) => put_consumed(&consumed, out),
+            Err(refusal) => put_unmerged(refusal, out),
+        },
         _ => return None,
     }
     Some(())

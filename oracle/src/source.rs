@@ -1,5 +1,5 @@
-// Source document 000, src/parse/attrs.rs of markup-carve/carve-rs (MIT licence): the functions that document 01
-// takes over, to the letter and in the original's order. oracle/check-source compares them; nothing is edited here.
+// Source document 000, src/parse/attrs.rs of markup-carve/carve-rs (MIT licence): the functions that documents 01 and
+// 02 take over, to the letter and in the original's order. oracle/check-source compares them; nothing is edited here.
 // Copyright (c) 2026 Mark Scherer and contributors.
 
 use super::*;
@@ -499,6 +499,36 @@ pub(crate) fn merge_leading_attrs(target: &mut Option<Attrs>, leading: Attrs) {
             merge_attrs(target, own);
         }
     }
+}
+
+/// PART 9 §17 L7: the consumed `loose` boolean, taken off the attribute line.
+///
+/// Returns whether the key was SPELLED, and removes it, so it never reaches the
+/// output as an HTML attribute. The precedent is PART 12 §15's `header-rows`:
+/// a structural fact riding the block-attribute line, consumed rather than
+/// emitted.
+///
+/// A BOOLEAN AND AN EMPTY VALUE ARE ONE KEY. PART 4 makes `{loose}` and
+/// `{loose=""}` the same attribute, and both arrive here with an empty value,
+/// so both are consumed. `loose=x` names a value this key does not take, so it
+/// is NOT this key: it is left alone and renders `loose="x"` like any other
+/// attribute. There is no error state and no spelling that half-applies.
+pub(in crate::parse) fn consume_loose(attrs: &mut Attrs) -> bool {
+    if attrs.key_values.get("loose").map(String::as_str) != Some("") {
+        return false;
+    }
+    attrs.key_values.remove("loose");
+    attrs
+        .order
+        .retain(|slot| !matches!(slot, AttrSlot::Key(key) if key == "loose"));
+    true
+}
+
+pub(in crate::parse) fn attrs_are_empty(attrs: &Attrs) -> bool {
+    attrs.id.is_none()
+        && attrs.classes.is_empty()
+        && attrs.key_values.is_empty()
+        && attrs.order.is_empty()
 }
 
 /// First byte of an attribute identifier (id/class/key): a letter or `_`

@@ -1,2 +1,2 @@
--- Laws that the proofs of door_blocks cite.
-mod Over
+-- Laws that the proofs of door_blocks, and of the crates over it, cite.
+pub mod Over

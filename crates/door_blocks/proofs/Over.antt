@@ -5,7 +5,7 @@ use mathlib.Core.List.{List}
 use Prim.Native.Nat.{ℕ}
 use lib.ListN.{length, drop}
 use lib.Seq.{slice, take-append-seam}
-use Rattle.read_blocks.specs.Blocks.{Found, joinedIn, joinHolds, blockOf}
+use Rattle.read_blocks.specs.Blocks.{Found, joinedIn, joinHolds, blockOf, textsIn}
 use Rattle.read_blocks.specs.declared.Block.{Block}
 use Rattle.set_table.specs.Types.{two}
 use Rattle.door_shared.specs.Tells.{toldIn}
@@ -16,9 +16,14 @@ holds-front : (j : List ℕ) (f : Found) → slice 0 (length (joinedIn f)) (join
 unfolding joinHolds
 holds-front j f = take-append-seam (joinedIn f) (drop (length (joinedIn f)) j)
 
+-- so they are a block's texts
+pub texts-found : (t : List ℕ) (at : ℕ) (f : Found) (j : List ℕ) → two t (slice 0 (blockOf t at f .joined) (joinHolds j f)) ≡ textsIn t f
+unfolding blockOf
+texts-found t at f j = ap (two t) (holds-front j f)
+
 over-found : (t : List ℕ) (at : ℕ) (f : Found) (j buf : List ℕ) → blockSaidBy (blockOf t at f) (two t (slice 0 (blockOf t at f .joined) (joinHolds j f))) buf ≡ blockSaid t at f buf
-unfolding blockSaid blockOf
-over-found t at f j buf = rw (holds-front j f)
+unfolding blockSaid
+over-found t at f j buf = rw (texts-found t at f j)
 
 module _ (t j told : List ℕ) (at : ℕ) (f : Found) (buf : List ℕ) where
   pub block-says : {b : Block} {i o v : List ℕ} {r : ℕ} → b ≡ blockOf t at f → i ≡ joinHolds j f → Says buf told (blockSaidBy b (two t (slice 0 (b .joined) i)) buf) r o v

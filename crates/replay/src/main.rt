@@ -6,6 +6,7 @@ mod dealers;
 mod fields;
 mod input;
 mod leaves;
+mod loose;
 mod merging;
 mod out;
 mod past;
@@ -112,8 +113,11 @@ fn reply_by(q: Ask, text: &[u8], b: &mut [u8], join: &mut [u8]) -> Reply {
     if word < ask::PAIRS {
         return by_line::answer_set(q, text, b);
     }
-    if word < ask::VARIANTS {
+    if word < ask::LOOSE {
         return two_texts::answer(q, text, b, join);
+    }
+    if word < ask::VARIANTS {
+        return loose::answer(q.x, text, b, join);
     }
     if word < ask::SHEET {
         return dealers::answer(text, b, join);

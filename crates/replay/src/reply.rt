@@ -64,24 +64,26 @@ pub(crate) const FIRST: usize = 21;
 
 pub(crate) const SECOND: usize = 22;
 
-pub(crate) const LOOKAHEAD: usize = 23;
+pub(crate) const UNREAD: usize = 23;
 
-pub(crate) const CANON_REFUSED: usize = 24;
+pub(crate) const LOOKAHEAD: usize = 24;
+
+pub(crate) const CANON_REFUSED: usize = 25;
 // Phrases with bytes in hex behind them, the first of no bytes.
-pub(crate) const BYTES: usize = 25;
+pub(crate) const BYTES: usize = 26;
 
-pub(crate) const JOINED: usize = 26;
+pub(crate) const JOINED: usize = 27;
 
-pub(crate) const CANON: usize = 27;
+pub(crate) const CANON: usize = 28;
 // No bytes, with bytes as they are behind them.
-pub(crate) const LETTERS: usize = 28;
+pub(crate) const LETTERS: usize = 29;
 // What stands before a report.
-pub(crate) const SHEET: usize = 29;
+pub(crate) const SHEET: usize = 30;
 
 // Adds the phrase of a number, in the order of the numbers above.
 pub(crate) fn put_phrase(output: &mut [u8], at: usize, phrase: usize) -> usize {
     let list =
-        b"/error/yes/no/ok/none/end/no end/another part/ joined spoiled//refused /ok next /ok lines /lines /no /from / to /to / next /byte /unread first /unread second / lookahead / canon refused // joined / canon //sheet ";
+        b"/error/yes/no/ok/none/end/no end/another part/ joined spoiled//refused /ok next /ok lines /lines /no /from / to /to / next /byte /unread first /unread second /unread / lookahead / canon refused // joined / canon //sheet ";
     out::put(output, at, fields::field(list, b'/', phrase))
 }
 

@@ -1,9 +1,10 @@
-// Sets of two texts, merged: of line 1 of each, or of the blocks there.
+// Sets of two texts, merged: of line 1 of each, or of the blocks there; and the merged set without its key `loose`.
 use crate::JOIN;
 use crate::TEXT;
 use crate::ask;
 use crate::ask::Ask;
 use crate::fields;
+use crate::loose;
 use crate::merging;
 use crate::out;
 use crate::reply;
@@ -29,7 +30,7 @@ fn answer_over<'a>(
     if word == ask::PAIRS {
         return lines(first, second, canon);
     }
-    blocks(first, second, join, canon)
+    blocks(word, first, second, join, canon)
 }
 
 // Line 1 of each.
@@ -50,13 +51,19 @@ fn second_line<'a>(first: &'a [u8], second: &'a [u8], target: Attrs, canon: &mut
         Outcome::Refused(r) => reply::refused(reply::SECOND, r),
         Outcome::Passed => {
             let incoming = set_exchange::exchange(read.set);
-            merged(first, second, target, incoming, canon)
+            merged(ask::PAIRS, first, second, target, incoming, canon)
         }
     }
 }
 
 // The blocks at line 1 of each.
-fn blocks<'a>(first: &'a [u8], second: &'a [u8], join: &mut [u8], canon: &mut [u8]) -> Reply {
+fn blocks<'a>(
+    word: usize,
+    first: &'a [u8],
+    second: &'a [u8],
+    join: &mut [u8],
+    canon: &mut [u8],
+) -> Reply {
     let block = read_by_line::parse_standalone_attrs_block(first, 1, join);
     let outcome = block.outcome;
     let cap = join.len();
@@ -64,13 +71,14 @@ fn blocks<'a>(first: &'a [u8], second: &'a [u8], join: &mut [u8], canon: &mut [u
         Outcome::Refused(r) => reply::refused(reply::FIRST, r),
         Outcome::Passed => {
             let over = set_table::text_over(first, join, block.joined);
-            joined_behind(over, second, read_blocks::as_first(block), cap, canon)
+            joined_behind(word, over, second, read_blocks::as_first(block), cap, canon)
         }
     }
 }
 
 // The first block is read. The second has a join buffer of its own, of as many bytes.
 fn joined_behind<'a>(
+    word: usize,
     first: &'a [u8],
     second: &'a [u8],
     target: Attrs,
@@ -80,13 +88,14 @@ fn joined_behind<'a>(
     let mut join = [255u8; JOIN];
     if cap <= JOIN {
         let part = &mut join[..cap];
-        return second_block(first, second, target, part, canon);
+        return second_block(word, first, second, target, part, canon);
     }
     reply::alone(reply::ERROR)
 }
 
 // Reads the second block with that buffer.
 fn second_block<'a>(
+    word: usize,
     first: &'a [u8],
     second: &'a [u8],
     target: Attrs,
@@ -99,13 +108,21 @@ fn second_block<'a>(
         Outcome::Refused(r) => reply::refused(reply::SECOND, r),
         Outcome::Passed => {
             let over = set_table::text_over(second, join, block.joined);
-            merged(first, over, target, read_blocks::as_second(block), canon)
+            merged(
+                word,
+                first,
+                over,
+                target,
+                read_blocks::as_second(block),
+                canon,
+            )
         }
     }
 }
 
-// The two sets merged.
+// The two sets merged, and `loose` taken out of the merged one where the word asks for that.
 fn merged<'a>(
+    word: usize,
     first: &'a [u8],
     second: &'a [u8],
     target: Attrs,
@@ -113,5 +130,8 @@ fn merged<'a>(
     canon: &mut [u8],
 ) -> Reply {
     let filled = set_merge::merge_attrs(first, second, target, incoming);
+    if word == ask::LOOSE_PAIR {
+        return loose::merged(first, second, filled, canon);
+    }
     merging::filled(first, second, filled, canon)
 }

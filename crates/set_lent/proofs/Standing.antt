@@ -9,8 +9,10 @@ use Rattle.set_table.specs.declared.Attrs.{Attrs}
 use Rattle.base_refusals.specs.declared.Outcome.{Outcome}
 use Rattle.base_refusals.specs.declared.Outcome.the-variants.{Passed, Refused}
 use Rattle.set_table.specs.declared.Filled.{Filled}
+use Rattle.set_loose.specs.declared.Consumed.{Consumed}
+use Rattle.set_loose.specs.declared.Did.the-variants as did
 use Rattle.set_merge.specs.Merge.{mergeOf, mergeOrder}
-use Rattle.set_lent.specs.Lent.{endOf, lentBoth}
+use Rattle.set_lent.specs.Lent.{endOf, looseEnd, lentBoth}
 
 module _ (was : Attrs) (f : Filled) where
   pub refused-stands : {r : Refusal} → f .outcome ≡ Refused r → was ≡ endOf was f
@@ -20,6 +22,20 @@ module _ (was : Attrs) (f : Filled) where
   pub done-goes : f .outcome ≡ Passed → f .set ≡ endOf was f
   unfolding endOf
   done-goes e = rw e
+
+-- where nothing is taken out the set stands as it was too
+module _ (was : Attrs) (c : Consumed) where
+  pub loose-refused : {r : Refusal} → c .did ≡ did.Refused r → was ≡ looseEnd was c
+  unfolding looseEnd
+  loose-refused e = rw e
+
+  pub loose-yes : c .did ≡ did.Yes → c .set ≡ looseEnd was c
+  unfolding looseEnd
+  loose-yes e = rw e
+
+  pub loose-no : c .did ≡ did.No → was ≡ looseEnd was c
+  unfolding looseEnd
+  loose-no e = rw e
 
 -- one lent set, merged into twice: y stands there between the two, and z behind them
 module _ (t : Texts) (a leading incoming : Attrs) {led merged : Outcome} {y z : Attrs}

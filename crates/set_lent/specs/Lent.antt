@@ -5,6 +5,9 @@ use Rattle.base_refusals.specs.declared.Outcome as outcomes
 use Rattle.base_refusals.specs.declared.Outcome.the-variants.{Passed, Refused}
 use Rattle.set_table.specs.declared.Filled.{Filled}
 use Rattle.set_merge.specs.Merge.{mergeOf}
+use Rattle.set_loose.specs.declared.Did as dids
+use Rattle.set_loose.specs.declared.Did.the-variants as did
+use Rattle.set_loose.specs.declared.Consumed.{Consumed}
 use Rattle.set_lent.specs.declared.Both.{Both}
 
 -- "A refusal touches no other lent memory, a merge's target included."
@@ -15,6 +18,15 @@ standing Passed was new = new
 -- the lent set that held `was`, once the merge has come to f
 unfoldable pub endOf : Attrs → Filled → Attrs
 endOf was f = standing (f .outcome) was (f .set)
+
+-- "it acts only if the key's unescaped value is empty": where it doesn't act, or is refused, the lent set stays as it was, to its last row
+abbrev pub actedOn : dids.Did → Attrs → Attrs → Attrs
+actedOn (did.Refused r) was new = was
+actedOn did.Yes was new = new
+actedOn did.No was new = was
+
+unfoldable pub looseEnd : Attrs → Consumed → Attrs
+looseEnd was c = actedOn (c .did) was (c .set)
 
 -- a leading set merged into a, and then an incoming one
 abbrev pub lentFrom : Texts → Attrs → Filled → Attrs → Both

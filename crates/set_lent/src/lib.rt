@@ -1,13 +1,18 @@
 // A set that the caller lends, added to where it stands.
 use base_refusals::Outcome;
+use set_loose::Consumed;
+use set_loose::Did;
 use set_table::Attrs;
 use set_table::Filled;
 ghost use mathlib.Core.Path.{_≡_};
 ghost use Rattle.base_refusals.specs.Numbers.{outcomeNo};
-ghost use Rattle.base_refusals.specs.Orders.{orderNo};
+ghost use Rattle.base_refusals.specs.Orders.{orderNo, onPaper};
+ghost use mathlib.Core.List.{[], _∷_};
 ghost use Rattle.set_table.specs.Types.{two};
+ghost use Rattle.set_table.specs.Rows.{meaningOf};
 ghost use Rattle.set_merge.specs.Merge.{mergeOf, mergeOrder};
-ghost use Rattle.set_lent.specs.Lent.{endOf, lentBoth};
+ghost use Rattle.set_loose.specs.Loose.{isLoose, looseOf, looseOrder, actedNo, didPaper};
+ghost use Rattle.set_lent.specs.Lent.{endOf, looseEnd, lentBoth};
 
 // What becomes of a lent set into which one set is merged from before and another from behind.
 pub struct Both {
@@ -71,4 +76,26 @@ pub fn merge_both<'a>(
     let led = merge_leading_into(first, second, &mut set, leading);
     let merged = merge_into(first, second, &mut set, incoming);
     Both { led, merged, set }
+}
+
+// The set that is left, or the one that was there where nothing was taken out.
+fn loose_end(was: Attrs, consumed: Consumed) -> Attrs
+    ensures { λ r. ⌜ r ≡ looseEnd was consumed ⌝ }
+{
+    let did = consumed.did;
+    match did {
+        Did::Refused(_) => was,
+        Did::Yes => consumed.set,
+        Did::No => was,
+    }
+}
+
+// Where the key `loose` of the lent set has no value, takes it out of the set. On no and on a refusal the set stays as it was.
+pub fn consume_loose_in<'a>(first: &'a [u8], second: &'a [u8], set: &mut Attrs) -> Did
+    ensures { λ r. ⌜ (r ≡ looseOf (two (now (first .entry)) (now (second .entry))) (now (set .entry)) .did) × (now (set .exit) ≡ looseEnd (now (set .entry)) (looseOf (two (now (first .entry)) (now (second .entry))) (now (set .entry)))) × (didPaper r ≡ onPaper (looseOrder (two (now (first .entry)) (now (second .entry))) (now (set .entry))) (actedNo (isLoose (meaningOf (two (now (first .entry)) (now (second .entry))) (now (set .entry)))) ∷ [])) ⌝ }
+{
+    let was = *set;
+    let consumed = set_loose::consume_loose(first, second, was);
+    *set = loose_end(was, consumed);
+    consumed.did
 }

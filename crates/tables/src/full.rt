@@ -26,7 +26,7 @@ fn name_end(k: u8, long: bool) -> u16 {
 }
 
 // 32 keys, each named by the letter at its place, or by that and the next one.
-fn full(long: bool) -> Attrs {
+pub(crate) fn full(long: bool) -> Attrs {
     let mut s = Attrs::empty();
     s.id = plain(0, 1);
     s.given = true;

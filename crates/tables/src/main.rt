@@ -4,6 +4,7 @@ mod buffers;
 mod changed;
 mod full;
 mod good;
+mod loose;
 mod pairs;
 mod repeats;
 mod texts;
@@ -134,4 +135,5 @@ fn main() {
     full::run();
     buffers::run(text);
     two(text);
+    loose::run();
 }

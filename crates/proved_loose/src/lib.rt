@@ -1,0 +1,1 @@
+// Theorems about taking `loose` out of a set.
