@@ -34,6 +34,7 @@ int main(void)
     EXPECT(bridlesnow_read_block_at(NULL, 0, SIZE_MAX, NULL, 0, NULL, 0, NULL, 0) == 3);
     EXPECT(bridlesnow_merge_blocks(NULL, 0, 1, 2, NULL, 0, NULL, 0, NULL, 0, NULL, 0) == 3);
     EXPECT(bridlesnow_consume_loose(NULL, 0, 1, NULL, 0, NULL, 0, NULL, 0) == 3);
+    EXPECT(bridlesnow_table_columns(NULL, 0, 1, NULL, 0, NULL, 0, NULL, 0) == 3);
     EXPECT(bridlesnow_standalone_attrs_block_len(NULL, 0, 1, NULL, 0, NULL, 0) == 3);
     EXPECT(bridlesnow_indented_wrapped_attrs_block_len(NULL, 0, 1, NULL, 0, NULL, 0) == 3);
     EXPECT(bridlesnow_attrs_block_len_at(NULL, 0, 1, SIZE_MAX, NULL, 0, NULL, 0) == 3);
@@ -108,6 +109,20 @@ int main(void)
     EXPECT(taken[0] == 1 && taken[1] == 0 && taken[2] == 1 && taken[3] == 20 && merged[0] == '{');
     EXPECT(bridlesnow_consume_loose(checks, sizeof checks - 1, 4, NULL, 0, merged, 24, taken, 2) == 0);
     EXPECT(taken[0] == 0 && taken[1] == 11 && memcmp(merged, "{loose=\"x\"}", 11) == 0);
+
+    /* A valve table: room for all numbers, for some of them, and untouched on a refusal. */
+    static const uint8_t valves[] = "{widths=\"1\\,2\" aligns=left}\n{aligns=\",,,,,,,,,,,,,,,,,,,,,,,,,,,,,,,,\"}\n";
+    size_t numbers[11], which;
+    for (which = 0; which < 11; which++) numbers[which] = 77;
+    EXPECT(bridlesnow_table_columns(valves, sizeof valves - 1, 1, NULL, 0, numbers, 11, told, 3) == 0);
+    EXPECT(told[0] == 2 && told[1] == 1 && told[2] == 0);
+    EXPECT(numbers[0] == 1 && numbers[1] == 0 && numbers[2] == 2 && numbers[3] == 9 && numbers[4] == 10);
+    EXPECT(numbers[5] == 0 && numbers[6] == 0 && numbers[7] == 2 && numbers[8] == 12 && numbers[9] == 13 && numbers[10] == 77);
+    for (which = 0; which < 11; which++) numbers[which] = 77;
+    EXPECT(bridlesnow_table_columns(valves, sizeof valves - 1, 1, NULL, 0, numbers, 3, told, 1) == 0);
+    EXPECT(told[0] == 2 && numbers[2] == 2 && numbers[3] == 77);
+    EXPECT(bridlesnow_table_columns(valves, sizeof valves - 1, 2, NULL, 0, numbers, 11, told, 3) == 18);
+    EXPECT(told[0] == 0 && told[1] == 1 && numbers[0] == 1 && numbers[3] == 77);
 
     static uint8_t lines[BRIDLESNOW_MAX], report[BRIDLESNOW_LINE];
     EXPECT(bridlesnow_report_start(block, 4, lines, sizeof lines - 1, report, sizeof report, told, 3) == 9);

@@ -11,17 +11,17 @@
  *     4  no close                                  11  (never given here: a set that isn't well-formed)
  *     5  no reading                                12  nothing is left of a set (bridlesnow_consume_loose alone)
  *     6  more than 32 classes                      17  a total over all sheets would not fit 64 bits, or has no room
- *                                                  20  one or two of `variant`, `wheel` and `valve`, or a value out of range
+ *    18  more than 32 columns                      20  one or two of `variant`, `wheel` and `valve`, or a value out of range
  *                                                  21  a variant has one valve at two wheels
  *
  * A set is handed out as its canonical text at the front of `out`, such as {id="v17" class="wheel" side="left"}. A class that is listed again is
- * written once, at its first place. After a number other than 0 `out`, `cells` and `totals` are untouched, but for bridlesnow_report_start, whose 1
+ * written once, at its first place. After a number other than 0 `out`, `cells`, `totals` and `numbers` are untouched, but for bridlesnow_report_start, whose 1
  * and 2 lay a line. Numbers besides are told in `told`, in the order that the function's comment gives: as many as `told_len` has room for, the rest of it
  * untouched. So a caller who wants none passes NULL and 0. They are told on a refusal too; the length of the canonical text is 0 where none is
  * written, so 10 doesn't tell how much is needed.
  *
  * What the caller owes: each pointer with a length other than 0 points to that many elements, and memory that a call writes (`join`, `other_join`,
- * `out`, `cells`, `totals`, `told`) overlaps no other memory of that call. A pointer with length 0 may be NULL. Any other argument gets an answer: a place or
+ * `out`, `cells`, `totals`, `numbers`, `told`) overlaps no other memory of that call. A pointer with length 0 may be NULL. Any other argument gets an answer: a place or
  * a line that isn't there is 3 (for a refused run: no), a `join` or an `out` too short is 9 or 10.
  *
  * Lines end at LF, a CR before it is dropped, and are counted from 1. `join` is where the lines of a wrapped block are joined; 65,535 bytes are
@@ -68,6 +68,10 @@ enum {
     BRIDLESNOW_LOOKAHEAD,
     BRIDLESNOW_LONGEST
 };
+
+/* The most columns that a valve table's block may say, and how many numbers are laid for each. */
+#define BRIDLESNOW_COLUMNS 32
+#define BRIDLESNOW_COLUMN 5
 
 /* Whether the bytes are UTF-8. */
 bool bridlesnow_is_utf8(const uint8_t *text, size_t text_len);
@@ -134,6 +138,16 @@ uint8_t bridlesnow_merge_blocks(const uint8_t *text, size_t text_len, size_t com
  * bytes were joined, each as bridlesnow_parse_standalone_attrs_block tells them. */
 uint8_t bridlesnow_consume_loose(const uint8_t *text, size_t text_len, size_t line, uint8_t *join, size_t join_len,
                                  uint8_t *out, size_t out_len, size_t *told, size_t told_len);
+
+/* Reads the block of one or more lines that begins at a line, and the column settings that it says: its keys `aligns`, `valigns` and `widths`, lists
+ * split at commas. For each column `numbers` gets BRIDLESNOW_COLUMN numbers, as many as there is room for: the align (0 none, 1 left, 2 right,
+ * 3 center); the vertical align (0 none, 1 top, 2 middle, 3 bottom); what the width is (0 none, 1 that of a bare `widths`, without bytes, 2 bytes of the
+ * text, 3 bytes of what was joined in `join`); and from where to where these bytes stand there, as they are written, backslashes too. A block without
+ * these keys has no column; a key without a value is one empty column.
+ * Order: the numbers of the block, then 18.
+ * Tells: how many columns there are, the block's lines, and how many bytes were joined. */
+uint8_t bridlesnow_table_columns(const uint8_t *text, size_t text_len, size_t line, uint8_t *join, size_t join_len,
+                                 size_t *numbers, size_t numbers_len, size_t *told, size_t told_len);
 
 /* Measures the block at a line: one that isn't indented; a wrapped one, whatever its indentation; one whose line stands in a column.
  * Order: 1, 2, 3, then 9 or 5 as its lines are met.

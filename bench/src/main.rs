@@ -15,6 +15,9 @@ mod sheet;
 #[path = "../../oracle/src/standins.rs"]
 #[allow(dead_code)]
 mod standins;
+#[path = "../../oracle/src/table_width.rs"]
+#[allow(dead_code)]
+mod table_width;
 
 use ours::{Lent, Set};
 use parse::attrs::door;

@@ -1,7 +1,7 @@
 //! The original Rust, to the letter (`oracle/src/source.rs`), with the oracle's stand-ins and nothing else around it: no counter of
 //! lookahead, no assertion, no second reading.
 
-use crate::ast::{AttrSlot, Attrs};
+use crate::ast::{AttrSlot, Attrs, TableAlign, TableColumn, TableVerticalAlign};
 use crate::standins::*;
 use std::collections::HashSet;
 

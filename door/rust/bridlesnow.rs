@@ -75,6 +75,10 @@ mod raw {
             text: *const u8, len: usize, line: usize, join: *mut u8, join_len: usize,
             out: *mut u8, out_len: usize, told: *mut usize, told_len: usize,
         ) -> u8;
+        pub fn bridlesnow_table_columns(
+            text: *const u8, len: usize, line: usize, join: *mut u8, join_len: usize,
+            numbers: *mut usize, numbers_len: usize, told: *mut usize, told_len: usize,
+        ) -> u8;
         pub fn bridlesnow_standalone_attrs_block_len(
             text: *const u8, len: usize, line: usize, join: *mut u8, join_len: usize, told: *mut usize, told_len: usize,
         ) -> u8;
@@ -217,6 +221,30 @@ pub enum BraceRun {
     Lines(usize),
     /// It isn't; a comment run was looked at over so many lines, `usize::MAX` where they reach to the end.
     No(usize),
+}
+
+/// The side on which a column's text stands.
+#[derive(Clone, Copy, Debug, PartialEq, Eq)]
+pub enum Align {
+    Left,
+    Right,
+    Center,
+}
+
+/// The height at which a column's text stands.
+#[derive(Clone, Copy, Debug, PartialEq, Eq)]
+pub enum Valign {
+    Top,
+    Middle,
+    Bottom,
+}
+
+/// A column of a valve table. The width is its bytes as they are written, backslashes too; that of a bare `widths` has none.
+#[derive(Clone, Copy, Debug, PartialEq, Eq)]
+pub struct Column<'a> {
+    pub align: Option<Align>,
+    pub valign: Option<Valign>,
+    pub width: Option<&'a [u8]>,
 }
 
 /// Why a sheet has no table, and where.
@@ -379,6 +407,24 @@ impl Reader {
         granted(number).map_err(|refusal| (refusal, lines))?;
         let text = self.canonical(told[1]).map_err(|refusal| (refusal, lines))?;
         Ok((acted, lines, Some(text)))
+    }
+
+    /// The columns that the block of one or more lines at a line says, and the block's lines.
+    pub fn table_columns<'a>(&'a mut self, text: &'a [u8], line: usize) -> Result<(Vec<Column<'a>>, usize), Refusal> {
+        let (mut numbers, mut told) = ([0usize; 5 * 32], [0usize; 3]);
+        granted(unsafe {
+            raw::bridlesnow_table_columns(
+                text.as_ptr(), text.len(), line, self.join.as_mut_ptr(), self.join.len(),
+                numbers.as_mut_ptr(), numbers.len(), told.as_mut_ptr(), told.len(),
+            )
+        })?;
+        let join: &'a [u8] = &self.join;
+        let column = |n: &[usize]| Column {
+            align: [None, Some(Align::Left), Some(Align::Right), Some(Align::Center)][n[0]],
+            valign: [None, Some(Valign::Top), Some(Valign::Middle), Some(Valign::Bottom)][n[1]],
+            width: [None, Some(&text[..0]), text.get(n[3]..n[4]), join.get(n[3]..n[4])][n[2]],
+        };
+        Ok((numbers.chunks(5).take(told[0]).map(column).collect(), told[1]))
     }
 
     fn measured(number: u8, told: [usize; 4]) -> Result<Lines, (Refusal, Lines)> {
@@ -651,6 +697,32 @@ mod tests {
         assert_eq!(Reader::with_room(13, 10).consume_loose(text, 4), Err((Refusal(10), wrapped)));
         assert_eq!(Reader::with_room(12, 11).consume_loose(text, 4).map_err(|e| e.0), Err(Refusal(9)));
         assert_eq!(Reader::with_room(0, 0).consume_loose(text, 2), Ok((true, one(23), None)));
+    }
+
+    #[test]
+    fn valve_tables() {
+        let mut reader = Reader::new();
+        let text = b"{aligns=\"left,right,center,Left\" valigns=\"top,middle,bottom\" widths=\"10,20\\%,\"}\n{.valves\n widths=1}\n{widths}\n{.a}\ntext";
+        let column = |align, valign, width| Column { align, valign, width };
+        let first = vec![
+            column(Some(Align::Left), Some(Valign::Top), Some(&b"10"[..])),
+            column(Some(Align::Right), Some(Valign::Middle), Some(b"20\\%")),
+            column(Some(Align::Center), Some(Valign::Bottom), Some(b"")),
+            column(None, None, None),
+        ];
+        assert_eq!(reader.table_columns(text, 1), Ok((first, 1)));
+        // Over the joined lines.
+        assert_eq!(reader.table_columns(text, 2), Ok((vec![column(None, None, Some(&b"1"[..]))], 2)));
+        assert_eq!(reader.table_columns(text, 4), Ok((vec![column(None, None, Some(&b""[..]))], 1)));
+        assert_eq!(reader.table_columns(text, 5), Ok((vec![], 1)));
+        assert_eq!(reader.table_columns(text, 6), Err(Refusal(3)));
+        assert_eq!(reader.table_columns(b"{aligns=a}\n\xff", 1), Err(Refusal(2)));
+        for (commas, many) in [(31, Ok(32)), (32, Err(Refusal(18)))] {
+            for key in ["aligns", "valigns", "widths"] {
+                let block = format!("{{{key}=\"{}\"}}", ",".repeat(commas));
+                assert_eq!(reader.table_columns(block.as_bytes(), 1).map(|found| found.0.len()), many);
+            }
+        }
     }
 
     fn reported(reader: &mut Reader, text: &[u8]) -> (String, usize, Result<(), Refusal>) {

@@ -5,8 +5,8 @@
 //!     generate size FAMILY LENGTH                   how many requests that is
 //!
 //! FAMILIES are names parted by commas: leaves, brace, lines, refused, merge, sheet, rows, quick, merge2, repeats,
-//! variants, report, index, mends, loose; `all` stands for these fifteen. The family `errors`, which is in no `all`,
-//! damages the request lines themselves.
+//! variants, report, index, mends, loose, columns; `all` stands for these sixteen. The family `errors`, which is in no
+//! `all`, damages the request lines themselves.
 //! Each request is made from the seed and its own number, so any part of the list can be made again. A request that
 //! carries the index of a text has it from the oracle's own modules.
 
@@ -24,13 +24,16 @@ mod parse;
 mod rows;
 #[allow(dead_code)]
 mod standins;
+#[allow(dead_code)]
+mod table_width;
 
 use index::{INDEX_LIMIT, ROWS_LIMIT};
 use std::io::{self, BufWriter, Write};
 use std::sync::{Mutex, OnceLock};
 
-const FAMILIES: [&str; 13] = [
+const FAMILIES: [&str; 14] = [
     "leaves", "brace", "lines", "refused", "merge", "sheet", "rows", "quick", "merge2", "repeats", "variants", "report", "loose",
+    "columns",
 ];
 /// Families of requests that the oracle alone answers as yet: only when named.
 const COMING: [&str; 2] = ["index", "mends"];
@@ -651,6 +654,7 @@ fn random(family: &str, rng: &mut Rng, out: &mut Out) {
         "index" => indexes(rng, out),
         "mends" => mends(rng, out),
         "loose" => loose(rng, out),
+        "columns" => columns_of_tables(rng, out),
         "errors" => errors(rng, out),
         _ => sheet(rng, out),
     }
@@ -2143,6 +2147,77 @@ fn loose(rng: &mut Rng, out: &mut Out) {
     out.request(&format!("loose {line}"), &lines, "");
 }
 
+// ---- Columns of tables ----
+
+const COLUMN_KEYS: [&str; 3] = ["aligns", "valigns", "widths"];
+/// Pieces of their lists, with escapes that are dropped and such as stay, and commas of either kind.
+const COLUMN_PIECES: &[&str] = &[
+    "left", "right", "center", "top", "middle", "bottom", "left", "top", "", "", "1", "20", "33.3", "50%", "1/3", "Left", "TOP", " left", "left ", "lef", "leftt",
+    "none", "\\left", "le\\ft", "\\,", "\\,\\,", "1\\,2", "\\\\", "1\\\\", "\\\\\\,", "\\\"", "\\'", "1\\%", "\\ ", "é", "\\é", "€", " ", "\t", "\u{c}", ";", "left;right", "{", "}",
+    "=", "\\",
+];
+/// What plain values may have between commas.
+const PLAIN_PIECES: &[&str] = &["left", "right", "center", "top", "middle", "bottom", "", "1", "20", "50%", "é", "Left", "x", "\u{c}", "{"];
+
+/// One of the three keys: with a list in quotes or plain, or bare.
+fn column_key(rng: &mut Rng) -> String {
+    let key = COLUMN_KEYS[rng.below(3)];
+    let count = match rng.weighted(&[88, 12]) {
+        0 => rng.between(1, 5),
+        _ => rng.between(30, 34),
+    };
+    match rng.weighted(&[70, 22, 4, 4]) {
+        0 => {
+            let quote = rng.pick(&["\"", "'"]);
+            // Mostly what the key is made for.
+            let few = rng.percent(50);
+            let pieces: Vec<&str> = (0..count).map(|_| if few { COLUMN_PIECES[rng.below(12)] } else { rng.pick(COLUMN_PIECES) }).collect();
+            format!("{key}={quote}{}{quote}", pieces.join(","))
+        }
+        1 => {
+            let pieces: Vec<&str> = (0..count).map(|_| rng.pick(PLAIN_PIECES)).collect();
+            format!("{key}={}", pieces.join(","))
+        }
+        2 => format!("{key}={}", rng.pick(&["\"\"", "''", ",", "\",\"", "\"\\,\"", "\"\\\\,\"", "'\\\\\\,'"])),
+        _ => key.to_string(),
+    }
+}
+
+/// A table's block at some line, or two texts of which each has one at line 1.
+fn columns_of_tables(rng: &mut Rng, out: &mut Out) {
+    let text = |rng: &mut Rng| {
+        if rng.once_in(4000) {
+            let size = long_size(rng);
+            let piece = rng.pick(&["x", ",", "\\,", "\\\\", "é", "left,"]);
+            let many = filled(size, "{widths=\"", piece, "\"}");
+            // As few commas as a table bears, mostly.
+            return if rng.percent(70) { many.replacen(',', ".", many.matches(',').count().saturating_sub(rng.between(29, 33))) } else { many }.into_bytes();
+        }
+        let mut list = Vec::new();
+        for _ in 0..rng.weighted(&[2, 40, 35, 18, 5]) {
+            list.push(column_key(rng));
+        }
+        if list.is_empty() || rng.once_in(4) {
+            let at = rng.below(list.len() + 1);
+            list.insert(at, if rng.percent(60) { token(rng) } else { rng.pick(&["align=left", "width=1", "Widths='1,2'", "widths_", ".widths", "#aligns", "k"]).to_string() });
+        }
+        let block = laid(rng, &list, 40);
+        at_line_one(rng, &block)
+    };
+    if rng.percent(40) {
+        let first = text(rng);
+        out.request("columns2", &first[..first.len().min(65_600)], " ");
+        let second = text(rng);
+        return out.hex(&second[..second.len().min(65_600)]);
+    }
+    let before = rng.weighted(&[70, 20, 10]);
+    let mut lines: Vec<u8> = (0..before).flat_map(|_| rng.pick(&["text\n", "\n", "{widths=1}\n", "é\r\n", "{b\n"]).bytes()).collect();
+    lines.extend(text(rng));
+    lines.truncate(65_600);
+    let line = number(rng, before + 1, 96);
+    out.request(&format!("columns {line}"), &lines, "");
+}
+
 /// A request with one fault in its line, or, now and then, none.
 fn errors(rng: &mut Rng, out: &mut Out) {
     random(FAMILIES[rng.below(FAMILIES.len())], rng, out);
@@ -2335,6 +2410,60 @@ const VARIANT_SECTIONS: &[Section] = &[
     },
 ];
 
+/// Numbers of columns around their limit, how a list of them is written, and pieces of short lists.
+const COLUMN_COUNTS: [usize; 3] = [31, 32, 33];
+const COLUMN_QUOTES: [&str; 3] = ["", "\"", "'"];
+const COLUMN_ATOMS: [&str; 4] = ["left", "top", "", "x"];
+
+/// How many lists there are of at most four pieces, and no more than that many.
+fn column_lists(length: usize) -> u64 {
+    strings(COLUMN_ATOMS.len(), length.min(4)) - 1
+}
+
+/// One of them, its pieces parted by commas.
+fn column_list(mut number: u64) -> String {
+    let mut pieces = vec![COLUMN_ATOMS[(number % 4) as usize]];
+    while number >= 4 {
+        number = number / 4 - 1;
+        pieces.push(COLUMN_ATOMS[(number % 4) as usize]);
+    }
+    pieces.join(",")
+}
+
+/// So many columns by one key or by all three, on one line or wrapped; or two lists, in one block, in two back to back, over
+/// two texts, or the first again behind the second.
+fn exhaustive_columns(length: usize, number: u64, out: &mut Out) {
+    let counts = (COLUMN_COUNTS.len() * 4 * COLUMN_QUOTES.len() * 2) as u64;
+    if number < counts {
+        let mut number = number as usize;
+        let mut digit = |of: usize| {
+            let digit = number % of;
+            number /= of;
+            digit
+        };
+        let (count, keys, quote, wrapped) = (COLUMN_COUNTS[digit(3)], digit(4), COLUMN_QUOTES[digit(3)], digit(2));
+        let list = vec!["1"; count].join(",");
+        let tokens: Vec<String> =
+            (0..3).filter(|&key| keys == 3 || keys == key).map(|key| format!("{}={quote}{list}{quote}", COLUMN_KEYS[key])).collect();
+        let text = format!("{{{}}}", tokens.join(["\n ", " "][wrapped]));
+        return out.request("columns 1", text.as_bytes(), "");
+    }
+    let lists = column_lists(length);
+    let number = number - counts;
+    let (form, number) = (number % 4, number / 4);
+    let (keys, number) = ([(0, 1), (0, 2), (2, 1)][(number % 3) as usize], number / 3);
+    let [a, b] = [(keys.0, number % lists), (keys.1, number / lists)].map(|(key, list)| format!("{}=\"{}\"", COLUMN_KEYS[key], column_list(list)));
+    match form {
+        0 => out.request("columns 1", format!("{{{a} {b}}}").as_bytes(), ""),
+        1 => out.request("columns 1", format!("{{{a}}}{{{b}}}").as_bytes(), ""),
+        2 => out.texts("columns2", &format!("{{{a}}}"), &format!("{{{b}}}")),
+        _ => {
+            let again = format!("{}='{}'", COLUMN_KEYS[keys.0], column_list(number / lists));
+            out.texts("columns2", &format!("{{{a}}}"), &format!("{{\n {b}\n {again}}}"));
+        }
+    }
+}
+
 /// The tokens of loose lists.
 const LOOSE_ATOMS: &[&[u8]] = &[
     b"loose ", b"loose=\"\" ", b"loose='' ", b"loose=x ", b"loose=\"\\\"\" ", b".loose ", b"#loose ", b"k=1 ", b":en ", b".a ", b"LOOSE ",
@@ -2520,6 +2649,20 @@ fn sections(family: &str) -> &'static [Section] {
         ],
         "variants" => VARIANT_SECTIONS,
         "mends" => &[],
+        "columns" => &[Section {
+            atoms: &[b",", b"\\", b"\"", b"left", b"top", b"1", b"%", b" ", b"\xC3\xA9"],
+            forms: &[
+                ("columns 1", b"{aligns=\"", b"\"}"),
+                ("columns 1", b"{aligns='", b"'}"),
+                ("columns 1", b"{aligns=", b"}"),
+                ("columns 1", b"{valigns=\"", b"\"}"),
+                ("columns 1", b"{valigns='", b"'}"),
+                ("columns 1", b"{valigns=", b"}"),
+                ("columns 1", b"{widths=\"", b"\"}"),
+                ("columns 2", b"\n{.a\n widths='", b"'}"),
+                ("columns 1", b"{widths=", b"}"),
+            ],
+        }],
         "loose" => &[
             Section { atoms: LOOSE_ATOMS, forms: &[("loose 1", b"{", b"}")] },
             Section {
@@ -2609,7 +2752,8 @@ const BEFORE_A_BYTE: [&[u8]; 7] = [b"{", b"{ ", b"{#", b"{.", b"{.a", b"{a", b"{
 /// quick test begins with each of the 256 bytes wherever one decides, merges over two texts with texts by size. Repeated
 /// classes begin with canonical texts around the limit, then come the lists that are cut in two. Reports begin with
 /// canonical texts around the limit and with as many classes and keys as stand around theirs. Mends are all of this kind,
-/// and loose lists begin with the pairs of blocks.
+/// and loose lists begin with the pairs of blocks. Columns begin with as many as stand around their limit, by each key and
+/// by all three, then come pairs of lists under two of the keys.
 fn extra(family: &str, length: usize) -> u64 {
     match family {
         "leaves" => 256 + (SIZES.len() * SIZED.len()) as u64 + pairs(ESCAPE_ATOMS.len(), 0, length),
@@ -2617,6 +2761,7 @@ fn extra(family: &str, length: usize) -> u64 {
         "merge2" => (SIZES.len() * SIZED.len() * 3 * 2) as u64,
         "repeats" => (EDGES.len() * EDGE_SIZES) as u64 + CUT_FORMS.len() as u64 * pairs(SPELLINGS.len(), 1, length),
         "loose" => LOOSE_PAIRS.len() as u64 * pairs(LOOSE_ATOMS.len(), 1, length),
+        "columns" => (COLUMN_COUNTS.len() * 4 * COLUMN_QUOTES.len() * 2) as u64 + 3 * 4 * column_lists(length).pow(2),
         "mends" => *mend_starts(length).last().expect("a start"),
         "report" => ((REPORT_EDGES.len() * EDGE_SIZES + AROUND.len() * AROUND.len() * 2) * REPORT_WORDS.len()) as u64,
         _ => 0,
@@ -2639,6 +2784,9 @@ fn exhaustive_extra(family: &str, length: usize, mut number: u64, out: &mut Out)
     }
     if family == "mends" {
         return exhaustive_mend(length, number, out);
+    }
+    if family == "columns" {
+        return exhaustive_columns(length, number, out);
     }
     if family == "loose" {
         // Two blocks, the second on one line or wrapped.

@@ -4,6 +4,7 @@
 //! the word `index` it is the program `index`, its words and files behind it.
 
 mod ast;
+mod columns;
 mod document;
 mod index;
 mod layer;
@@ -11,6 +12,7 @@ mod parse;
 mod requests;
 mod rows;
 mod standins;
+mod table_width;
 mod totals;
 mod variants;
 

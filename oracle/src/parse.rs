@@ -1,6 +1,6 @@
 //! The module `parse` around source 000: the names that its `use super::*` expects, and a door to its private functions.
 
-use crate::ast::{AttrSlot, Attrs};
+use crate::ast::{AttrSlot, Attrs, TableAlign, TableColumn, TableVerticalAlign};
 use crate::standins::*;
 use std::cell::Cell;
 use std::collections::HashSet;
@@ -45,7 +45,7 @@ pub(crate) mod attrs {
     pub(crate) mod door {
         use super::super::{CursorLines, LineCursor};
         use super::ATTRS_LOOKAHEAD_BYTES;
-        use crate::ast::Attrs;
+        use crate::ast::{Attrs, TableColumn};
 
         pub(crate) use super::{is_css_identifier, RefusedBraceRun};
 
@@ -145,6 +145,9 @@ pub(crate) mod attrs {
         }
         pub(crate) fn attrs_are_empty(attrs: &Attrs) -> bool {
             super::attrs_are_empty(attrs)
+        }
+        pub(crate) fn table_columns_from_attrs(attrs: &Attrs) -> Vec<TableColumn> {
+            super::table_columns_from_attrs(attrs)
         }
     }
 }

@@ -1,6 +1,7 @@
 //! One request line in, one answer line out.
 
 use crate::ast::Attrs;
+use crate::columns::{self, Column, Width};
 use crate::document::Value;
 use crate::index::{self, Lent, Record};
 use crate::layer::{self, Consumed, Entry, MergeRefusal, Number, Refused, Trace, Traced};
@@ -181,6 +182,20 @@ fn put_unmerged(refusal: MergeRefusal, out: &mut Vec<u8>) {
         MergeRefusal::First(number) => put!(out, "unread first {number}"),
         MergeRefusal::Second(number) => put!(out, "unread second {number}"),
         MergeRefusal::Merge(number) => put_refused(number, out),
+    }
+}
+
+/// `columns N`, then each column's align, vertical align and width, which has its text before it where there are two.
+fn put_columns(columns: &[Column], two_texts: bool, out: &mut Vec<u8>) {
+    put!(out, "columns {}", columns.len());
+    for Column { align, valign, width } in columns {
+        put!(out, " {align} {valign} ");
+        match width {
+            Some((text, Width::Range(from, to))) if two_texts => put!(out, "{text}:{from}-{to}"),
+            Some((_, Width::Range(from, to))) => put!(out, "{from}-{to}"),
+            Some((_, Width::Empty)) => out.extend_from_slice(b"empty"),
+            None => out.extend_from_slice(b"none"),
+        }
     }
 }
 
@@ -380,6 +395,18 @@ fn answer_known(request: &[u8], out: &mut Vec<u8>) -> Option<()> {
         },
         (b"loose2", [a, b]) => match layer::loose2(&hex(a)?, &hex(b)?, cap) {
             Ok(consumed) => put_consumed(&consumed, out),
+            Err(refusal) => put_unmerged(refusal, out),
+        },
+        (b"columns", [line, text]) => match columns::of_block(&hex(text)?, number(line)?, cap) {
+            Ok((columns, joined)) => {
+                put_columns(&columns, false, out);
+                out.extend_from_slice(if joined { b" over joined" } else { b" over lent" });
+            }
+            Err(columns::Refusal::Unread(number)) => put!(out, "unread {number}"),
+            Err(columns::Refusal::Columns(number)) => put_refused(number, out),
+        },
+        (b"columns2", [a, b]) => match columns::of_merge(&hex(a)?, &hex(b)?, cap) {
+            Ok(columns) => put_columns(&columns, true, out),
             Err(refusal) => put_unmerged(refusal, out),
         },
         _ => return None,

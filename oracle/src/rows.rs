@@ -104,7 +104,7 @@ impl Rows {
 }
 
 /// Each byte that a value stands for, with the range of the bytes that stand for it: two for an escape, else one.
-fn placed(s: &[u8], value: Value) -> Vec<(u8, usize, usize)> {
+pub fn placed(s: &[u8], value: Value) -> Vec<(u8, usize, usize)> {
     let (mut at, to, quoted) = match value {
         Value::Plain(from, to) => (from, to, false),
         Value::Quoted(from, to) => (from, to, true),

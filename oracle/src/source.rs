@@ -531,6 +531,37 @@ pub(in crate::parse) fn attrs_are_empty(attrs: &Attrs) -> bool {
         && attrs.order.is_empty()
 }
 
+pub(in crate::parse) fn table_columns_from_attrs(attrs: &Attrs) -> Vec<TableColumn> {
+    let split = |key: &str| {
+        attrs
+            .key_values
+            .get(key)
+            .map(|v| v.split(',').collect::<Vec<_>>())
+            .unwrap_or_default()
+    };
+    let aligns = split("aligns");
+    let valigns = split("valigns");
+    let widths = split("widths");
+    let len = aligns.len().max(valigns.len()).max(widths.len());
+    (0..len)
+        .map(|i| TableColumn {
+            align: aligns.get(i).and_then(|v| match *v {
+                "left" => Some(TableAlign::Left),
+                "right" => Some(TableAlign::Right),
+                "center" => Some(TableAlign::Center),
+                _ => None,
+            }),
+            valign: valigns.get(i).and_then(|v| match *v {
+                "top" => Some(TableVerticalAlign::Top),
+                "middle" => Some(TableVerticalAlign::Middle),
+                "bottom" => Some(TableVerticalAlign::Bottom),
+                _ => None,
+            }),
+            width: widths.get(i).and_then(|v| crate::table_width::fraction(v)),
+        })
+        .collect()
+}
+
 /// First byte of an attribute identifier (id/class/key): a letter or `_`
 /// (matches `is_identifier`'s first-char rule). Non-ASCII bytes are never a
 /// start here (`is_identifier` uses `is_ascii_alphabetic`).

@@ -16,8 +16,8 @@ pub(crate) struct Ask {
 }
 
 // The numbers of the first word that needs the join buffer, that needs one for canonical text too, that needs only this, that merges sets of two
-// texts, of that which then takes `loose` out of the merged set and of that which does so with one block's, of those that ask for the dealers' table
-// and for a sheet, and of the first leaf, the first that counts or takes a part, the two behind those, and the first that has two fields.
+// texts, of those that then take `loose` out of the merged set and ask for its columns, of those that do so with one block's, of those that ask for
+// the dealers' table and for a sheet, and of the first leaf, the first that counts or takes a part, the two behind those, and the first that has two fields.
 pub(crate) const JOINS: usize = 5;
 
 pub(crate) const BLOCKS: usize = 10;
@@ -28,23 +28,27 @@ pub(crate) const PAIRS: usize = 17;
 
 pub(crate) const LOOSE_PAIR: usize = 19;
 
-pub(crate) const LOOSE: usize = 20;
+pub(crate) const COLUMNS_PAIR: usize = 20;
 
-pub(crate) const VARIANTS: usize = 21;
+pub(crate) const LOOSE: usize = 21;
 
-pub(crate) const SHEET: usize = 22;
+pub(crate) const COLUMNS: usize = 22;
 
-pub(crate) const LEAF: usize = 23;
+pub(crate) const VARIANTS: usize = 23;
 
-pub(crate) const MEASURE: usize = 29;
+pub(crate) const SHEET: usize = 24;
 
-pub(crate) const TITLE: usize = 36;
+pub(crate) const LEAF: usize = 25;
 
-pub(crate) const CLASS: usize = 37;
+pub(crate) const MEASURE: usize = 31;
 
-pub(crate) const LEAF_AT: usize = 38;
+pub(crate) const TITLE: usize = 38;
+
+pub(crate) const CLASS: usize = 39;
+
+pub(crate) const LEAF_AT: usize = 40;
 // How many words there are, the number of a request that is none known.
-const UNKNOWN: usize = 43;
+const UNKNOWN: usize = 45;
 
 // How many fields a request has, and those that hold its numbers and its texts, 0 for none.
 struct Form {
@@ -68,7 +72,7 @@ pub(crate) fn read(line: &[u8], a: &mut [u8], b: &mut [u8]) -> Ask {
 // The number of a request's word, which is two fields where the first is `leaf`.
 fn word_of(line: &[u8]) -> usize {
     fields::index_of(
-        b"parse_attrs/is_valid_attr_payload/valid_wrapped_attr_continuation/payload_at/attr_payload_provably_invalid/standalone_attrs_block_len/indented_wrapped_attrs_block_len/attrs_block_len_at/refused_brace_run/ends_in_refused_brace_run/parse_standalone_attrs_block/wrapped_attrs_run_at/parse_standalone_attrs/merge/merge_leading/read_attrs_at/rows/merge2/merge2_block/loose2/loose/variants/sheet/leaf is_utf8/leaf is_identifier/leaf is_css_identifier/leaf is_boolean_attr_name/leaf is_language_tag/leaf is_blank_line/leaf check_text/leaf char_count/leaf indent_columns/leaf columns/leaf trim_ascii/leaf trim_ascii_start/leaf trim_ascii_end/leaf unescape_title/leaf is_class/leaf is_char_boundary/leaf line/leaf line_from/leaf piece_at/leaf same_unescaped",
+        b"parse_attrs/is_valid_attr_payload/valid_wrapped_attr_continuation/payload_at/attr_payload_provably_invalid/standalone_attrs_block_len/indented_wrapped_attrs_block_len/attrs_block_len_at/refused_brace_run/ends_in_refused_brace_run/parse_standalone_attrs_block/wrapped_attrs_run_at/parse_standalone_attrs/merge/merge_leading/read_attrs_at/rows/merge2/merge2_block/loose2/columns2/loose/columns/variants/sheet/leaf is_utf8/leaf is_identifier/leaf is_css_identifier/leaf is_boolean_attr_name/leaf is_language_tag/leaf is_blank_line/leaf check_text/leaf char_count/leaf indent_columns/leaf columns/leaf trim_ascii/leaf trim_ascii_start/leaf trim_ascii_end/leaf unescape_title/leaf is_class/leaf is_char_boundary/leaf line/leaf line_from/leaf piece_at/leaf same_unescaped",
         fields::part(line, 0, word_end(line)),
     )
 }
@@ -88,7 +92,7 @@ fn places(count: usize, x: usize, y: usize, a: usize, b: usize) -> Form {
 
 // The letter of a word's form.
 fn letter_of(word: usize) -> u8 {
-    fields::byte_at(b"tttnnnnwntnwnmmrrpppnttTTTTTTTTTTTTTTCNNNNM", word)
+    fields::byte_at(b"tttnnnnwntnwnmmrrppppnnttTTTTTTTTTTTTTTCNNNNM", word)
 }
 
 // The form by its letter: a text; a number and a text; two numbers and a text; a number, a mode and a text; two lines of one text; two texts; and

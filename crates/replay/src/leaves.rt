@@ -22,11 +22,11 @@ pub(crate) fn answer(word: usize, x: usize, text: &[u8], b: &mut [u8]) -> Reply 
 // Whether a text is what the word names.
 fn is(word: usize, s: &[u8]) -> bool {
     match word {
-        23 => text_utf8::is_utf8(s),
-        24 => text_names::is_identifier(s),
-        25 => text_names::is_css_identifier(s),
-        26 => text_names::is_boolean_attr_name(s),
-        27 => text_names::is_language_tag(s),
+        25 => text_utf8::is_utf8(s),
+        26 => text_names::is_identifier(s),
+        27 => text_names::is_css_identifier(s),
+        28 => text_names::is_boolean_attr_name(s),
+        29 => text_names::is_language_tag(s),
         _ => text_lines::is_blank_line(s),
     }
 }
@@ -34,12 +34,12 @@ fn is(word: usize, s: &[u8]) -> bool {
 // What the leaf of that word counts in a text, or which part of it it takes.
 fn measure(word: usize, s: &[u8]) -> Reply {
     match word {
-        29 => reply::numbered(reply::NUMBER, number_of(text_checks::check_text(s))),
-        30 => reply::numbered(reply::NUMBER, text_utf8::char_count(s)),
-        31 => reply::numbered(reply::NUMBER, text_tabs::indent_columns(s)),
-        32 => reply::numbered(reply::NUMBER, text_tabs::columns(0, s)),
-        33 => part(text_lines::trim_ascii(s)),
-        34 => reply::paired(
+        31 => reply::numbered(reply::NUMBER, number_of(text_checks::check_text(s))),
+        32 => reply::numbered(reply::NUMBER, text_utf8::char_count(s)),
+        33 => reply::numbered(reply::NUMBER, text_tabs::indent_columns(s)),
+        34 => reply::numbered(reply::NUMBER, text_tabs::columns(0, s)),
+        35 => part(text_lines::trim_ascii(s)),
+        36 => reply::paired(
             reply::FROM,
             text_lines::trim_ascii_start(s),
             reply::TO,
@@ -52,11 +52,11 @@ fn measure(word: usize, s: &[u8]) -> Reply {
 // What the leaf of that word says of a text and a number, or of two texts.
 pub(crate) fn answer_at<'a>(word: usize, k: usize, s: &'a [u8], other: &'a [u8]) -> Reply {
     match word {
-        38 => reply::said(text_utf8::is_char_boundary(s, k)),
-        39 => line(text_lines::line_of(s, k)),
-        40 => ends(text_lines::line_from(s, k)),
-        41 => piece(text_escapes::piece_at(s, k)),
-        42 => reply::said(text_escapes::same_unescaped(s, other)),
+        40 => reply::said(text_utf8::is_char_boundary(s, k)),
+        41 => line(text_lines::line_of(s, k)),
+        42 => ends(text_lines::line_from(s, k)),
+        43 => piece(text_escapes::piece_at(s, k)),
+        44 => reply::said(text_escapes::same_unescaped(s, other)),
         _ => reply::alone(reply::ERROR),
     }
 }

@@ -2,6 +2,7 @@
 mod ask;
 mod brace;
 mod by_line;
+mod columns;
 mod dealers;
 mod fields;
 mod input;
@@ -116,8 +117,11 @@ fn reply_by(q: Ask, text: &[u8], b: &mut [u8], join: &mut [u8]) -> Reply {
     if word < ask::LOOSE {
         return two_texts::answer(q, text, b, join);
     }
-    if word < ask::VARIANTS {
+    if word < ask::COLUMNS {
         return loose::answer(q.x, text, b, join);
+    }
+    if word < ask::VARIANTS {
+        return columns::answer(q.x, text, b, join);
     }
     if word < ask::SHEET {
         return dealers::answer(text, b, join);

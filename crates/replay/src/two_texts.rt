@@ -1,8 +1,9 @@
-// Sets of two texts, merged: of line 1 of each, or of the blocks there; and the merged set without its key `loose`.
+// Sets of two texts, merged: of line 1 of each, or of the blocks there; the merged set without its key `loose`, and its columns.
 use crate::JOIN;
 use crate::TEXT;
 use crate::ask;
 use crate::ask::Ask;
+use crate::columns;
 use crate::fields;
 use crate::loose;
 use crate::merging;
@@ -120,7 +121,7 @@ fn second_block<'a>(
     }
 }
 
-// The two sets merged, and `loose` taken out of the merged one where the word asks for that.
+// The two sets merged, and `loose` taken out of the merged one, or its columns, where the word asks for that.
 fn merged<'a>(
     word: usize,
     first: &'a [u8],
@@ -132,6 +133,9 @@ fn merged<'a>(
     let filled = set_merge::merge_attrs(first, second, target, incoming);
     if word == ask::LOOSE_PAIR {
         return loose::merged(first, second, filled, canon);
+    }
+    if word == ask::COLUMNS_PAIR {
+        return columns::merged(first, second, filled, canon);
     }
     merging::filled(first, second, filled, canon)
 }

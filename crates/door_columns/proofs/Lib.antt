@@ -1,0 +1,3 @@
+-- Laws that the proofs of door_columns cite.
+mod Laying
+mod Said

@@ -1,0 +1,3 @@
+-- What is proved of the columns of valve tables. Statements are in specs/.
+pub mod Splits
+pub mod Tables

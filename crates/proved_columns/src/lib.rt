@@ -1,0 +1,1 @@
+// Theorems about the column settings of a table.

@@ -1,0 +1,3 @@
+-- The laws of set_columns.
+pub mod Laid
+pub mod Tables

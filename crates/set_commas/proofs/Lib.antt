@@ -1,0 +1,6 @@
+-- The laws of set_commas.
+pub mod Steps
+pub mod Loops
+pub mod Splits
+pub mod Pieces
+pub mod Cases
