@@ -24,6 +24,12 @@
  * `out`, `cells`, `totals`, `numbers`, `told`) overlaps no other memory of that call. A pointer with length 0 may be NULL. Any other argument gets an answer: a place or
  * a line that isn't there is 3 (for a refused run: no), a `join` or an `out` too short is 9 or 10.
  *
+ * More than two blocks, such as common, family and variant, are composed by writing their canonical texts one behind the other, with nothing between,
+ * and reading that by bridlesnow_parse_standalone_attrs as line 1: it is one line, whatever was wrapped, and means the merge of all of them from left to
+ * right. It is proved that the grouping doesn't matter, and that nothing is refused on the way where all of them together have no more classes and
+ * distinct keys than a set may have and no more than BRIDLESNOW_MAX bytes. A class that several of them list counts as often as it is written.
+ * door/compose.c does so.
+ *
  * Lines end at LF, a CR before it is dropped, and are counted from 1. `join` is where the lines of a wrapped block are joined; 65,535 bytes are
  * enough for any text.
  */

@@ -3,6 +3,7 @@
 //!     generate random FAMILIES SEED FROM COUNT      requests FROM to FROM + COUNT of an endless list
 //!     generate exhaustive FAMILY LENGTH FROM COUNT  all strings of up to LENGTH atoms, in every request of the family
 //!     generate size FAMILY LENGTH                   how many requests that is
+//!     generate groups KIND SEED FROM COUNT          triples of lines for the merger of groups, of a KIND of its own
 //!
 //! FAMILIES are names parted by commas: leaves, brace, lines, refused, merge, sheet, rows, quick, merge2, repeats,
 //! variants, report, index, mends, loose, columns; `all` stands for these sixteen. The family `errors`, which is in no
@@ -2246,6 +2247,98 @@ fn errors(rng: &mut Rng, out: &mut Out) {
     out.line = fields.join(&b' ');
 }
 
+// ---- Groups of three ----
+
+/// Forty small blocks: ids, classes and keys that meet again in others, escapes, `lang` in its spellings, empty values.
+const SMALL_BLOCKS: [&str; 40] = [
+    "{#a}", "{#b}", "{id}", "{id=\"\"}", "{id='\"'}", "{.a}", "{.b}", "{.a .a}", "{.b .a}", "{class}", "{class=\"\"}", "{class=' '}", "{class='a b'}", "{class='\\.'}",
+    "{class=.}", "{k}", "{k=1}", "{k=\"2\"}", "{k=''}", "{m}", "{m='\\\\'}", "{k=1 m=2}", "{m=1 k=2}", "{:}", "{:en}", "{lang=de}", "{lang}", "{lang='\\\"' :en}",
+    "{.a #a k}", "{k .b #b}", "{.a}{k=3}", "{k=4}{.b}{#c}", "{loose}", "{loose=x}", "{k=\"}\"}", "{k='\t'}", "{k=é}", "{K=1}", "{_k=1}", "{.a .b .c #d e f=1 :x}",
+];
+
+/// A line of blocks back to back, mostly good, with names that others have too; of every hundred tokens so many are
+/// classes, so many keys, and so on.
+fn group_line(rng: &mut Rng, most: usize, weights: &[usize; 5]) -> String {
+    let mut list = Vec::new();
+    for _ in 0..rng.between(1, most) {
+        list.push(match rng.weighted(weights) {
+            0 => {
+                let class = if rng.percent(70) { format!("c{}", rng.below(80)) } else { rng.pick(MEANT).to_string() };
+                spelled(rng, &class)
+            }
+            1 => {
+                let name = if rng.percent(80) { format!("k{}", rng.below(80)) } else { rng.pick(&["k", "m", "K", "_k", "loose"]).to_string() };
+                let value = rng.pick(MEANT).to_string();
+                format!("{name}={}", in_quotes(rng, &value))
+            }
+            2 => rng.pick(&[":", ":en", ":de-DE", "lang", "lang=x", "lang='\\\"'", "lang=\"\""]).to_string(),
+            3 => rng.pick(&["#a", "#b", "id", "id=''", "id='\\'\"'", "id=c"]).to_string(),
+            _ => token(rng),
+        });
+    }
+    let blocks = rng.percent(30);
+    let text = format!("{{{}}}", list.join(if blocks { "}{" } else { " " }));
+    text.replace(['\n', '\r'], " ")
+}
+
+/// So many distinct names of classes or keys over three lines, the first so many of them in the first and so on.
+fn distinct(classes: bool, total: usize, cuts: [usize; 2]) -> [String; 3] {
+    let list = |from: usize, to: usize| {
+        let names: Vec<String> = (from..to).map(|n| if classes { format!(".c{n}") } else { format!("k{n}='{n}'") }).collect();
+        format!("{{{}}}", names.join(" "))
+    };
+    [list(0, cuts[0]), list(cuts[0], cuts[1]), list(cuts[1], total)]
+}
+
+/// One triple, and the number that refuses a step of each grouping, if one must.
+fn group(kind: &str, seed: u64, number: u64) -> ([String; 3], String) {
+    let free = "-".to_string();
+    match kind {
+        "random" => {
+            let mut rng = Rng::new(seed, number);
+            // Few tokens of all kinds; or so many, most of them classes or keys, that three lines stand around a limit.
+            let limit = layer::CLASS_LIMIT.max(layer::KEY_LIMIT);
+            let most = [4, 8, limit / 2, limit * 3 / 4][rng.weighted(&[50, 25, 10, 15])];
+            let weights = [[35, 35, 12, 12, 6], [92, 4, 2, 2, 0], [4, 92, 2, 2, 0]][if most < 9 { 0 } else { rng.below(3) }];
+            ([(); 3].map(|()| group_line(&mut rng, most, &weights)), free)
+        }
+        // All of them, in an order in which each part of the list has blocks of all kinds.
+        "blocks" => {
+            let (number, blocks) = (number * 7919 % 64_000, SMALL_BLOCKS.len() as u64);
+            ([number, number / blocks, number / blocks / blocks].map(|n| SMALL_BLOCKS[(n % blocks) as usize].to_string()), free)
+        }
+        // One below the limit, at it and one above, cut in three at every two places.
+        "limits" => {
+            let (classes, number) = (number % 2 == 0, number / 2);
+            let limit = if classes { layer::CLASS_LIMIT } else { layer::KEY_LIMIT };
+            let (total, number) = (limit - 1 + number as usize % 3, number as usize / 3);
+            let cuts = (1..limit - 2).flat_map(|a| (a + 1..limit - 1).map(move |b| [a, b])).nth(number).expect("a pair of places");
+            let refused = if total <= limit { "-" } else if classes { "6" } else { "7" };
+            (distinct(classes, total, cuts), refused.to_string())
+        }
+        // Three canonical texts, each of six bytes and its value, that are a line around the text limit.
+        _ => {
+            let room = TEXT_LIMIT - 2 + number as usize % 5 - 18;
+            let first = [1, 20_000, 65_000][number as usize / 5 % 3];
+            let second = [1, 300][number as usize / 15 % 2];
+            let values = [first, second, room - first - second];
+            ([("a", 0), ("b", 1), ("c", 2)].map(|(name, n)| format!("{{{name}={}}}", "x".repeat(values[n]))), free)
+        }
+    }
+}
+
+/// How many triples there are of a kind that has an end.
+fn groups_in(kind: &str) -> Option<u64> {
+    let places = |limit: u64| (limit - 3) * (limit - 2) / 2;
+    match kind {
+        "random" => Some(u64::MAX),
+        "blocks" => Some(64_000),
+        "limits" => Some(6 * places(layer::CLASS_LIMIT.min(layer::KEY_LIMIT) as u64)),
+        "long" => Some(30),
+        _ => None,
+    }
+}
+
 // ---- Exhaustive lists ----
 
 /// All strings over these atoms, in each of these requests: the words before and behind the string's hex, with the bytes
@@ -3009,6 +3102,20 @@ fn main() -> io::Result<()> {
                 write(&mut out)?;
             }
         }
+        ["groups", kind, seed, from, count] => {
+            let (Some(seed), Some(from), Some(count), Some(size)) = (number_of(seed), number_of(from), number_of(count), groups_in(kind)) else {
+                return usage();
+            };
+            for number in from..size.min(from.saturating_add(count)) {
+                let (lines, refused) = group(kind, seed, number);
+                for text in lines {
+                    out.hex(text.as_bytes());
+                    out.words(" ");
+                }
+                out.words(&refused);
+                write(&mut out)?;
+            }
+        }
         ["size", family, length] if listed(family) => {
             let Some(length) = number_of(length) else {
                 return usage();
@@ -3022,6 +3129,6 @@ fn main() -> io::Result<()> {
 }
 
 fn usage() -> io::Result<()> {
-    eprintln!("generate random FAMILIES SEED FROM COUNT | exhaustive FAMILY LENGTH FROM COUNT | size FAMILY LENGTH");
+    eprintln!("generate random FAMILIES SEED FROM COUNT | exhaustive FAMILY LENGTH FROM COUNT | size FAMILY LENGTH | groups KIND SEED FROM COUNT");
     std::process::exit(2)
 }

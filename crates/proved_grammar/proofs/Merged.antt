@@ -93,7 +93,7 @@ put-puts m (f ∷ a) e h =
         let z = same-true (f .name) (e .name) p in
         sym (later (put m f) a e (rw z at q) (ap (λ n. absent n (put m f)) (sym z) ∙ put-there m f) ∙ (rw (put-twice m f e p)))
 
-put-associative : (m a b : List Entry) → distinct a ≡ true → puts (puts m a) b ≡ puts m (puts a b)
+pub put-associative : (m a b : List Entry) → distinct a ≡ true → puts (puts m a) b ≡ puts m (puts a b)
 unfolding puts
 put-associative m a [] h = refl
 put-associative m a (e ∷ b) h = rw (← put-puts m a e h) (put-associative m (put a e) b (put-distinct a e h))

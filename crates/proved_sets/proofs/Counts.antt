@@ -123,6 +123,31 @@ key-distinct (e ∷ m) h = let g = both (absent (e .name) m) (distinct m) h in r
     go true = refl
     go false = refl
 
+-- ======== a merge has at least what each part has
+-- what stands in front takes no key away
+pub keys-behind : (m n : List Entry) → keyCount n ≤ keyCount (m ++ n)
+unfolding keyCount
+keys-behind [] n = omega arith
+keys-behind (e ∷ m) n = omega (arith, keys-behind m n)
+
+-- a key stays, whatever is put
+free-put : (m : List Entry) (e : Entry) → freeCount m ≤ freeCount (put m e)
+unfolding put
+free-put [] e = omega arith
+free-put (f ∷ m) e = go (same (f .name) (e .name)) (free-put m e)
+  where
+    go : (x : Bool) → freeCount m ≤ freeCount (put m e) → freeCount (f ∷ m) ≤ freeCount (cond x (withValues f (e .values) ∷ m) (f ∷ put m e))
+    go true ih = omega arith
+    go false ih = omega arith
+
+free-puts : (m es : List Entry) → freeCount m ≤ freeCount (puts m es)
+unfolding puts
+free-puts m [] = omega arith
+free-puts m (e ∷ es) = omega (arith, free-put m e, free-puts (put m e) es)
+
+pub keys-grow : (m es : List Entry) → distinct m ≡ true → keyCount m ≤ keyCount (puts m es)
+keys-grow m es h = omega (arith, key-distinct m h, key-distinct (puts m es) (puts-distinct m es h), free-puts m es)
+
 -- ======== so what is listed counts what its items do
 pub class-listed : (is : List Placed) → classCount (listed is) ≡ classCount (entriesOf is)
 unfolding classCount listed

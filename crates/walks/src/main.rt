@@ -1,4 +1,5 @@
-// A program that tells a walker's tokens step by step, and merges into lent sets, also where that is refused.
+// A program that tells a walker's tokens step by step, and merges into lent sets, also where that is refused, and three sets in both groupings.
+mod groups;
 mod merges;
 mod steps;
 
@@ -20,4 +21,5 @@ pub(crate) fn say_refusal(r: Refusal) {
 fn main() {
     steps::run();
     merges::run();
+    groups::run();
 }

@@ -123,7 +123,7 @@ fn say_row(value: Value) {
     }
 }
 
-fn tell<'a>(first: &'a [u8], second: &'a [u8], both: Both) {
+pub(crate) fn tell<'a>(first: &'a [u8], second: &'a [u8], both: Both) {
     let led = both.led;
     let merged = both.merged;
     say(b"leading: ");
@@ -143,7 +143,7 @@ fn say_outcome(outcome: Outcome) {
 }
 
 // The set's canonical text, for every table.
-fn say_set<'a>(first: &'a [u8], second: &'a [u8], set: Attrs) {
+pub(crate) fn say_set<'a>(first: &'a [u8], second: &'a [u8], set: Attrs) {
     let mut out = [0u8; 400];
     let wrote = set_writer::write_set(first, second, set, &mut out);
     say(b"  ");
