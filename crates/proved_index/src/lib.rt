@@ -1,0 +1,1 @@
+// Theorems about the index beside a sheet.

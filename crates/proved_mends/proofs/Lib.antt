@@ -1,0 +1,3 @@
+-- The theorems of proved_mends.
+pub mod Parts
+pub mod Replaced

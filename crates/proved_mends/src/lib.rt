@@ -1,0 +1,1 @@
+// Theorems about a sheet that is parted, and about lines that were replaced.

@@ -1,0 +1,4 @@
+-- Laws of replaced lines.
+pub mod Walks
+pub mod Cuts
+pub mod Mended

@@ -1,0 +1,3 @@
+-- The definitions that the contracts of sheet_edits cite, and what mending rests on.
+pub mod Edits
+pub mod Mends

@@ -1,0 +1,357 @@
+// Records of an index: reading the one at a place, writing one, the first line, and the rows of a lent table.
+use base_refusals::Outcome;
+use base_refusals::Refusal;
+use text_digits::Decimal;
+use text_digits::Digits;
+use text_escapes::Written;
+ghost use mathlib.Core.Path.{_≡_};
+ghost use Prim.Native.Nat.{_≤_, _<_, _+_};
+ghost use lib.Dec.{leb};
+ghost use lib.ListN.{length};
+ghost use lib.Seq.{sets};
+ghost use Rattle.base_refusals.specs.Numbers.{outcomeNo};
+ghost use Rattle.text_digits.specs.Digits.{readOut};
+ghost use Rattle.set_marks.specs.Marks.{bytesIn};
+ghost use Rattle.sheet_records.specs.Records.{numbersText, indexHeader};
+ghost use Rattle.sheet_records.specs.Computed.{leastNumber, fieldAt, idEnd, idAt, endAt, offsetAt, countAt, recordAt, rowPaper, headOf};
+ghost use Rattle.sheet_records.specs.Writing.{rawId, putOf, lineOver, putPaper, rowOver};
+ghost use Rattle.sheet_records.specs.Inner.{lineSize, endText, rowTo};
+
+// A number and the place behind it.
+pub enum Field {
+    Unread,
+    Read(usize, usize),
+}
+
+// A record's numbers, where its id stands in the index, and where the next line begins. Without an id both places are 0.
+pub struct IndexRow {
+    pub line: usize,
+    pub count: usize,
+    pub offset: usize,
+    pub from: usize,
+    pub to: usize,
+    pub next: usize,
+}
+
+pub enum RecordAt {
+    Bad,
+    Good(IndexRow),
+}
+
+// The row of a line that was written, or that it had no room.
+pub enum Put {
+    NoRoom,
+    Row(IndexRow),
+}
+
+// The number that was read, from `least` on, and the place behind it.
+fn close(d: Digits, least: usize, next: usize) -> Field
+    ensures { λ r. ⌜ r ≡ leastNumber least next (readOut d) ⌝ }
+{
+    let n = text_digits::read_out(d);
+    match n {
+        Decimal::None => Field::Unread,
+        Decimal::Is(n) => {
+            let k = n as usize;
+            if k < least {
+                return Field::Unread;
+            }
+            Field::Read(k, next)
+        }
+    }
+}
+
+// The number whose digits stand at a place.
+fn field_at(index: &[u8], at: usize, least: usize) -> Field
+    ensures { λ r. ⌜ r ≡ fieldAt (now (index .entry)) at least ⌝ }
+{
+    let mut d = Digits::NoDigit;
+    let mut i = at;
+    while i < index.len() {
+        let b = index[i];
+        if !base_letters::is_digit(b) {
+            return close(d, least, i);
+        }
+        d = text_digits::step(d, b, 65535);
+        i += 1;
+    }
+    close(d, least, i)
+}
+
+// Where an id ends: at LF, or where the text does.
+fn id_end(index: &[u8], from: usize) -> usize
+    ensures { λ r. ⌜ r ≡ idEnd (now (index .entry)) from ⌝ }
+{
+    let mut i = from;
+    while i < index.len() {
+        if index[i] == b'\n' {
+            return i;
+        }
+        i += 1;
+    }
+    i
+}
+
+fn id_at(index: &[u8], line: usize, count: usize, offset: usize, from: usize) -> RecordAt
+    ensures { λ r. ⌜ r ≡ idAt (now (index .entry)) line count offset from ⌝ }
+{
+    let to = id_end(index, from);
+    if index.len() <= to {
+        return RecordAt::Bad;
+    }
+    RecordAt::Good(IndexRow {
+        line,
+        count,
+        offset,
+        from,
+        to,
+        next: to + 1,
+    })
+}
+
+fn end_at(index: &[u8], line: usize, count: usize, offset: usize, at: usize) -> RecordAt
+    ensures { λ r. ⌜ r ≡ endAt (now (index .entry)) line count offset at ⌝ }
+{
+    if index.len() <= at {
+        return RecordAt::Bad;
+    }
+    let b = index[at];
+    if b == b'\n' {
+        return RecordAt::Good(IndexRow {
+            line,
+            count,
+            offset,
+            from: 0,
+            to: 0,
+            next: at + 1,
+        });
+    }
+    if b != b'\t' {
+        return RecordAt::Bad;
+    }
+    id_at(index, line, count, offset, at + 1)
+}
+
+fn offset_at(index: &[u8], line: usize, count: usize, at: usize) -> RecordAt
+    ensures { λ r. ⌜ r ≡ offsetAt (now (index .entry)) line count at ⌝ }
+{
+    let f = field_at(index, at, 0);
+    match f {
+        Field::Unread => RecordAt::Bad,
+        Field::Read(n, p) => end_at(index, line, count, n, p),
+    }
+}
+
+fn count_at(index: &[u8], line: usize, at: usize) -> RecordAt
+    ensures { λ r. ⌜ r ≡ countAt (now (index .entry)) line at ⌝ }
+{
+    let f = field_at(index, at, 1);
+    match f {
+        Field::Unread => RecordAt::Bad,
+        Field::Read(n, p) => {
+            if index.len() <= p {
+                return RecordAt::Bad;
+            }
+            if index[p] != b'\t' {
+                return RecordAt::Bad;
+            }
+            offset_at(index, line, n, p + 1)
+        }
+    }
+}
+
+// The record whose line begins at a place.
+pub fn record_at(index: &[u8], at: usize) -> RecordAt
+    ensures { λ r. ⌜ r ≡ recordAt (now (index .entry)) at ⌝ }
+    ensures { λ r. ⌜ rowPaper r ≡ rowPaper (recordAt (now (index .entry)) at) ⌝ }
+{
+    let line = field_at(index, at, 1);
+    match line {
+        Field::Unread => RecordAt::Bad,
+        Field::Read(n, p) => {
+            if index.len() <= p {
+                return RecordAt::Bad;
+            }
+            if index[p] != b'\t' {
+                return RecordAt::Bad;
+            }
+            count_at(index, n, p + 1)
+        }
+    }
+}
+
+// The length of the first line.
+pub const HEADER: usize = 19;
+
+// The numbers of a record take no more: three of at most 20 digits, and two tabs.
+const FRONT: usize = 62;
+
+// Writes the first line at the front of lent memory; what has no room is left out.
+pub fn put_header(out: &mut [u8])
+    ensures { λ _. ⌜ now (out .exit) ≡ sets (now (out .entry)) 0 indexHeader ⌝ }
+{
+    base_lists::put_bytes(out, 0, b"carve-attr-index\t1\n");
+}
+
+// Whether the first line is an index's.
+pub fn head_of(index: &[u8]) -> Outcome
+    ensures { λ r. ⌜ r ≡ headOf (now (index .entry)) ⌝ }
+    ensures { λ r. ⌜ outcomeNo r ≡ outcomeNo (headOf (now (index .entry))) ⌝ }
+{
+    if index.len() < HEADER {
+        return Outcome::Refused(Refusal::NotAnIndex);
+    }
+    let mut head = [0u8; HEADER];
+    put_header(&mut head);
+    let first = set_table::bytes_of(index, 0, HEADER);
+    if base_lists::same_bytes(first, &head) {
+        return Outcome::Passed;
+    }
+    Outcome::Refused(Refusal::NotAnIndex)
+}
+
+// Writes the numbers of a record at the front of lent memory; what has no room is left out.
+fn lay_numbers(out: &mut [u8], line: usize, count: usize, offset: usize) -> usize
+    ensures { λ r. ⌜ (r ≡ length (numbersText line count offset)) × (r ≤ 62) ⌝ }
+    ensures { λ _. ⌜ now (out .exit) ≡ sets (now (out .entry)) 0 (numbersText line count offset) ⌝ }
+{
+    let a = text_digits::put_decimal(out, 0, line as u64);
+    let b = a + text_digits::put_field(out, a, count as u64);
+    b + text_digits::put_field(out, b, offset as u64)
+}
+
+// How many bytes the numbers of a record take.
+pub fn numbers_len(line: usize, count: usize, offset: usize) -> usize
+    ensures { λ r. ⌜ r ≡ length (numbersText line count offset) ⌝ }
+{
+    let mut front = [0u8; FRONT];
+    lay_numbers(&mut front, line, count, offset)
+}
+
+// How many bytes an id has, quoted or not.
+pub fn id_len(quoted: bool, raw: &[u8]) -> usize
+    ensures { λ r. ⌜ r ≡ length (bytesIn quoted (now (raw .entry))) ⌝ }
+{
+    if quoted {
+        return text_escapes::unescaped_len(raw);
+    }
+    raw.len()
+}
+
+// Writes an id, which has room.
+fn put_id(out: &mut [u8], at: usize, quoted: bool, raw: &[u8]) -> usize
+    requires { ⌜ at + length (bytesIn quoted (now raw)) ≤ length (now out) ⌝ }
+    ensures { λ r. ⌜ r ≡ at + length (bytesIn quoted (now (raw .entry))) ⌝ }
+    ensures { λ _. ⌜ now (out .exit) ≡ sets (now (out .entry)) at (bytesIn quoted (now (raw .entry))) ⌝ }
+{
+    if quoted {
+        match text_escapes::write_unescaped(out, at, raw) {
+            Written::Full => return at,
+            Written::To(e) => return e,
+        }
+    }
+    base_lists::put_bytes(out, at, raw);
+    at + raw.len()
+}
+
+// Whether a record's line has room at a place, where its numbers take n bytes and its id m.
+fn has_room(size: usize, at: usize, n: usize, given: bool, m: usize) -> bool
+    requires { ⌜ n ≤ 62 ⌝ }
+    ensures { λ r. ⌜ r ≡ leb (at + lineSize n given m) size ⌝ }
+{
+    if size < at {
+        return false;
+    }
+    let room = size - at;
+    if room <= n {
+        return false;
+    }
+    if given {
+        if room - n < 2 {
+            return false;
+        }
+        return m <= room - n - 2;
+    }
+    true
+}
+
+// Writes the end of a line, which has room: a tab and the id where there is one, and the LF. Answers where the next line begins.
+fn put_end(out: &mut [u8], at: usize, given: bool, quoted: bool, raw: &[u8]) -> usize
+    requires { ⌜ at + length (endText (rawId given quoted (now raw))) ≤ length (now out) ⌝ }
+    ensures { λ r. ⌜ r ≡ at + length (endText (rawId given quoted (now (raw .entry)))) ⌝ }
+    ensures { λ _. ⌜ now (out .exit) ≡ sets (now (out .entry)) at (endText (rawId given quoted (now (raw .entry)))) ⌝ }
+{
+    if given {
+        out[at] = b'\t';
+        let to = put_id(out, at + 1, quoted, raw);
+        out[to] = b'\n';
+        return to + 1;
+    }
+    out[at] = b'\n';
+    at + 1
+}
+
+// The row of a line whose numbers end at `e` and behind which the next begins at `next`.
+fn row_of(line: usize, count: usize, offset: usize, e: usize, given: bool, next: usize) -> IndexRow
+    requires { ⌜ e < next ⌝ }
+    ensures { λ r. ⌜ r ≡ rowTo line count offset e given next ⌝ }
+{
+    if given {
+        return IndexRow {
+            line,
+            count,
+            offset,
+            from: e + 1,
+            to: next - 1,
+            next,
+        };
+    }
+    IndexRow {
+        line,
+        count,
+        offset,
+        from: 0,
+        to: 0,
+        next,
+    }
+}
+
+// Writes a record's line from the place `at` on, where it has room, and answers its row.
+pub fn put_record(
+    out: &mut [u8],
+    at: usize,
+    line: usize,
+    count: usize,
+    offset: usize,
+    given: bool,
+    quoted: bool,
+    raw: &[u8],
+) -> Put
+    ensures { λ r. ⌜ r ≡ putOf (length (now (out .entry))) at (record { line = line; count = count; offset = offset; id = rawId given quoted (now (raw .entry)) }) ⌝ }
+    ensures { λ _. ⌜ now (out .exit) ≡ lineOver (now (out .entry)) at (record { line = line; count = count; offset = offset; id = rawId given quoted (now (raw .entry)) }) ⌝ }
+    ensures { λ r. ⌜ putPaper r ≡ putPaper (putOf (length (now (out .entry))) at (record { line = line; count = count; offset = offset; id = rawId given quoted (now (raw .entry)) })) ⌝ }
+{
+    let mut front = [0u8; FRONT];
+    let n = lay_numbers(&mut front, line, count, offset);
+    if !has_room(out.len(), at, n, given, id_len(quoted, raw)) {
+        return Put::NoRoom;
+    }
+    base_lists::put_bytes(out, at, set_table::bytes_of(&front, 0, n));
+    let next = put_end(out, at + n, given, quoted, raw);
+    Put::Row(row_of(line, count, offset, at + n, given, next))
+}
+
+// Writes a row of a lent table, counted from 0, where the table has it.
+pub fn put_row(table: &mut [usize], k: usize, row: IndexRow)
+    ensures { λ _. ⌜ now (table .exit) ≡ rowOver (now (table .entry)) k row ⌝ }
+{
+    if table.len() / 5 <= k {
+        return;
+    }
+    let i = k * 5;
+    table[i] = row.line;
+    table[i + 1] = row.count;
+    table[i + 2] = row.offset;
+    table[i + 3] = row.from;
+    table[i + 4] = row.to;
+}

@@ -1,0 +1,2 @@
+-- Where a sheet may be parted.
+pub mod Parting

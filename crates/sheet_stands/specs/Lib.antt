@@ -1,0 +1,2 @@
+-- The definitions that the contracts of sheet_stands cite.
+pub mod Stands
