@@ -23,14 +23,14 @@ int main(int words, char **word)
     for (int i = 1; i < words; i++) {
         uint8_t number = bridlesnow_parse_standalone_attrs_block(text, n, strtoul(word[i], NULL, 10), join, sizeof join,
                                                                  line + used, sizeof line - used, told, 5);
-        if (number != 0) {
-            printf("refused\t%s\t%d\n", word[i], number);
+        if (number != 0) { /* a 10 behind the first block: the line has no room, and no block of it is at fault */
+            printf("refused\t%s\t%d\n", number == 10 && used > 0 ? "all" : word[i], number);
             return 1;
         }
         used += told[4];
     }
     uint8_t number = bridlesnow_parse_standalone_attrs(line, used, 1, out, sizeof out, told, 1);
-    if (number != 0) { /* 6, 7 or 10, of all of them together */
+    if (number != 0) { /* 6 or 7, of all of them together */
         printf("refused\tall\t%d\n", number);
         return 1;
     }
