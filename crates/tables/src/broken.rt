@@ -49,9 +49,9 @@ fn too_long() {
 
 // "counts within the limits"
 fn too_many(text: &[u8]) {
-    counts(b"33 classes", text, 33, 2, 4);
-    counts(b"33 keys", text, 1, 33, 4);
-    counts(b"35 slots", text, 1, 2, 35);
+    counts(b"a class too many", text, Attrs::CLASSES as u8 + 1, 2, 4);
+    counts(b"a key too many", text, 1, Attrs::KEYS as u8 + 1, 4);
+    counts(b"a slot too many", text, 1, 2, Attrs::SLOTS as u8 + 1);
     counts(b"all counts 255", text, 255, 255, 255);
 }
 
@@ -133,9 +133,9 @@ fn absent(text: &[u8]) {
 // Well-formed all the same: what stands past the counts, rows out of order, empty and white classes, the empty set.
 fn past_counts(text: &[u8]) {
     let mut s = good::set();
-    s.classes[31] = plain(9, 4);
-    s.keys[31] = row(65535, 0, plain(9, 4));
-    s.order[33] = slot(Slot::Key(255));
+    s.classes[Attrs::CLASSES - 1] = plain(9, 4);
+    s.keys[Attrs::KEYS - 1] = row(65535, 0, plain(9, 4));
+    s.order[Attrs::SLOTS - 1] = slot(Slot::Key(255));
     report(b"nonsense past the counts", text, s);
 }
 

@@ -108,21 +108,21 @@ fn refusals<'a>(t: &'a [u8], u: &'a [u8]) {
 
 // As many keys as a set has, `loose` the first, one in the middle and the last of the rows.
 fn limits() {
-    let t = b"abcdefghijklmnopqrstuvwxyzABCDEFGHloose";
+    let t = b"abcdefghijklmnopqrstuvwxyzABCDEFGHIJKLMNOPQRSTUVWXYZacegikmoqsuwyAloose";
     let mut s = full::full(false);
-    s.keys[0] = row(34, 39, bare());
+    s.keys[0] = row(66, 71, bare());
     told(b"the first of all keys", t, b"", s);
     let mut s = full::full(false);
-    s.keys[15] = row(34, 39, bare());
+    s.keys[Attrs::KEYS / 2] = row(66, 71, bare());
     told(b"one in the middle of all keys", t, b"", s);
     let mut s = full::full(false);
-    s.keys[31] = row(34, 39, bare());
+    s.keys[Attrs::KEYS - 1] = row(66, 71, bare());
     told(b"the last of all keys", t, b"", s);
 }
 
 // One line: the answer, the names of the rows, the slots, whether what became free is zero, and what the writer answers.
 fn told<'a>(name: &'a [u8], first: &'a [u8], second: &'a [u8], set: Attrs) {
-    let mut out = [MARK; 300];
+    let mut out = [MARK; 600];
     say(name);
     let consumed = set_loose::consume_loose(first, second, set);
     let did = consumed.did;

@@ -6,6 +6,7 @@ use crate::good::plain_of;
 use crate::good::quoted;
 use crate::good::quoted_of;
 use crate::over;
+use set_table::Attrs;
 use set_table::Origin;
 use set_table::Text;
 use set_table::Value;
@@ -15,7 +16,13 @@ pub(crate) fn run<'a>(t: &'a [u8], u: &'a [u8]) {
     unequal(t, u);
     escaped(t);
     // rows that are zero have no bytes
-    counts(b"32 classes, all but the first of no bytes", t, 32, 2, 4);
+    counts(
+        b"as many classes as fit, all but the first of no bytes",
+        t,
+        Attrs::CLASSES as u8,
+        2,
+        4,
+    );
 }
 
 // The good table with two classes.

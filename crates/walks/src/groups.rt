@@ -44,7 +44,7 @@ fn sized<'a>(first: &'a [u8], second: &'a [u8], a: Attrs, b: Attrs, c: Attrs) {
 }
 
 // The set with so many classes. Those that weren't there have no bytes.
-fn classes(set: Attrs, n: u8) -> Attrs {
+pub(crate) fn classes(set: Attrs, n: u8) -> Attrs {
     let mut s = set;
     s.nclass = n;
     s

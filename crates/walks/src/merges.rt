@@ -1,4 +1,5 @@
 // Sets merged into one that is lent, where it stands; a refusal leaves it as it was.
+use crate::groups;
 use crate::say;
 use crate::say_number;
 use crate::say_refusal;
@@ -16,20 +17,7 @@ pub(crate) fn run() {
     three(b"{.a k=1}{#x .b k=2 m=3}{.c #y m=4 n}", 0, 8, 23);
     // nothing leads
     three(b"{.a k=1}{#x .b k=2 m=3}", 23, 0, 8);
-    // 17 classes are there, and 17 more lead: 6; the last set comes in all the same
-    three(
-        b"{.a .a .a .a .a .a .a .a .a .a .a .a .a .a .a .a .a}{.b .b .b .b .b .b .b .b .b .b .b .b .b .b .b .b .b}{k}",
-        0,
-        52,
-        104,
-    );
-    // 17 classes are there, a key leads, and 17 more come in: 6, and the key that led stays
-    three(
-        b"{k}{.a .a .a .a .a .a .a .a .a .a .a .a .a .a .a .a .a}{.b .b .b .b .b .b .b .b .b .b .b .b .b .b .b .b .b}",
-        0,
-        3,
-        55,
-    );
+    crowded(b"{.a}{.b}{k}");
     // the text isn't UTF-8 elsewhere: 2, both times
     three(b"{.a}{.b}{.c}\xFF", 0, 4, 8);
     broken(b"{.a k=1}{#x .b k=2}");
@@ -87,6 +75,25 @@ fn three(text: &[u8], leading: usize, target: usize, incoming: usize) {
     );
 }
 
+// As many classes are there as a set has, and one more leads: 6, and the last set comes in all the same; or a key leads, and the class comes in: 6,
+// and the key that led stays.
+fn crowded(text: &[u8]) {
+    let one = read_brace::read_attrs_at(text, 0);
+    let read = read_brace::read_attrs_at(text, 4);
+    let key = read_brace::read_attrs_at(text, 8);
+    let target = groups::classes(read.set, Attrs::CLASSES as u8);
+    tell(
+        text,
+        b"",
+        set_lent::merge_both(text, b"", target, one.set, key.set),
+    );
+    tell(
+        text,
+        b"",
+        set_lent::merge_both(text, b"", target, key.set, one.set),
+    );
+}
+
 // A set with rows past its counts is lent to one that is no set: 11, and not even those rows are touched.
 fn broken(text: &[u8]) {
     let read = read_brace::read_attrs_at(text, 0);
@@ -103,7 +110,7 @@ fn broken(text: &[u8]) {
     let both = set_lent::merge_both(text, b"", bad, target, target);
     tell(text, b"", both);
     let set = both.set;
-    say(b"  33 classes still: ");
+    say(b"  one class too many still: ");
     say_number(set.nclass as usize);
     say(b"\n");
 }

@@ -2,6 +2,7 @@
 -- Assumes nothing.
 use borrow.Author.Needs.{needs}
 use Prim.Native.Nat.{_≤_, _-_}
+use Rattle.set_table.specs.Types.{maxKeys}
 use Rattle.tables.proofs.full.full.Statement.{statement}
 use Rattle.tables.proofs.full.full.Tie as tie
 
@@ -9,7 +10,7 @@ abbrev Inv-loop : tie.InvT-loop
 Inv-loop long s₀ k₀ s k = k₀ ≤ k
 
 abbrev μ-loop : tie.MeasureT-loop
-μ-loop long s₀ k₀ s k = 32 - k
+μ-loop long s₀ k₀ s k = maxKeys - k
 
 empty-requires : tie.Need-empty-requires Inv-loop μ-loop
 empty-requires c κs = search needs
@@ -38,6 +39,9 @@ element-set-from-s-3 c = search needs
 loop-holds : tie.Need-loop-holds Inv-loop μ-loop
 loop-holds c = search needs
 
+cast-loop : tie.Need-cast-loop Inv-loop μ-loop
+cast-loop c = search needs
+
 cast-row : tie.Need-cast-row Inv-loop μ-loop
 cast-row c = search needs
 
@@ -50,11 +54,11 @@ plain-requires-3 c κs = search needs
 row-requires : tie.Need-row-requires Inv-loop μ-loop
 row-requires c κs = search needs
 
-cast-t19 : tie.Need-cast-t19 Inv-loop μ-loop
-cast-t19 c = search needs
+cast-t20 : tie.Need-cast-t20 Inv-loop μ-loop
+cast-t20 c = search needs
 
-mul-t20 : tie.Need-mul-t20 Inv-loop μ-loop
-mul-t20 c = search needs
+mul-t21 : tie.Need-mul-t21 Inv-loop μ-loop
+mul-t21 c = search needs
 
 element-set-from-s-4 : tie.Need-element-set-from-s-4 Inv-loop μ-loop
 element-set-from-s-4 c = search needs
@@ -62,14 +66,14 @@ element-set-from-s-4 c = search needs
 slot-requires-3 : tie.Need-slot-requires-3 Inv-loop μ-loop
 slot-requires-3 c κs = search needs
 
-cast-t19-2 : tie.Need-cast-t19-2 Inv-loop μ-loop
-cast-t19-2 c = search needs
+cast-t20-2 : tie.Need-cast-t20-2 Inv-loop μ-loop
+cast-t20-2 c = search needs
 
-add-t20 : tie.Need-add-t20 Inv-loop μ-loop
-add-t20 c = search needs
+add-t21 : tie.Need-add-t21 Inv-loop μ-loop
+add-t21 c = search needs
 
-mul-t25 : tie.Need-mul-t25 Inv-loop μ-loop
-mul-t25 c = search needs
+mul-t26 : tie.Need-mul-t26 Inv-loop μ-loop
+mul-t26 c = search needs
 
 element-set-from-s-5 : tie.Need-element-set-from-s-5 Inv-loop μ-loop
 element-set-from-s-5 c = search needs
@@ -82,6 +86,12 @@ loop-less c = search needs
 
 loop-again : tie.Need-loop-again Inv-loop μ-loop
 loop-again c = search needs
+
+cast-s : tie.Need-cast-s Inv-loop μ-loop
+cast-s c = search needs
+
+cast-s-2 : tie.Need-cast-s-2 Inv-loop μ-loop
+cast-s-2 c = search needs
 
 returns : tie.Need-returns Inv-loop μ-loop
 returns c = search needs
@@ -101,19 +111,22 @@ full-spec =
     slot-requires-2
     element-set-from-s-3
     loop-holds
+    cast-loop
     cast-row
     name-end-requires
     plain-requires-3
     row-requires
-    cast-t19
-    mul-t20
+    cast-t20
+    mul-t21
     element-set-from-s-4
     slot-requires-3
-    cast-t19-2
-    add-t20
-    mul-t25
+    cast-t20-2
+    add-t21
+    mul-t26
     element-set-from-s-5
     add-k
     loop-less
     loop-again
+    cast-s
+    cast-s-2
     returns)
