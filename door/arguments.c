@@ -47,6 +47,11 @@ int main(void)
     EXPECT(bridlesnow_totals_feed(NULL, 0, (const uint8_t *)"\377", 1, NULL, 0) == 17);
     EXPECT(bridlesnow_totals_add(NULL, 0, NULL, 0) == 17);
     EXPECT(bridlesnow_totals_text(NULL, 0, NULL, 0, NULL, 0) == 17);
+    EXPECT(bridlesnow_index_build(NULL, 0, NULL, 0, NULL, 0, NULL, 0, NULL, 0) == 9);
+    EXPECT(bridlesnow_index_read(NULL, 0, NULL, 0, NULL, 0) == 14);
+    EXPECT(bridlesnow_index_find(NULL, 0, NULL, 0, NULL, 0) == 14);
+    EXPECT(bridlesnow_index_find_row(NULL, 0, NULL, 0, SIZE_MAX, NULL, 0, NULL, 0) == 0);
+    EXPECT(bridlesnow_index_mend(NULL, 0, NULL, 0, 0, SIZE_MAX, NULL, 0, NULL, 0, NULL, 0, NULL, 0, NULL, 0) == 9);
 
     /* No memory to write into, and none to join in. */
     EXPECT(bridlesnow_read_attrs_at(block, 4, 0, 0, NULL, 0, NULL, 0) == 10);
@@ -179,6 +184,49 @@ int main(void)
     EXPECT(memcmp(report, "sheets\t18446744073709551615\nblocks\t", 35) == 0);
     EXPECT(bridlesnow_totals_text(fed, BRIDLESNOW_TOTALS, report, sizeof report, told, 1) == 0);
     EXPECT(memcmp(report + told[0] - 22, "lookahead\t8\nlongest\t2\n", 22) == 0);
+
+    /* An index: exact room, one row and one byte short, untouched where it is refused; read, and looked up in. */
+    static const char listed[] = "t\r\n{id}\n{#v17\n side=right}\n{.a}\n", kept[] = "carve-attr-index\t1\n2\t1\t3\t\n3\t2\t8\tv17\n5\t1\t27\n";
+    static const size_t rows[15] = {2, 1, 3, 25, 25, 3, 2, 8, 32, 35, 5, 1, 27, 0, 0};
+    size_t table[16], again[16];
+    for (i = 0; i < 16; i++)
+        table[i] = again[i] = 777;
+    memset(report, 9, 64);
+    EXPECT(bridlesnow_index_build((const uint8_t *)listed, sizeof listed - 1, lines, sizeof lines - 1, table, 15, report, 64, told, 2) == 9);
+    EXPECT(bridlesnow_index_build((const uint8_t *)listed, sizeof listed - 1, lines, sizeof lines, table, 14, report, 0, told, 2) == 15);
+    EXPECT(bridlesnow_index_build((const uint8_t *)listed, sizeof listed - 1, lines, sizeof lines, table, 15, report, sizeof kept - 2, told, 2) == 19);
+    EXPECT(told[0] == 0 && told[1] == 0 && table[0] == 777 && report[0] == 9 && memcmp(lines, "{#v17 side=right}", 17) == 0);
+    EXPECT(bridlesnow_index_build((const uint8_t *)listed, sizeof listed - 1, lines, sizeof lines, table, 16, report, sizeof kept - 1, told, 2) == 0);
+    EXPECT(told[0] == 3 && told[1] == sizeof kept - 1 && memcmp(report, kept, sizeof kept - 1) == 0 && report[sizeof kept - 1] == 9);
+    EXPECT(memcmp(table, rows, sizeof rows) == 0 && table[15] == 777);
+    EXPECT(bridlesnow_index_read(report, told[1], again, 14, told, 1) == 15 && told[0] == 0 && again[0] == 777);
+    EXPECT(bridlesnow_index_read(report, sizeof kept - 2, again, 15, told, 1) == 14 && told[0] == 0 && again[0] == 777);
+    EXPECT(bridlesnow_index_read(report, sizeof kept - 1, again, 15, told, 1) == 0 && told[0] == 3 && memcmp(again, rows, sizeof rows) == 0);
+    EXPECT(bridlesnow_index_find(report, sizeof kept - 1, (const uint8_t *)"v17", 3, told, 4) == 0);
+    EXPECT(told[0] == 1 && told[1] == 3 && told[2] == 2 && told[3] == 8);
+    EXPECT(bridlesnow_index_find(report, sizeof kept - 1, NULL, 0, told, 4) == 0 && told[0] == 1 && told[1] == 2 && told[2] == 1 && told[3] == 3);
+    EXPECT(bridlesnow_index_find(report, sizeof kept - 1, (const uint8_t *)"v1", 2, told, 4) == 0 && told[0] == 0 && told[1] == 0 && told[3] == 0);
+    EXPECT(bridlesnow_index_find(report, sizeof kept - 2, NULL, 0, told, 4) == 14 && told[0] == 0);
+    EXPECT(bridlesnow_index_find_row(report, sizeof kept - 1, table, 15, 3, (const uint8_t *)"v17", 3, told, 4) == 0 && told[0] == 1 && told[3] == 8);
+    EXPECT(bridlesnow_index_find_row(report, sizeof kept - 1, table, 15, 1, (const uint8_t *)"v17", 3, told, 4) == 0 && told[0] == 0);
+    EXPECT(bridlesnow_index_find_row(report, sizeof kept - 1, table, 16, SIZE_MAX, (const uint8_t *)"v17", 3, told, 4) == 0 && told[0] == 1);
+    EXPECT(bridlesnow_index_find_row(report, 30, table, 15, 3, (const uint8_t *)"v17", 3, told, 4) == 0 && told[0] == 0);
+
+    /* The same index mended after line 2 was replaced: 3 and 14 before 15 and 19, and untouched on all of these. */
+    static const char edited[] = "t\r\n{#x}\nu\n{#v17\n side=right}\n{.a}\n", mended[] = "carve-attr-index\t1\n2\t1\t3\tx\n4\t2\t10\tv17\n6\t1\t29\n";
+    static const size_t moved[15] = {2, 1, 3, 25, 26, 4, 2, 10, 34, 37, 6, 1, 29, 0, 0};
+    static uint8_t fresh[64];
+    for (i = 0; i < 16; i++)
+        again[i] = 777;
+    memset(fresh, 9, 64);
+#define MEND(a, b, index_len, numbers, size)                                                                                            \
+    bridlesnow_index_mend((const uint8_t *)listed, sizeof listed - 1, (const uint8_t *)edited, sizeof edited - 1, a, b, report, index_len, \
+                          lines, sizeof lines, again, numbers, fresh, size, told, 2)
+    EXPECT(MEND(0, 1, 0, 0, 0) == 3 && MEND(2, 1, 0, 0, 0) == 3 && MEND(2, SIZE_MAX, 0, 0, 0) == 3 && MEND(3, 3, 0, 0, 0) == 3);
+    EXPECT(MEND(2, 2, sizeof kept - 2, 0, 0) == 14 && MEND(2, 2, sizeof kept - 1, 14, 0) == 15 && MEND(2, 2, sizeof kept - 1, 15, sizeof mended - 2) == 19);
+    EXPECT(told[0] == 0 && told[1] == 0 && again[0] == 777 && fresh[0] == 9);
+    EXPECT(MEND(2, 2, sizeof kept - 1, 16, sizeof mended - 1) == 0 && told[0] == 3 && told[1] == sizeof mended - 1);
+    EXPECT(memcmp(fresh, mended, sizeof mended - 1) == 0 && fresh[sizeof mended - 1] == 9 && memcmp(again, moved, sizeof moved) == 0 && again[15] == 777);
 
     /* Room for fewer numbers than there are: the rest is untouched. */
     told[1] = 99;

@@ -11,17 +11,18 @@
  *     4  no close                                  11  (never given here: a set that isn't well-formed)
  *     5  no reading                                12  nothing is left of a set (bridlesnow_consume_loose alone)
  *     6  more than 32 classes                      17  a total over all sheets would not fit 64 bits, or has no room
- *    18  more than 32 columns                      20  one or two of `variant`, `wheel` and `valve`, or a value out of range
- *                                                  21  a variant has one valve at two wheels
+ *    14  not an index, or not the old text's       18  more than 32 columns
+ *    15  the records have no room in `table`       20  one or two of `variant`, `wheel` and `valve`, or a value out of range
+ *    19  the index has no room in `out`            21  a variant has one valve at two wheels
  *
  * A set is handed out as its canonical text at the front of `out`, such as {id="v17" class="wheel" side="left"}. A class that is listed again is
- * written once, at its first place. After a number other than 0 `out`, `cells`, `totals` and `numbers` are untouched, but for bridlesnow_report_start, whose 1
- * and 2 lay a line. Numbers besides are told in `told`, in the order that the function's comment gives: as many as `told_len` has room for, the rest of it
+ * written once, at its first place. After a number other than 0 `out`, `cells`, `totals`, `numbers` and `table` are untouched, but for bridlesnow_report_start,
+ * whose 1 and 2 lay a line. Numbers besides are told in `told`, in the order that the function's comment gives: as many as `told_len` has room for, the rest of it
  * untouched. So a caller who wants none passes NULL and 0. They are told on a refusal too; the length of the canonical text is 0 where none is
  * written, so 10 doesn't tell how much is needed.
  *
  * What the caller owes: each pointer with a length other than 0 points to that many elements, and memory that a call writes (`join`, `other_join`,
- * `out`, `cells`, `totals`, `numbers`, `told`) overlaps no other memory of that call. A pointer with length 0 may be NULL. Any other argument gets an answer: a place or
+ * `out`, `cells`, `totals`, `numbers`, `table`, `told`) overlaps no other memory of that call. A pointer with length 0 may be NULL. Any other argument gets an answer: a place or
  * a line that isn't there is 3 (for a refused run: no), a `join` or an `out` too short is 9 or 10.
  *
  * More than two blocks, such as common, family and variant, are composed by writing their canonical texts one behind the other, with nothing between,
@@ -78,6 +79,11 @@ enum {
 /* The most columns that a valve table's block may say, and how many numbers are laid for each. */
 #define BRIDLESNOW_COLUMNS 32
 #define BRIDLESNOW_COLUMN 5
+
+/* An index beside a sheet: the most records of a sheet, how many numbers of a table each of them takes, and the longest text of an index. */
+#define BRIDLESNOW_RECORDS 16384
+#define BRIDLESNOW_RECORD 5
+#define BRIDLESNOW_INDEX 376850
 
 /* Whether the bytes are UTF-8. */
 bool bridlesnow_is_utf8(const uint8_t *text, size_t text_len);
@@ -210,6 +216,35 @@ uint8_t bridlesnow_totals_feed(uint64_t *totals, size_t totals_len, const uint8_
 uint8_t bridlesnow_totals_add(uint64_t *totals, size_t totals_len, const uint64_t *more, size_t more_len);
 uint8_t bridlesnow_totals_text(const uint64_t *totals, size_t totals_len, uint8_t *out, size_t out_len,
                                size_t *told, size_t told_len);
+
+/* An index beside a sheet is a text of lines: the first is `carve-attr-index`, a tab and 1; the others are the records of the blocks that a report
+ * prints: first line, line count and the place of the first line's first byte, and the unescaped id where the block has one, parted by tabs.
+ * bridlesnow_index_build lays the index of a sheet at the front of `out`, and its rows at the front of `table`, BRIDLESNOW_RECORD numbers each: the
+ * three of the record, and from where to where its id stands in the index text, 0 and 0 where it has none. BRIDLESNOW_RECORDS rows and
+ * BRIDLESNOW_INDEX bytes are enough for any sheet. `join` has at least BRIDLESNOW_MAX bytes, else 9.
+ * Order: 1, 2, 9, 15, 19. Tells: how many records there are; how many bytes are laid.
+ * bridlesnow_index_read lays the rows of an index. The whole text is read before the table counts. Order: 14, 15. Tells: how many records there are.
+ * bridlesnow_index_find looks up the first record of an id in an index, which is read whole: 14, also for a fault behind that record.
+ * bridlesnow_index_find_row does so over rows that were laid, `n` of them or as many as `table_len` has, and reads no more of the index than their ids:
+ * this is the one for a key press. It refuses nothing; what a row says past the index is left out.
+ * Both tell: 1 where there is such a record, else 0; its first line, its line count, and its place, at which bridlesnow_read_block_at reads the block.
+ * An id is bytes, and an empty one is another thing than none.
+ * bridlesnow_index_mend lays the index of `new_text`, and its rows, from the index of `old_text`, after lines `a` to `b` of that were replaced: what it lays
+ * is what bridlesnow_index_build lays of the new text. It reads the old text once, to see that `index` is its index, and of the new text only the lines
+ * around the edit. 3: `a` or `b` is no line of the old text, `b` is before `a`, or the new text isn't the old one with something else, or nothing, in
+ * place of lines a to b, the LF of line b among them. 14: any other bytes than the old text's index. Only the new records must fit `table`.
+ * Order: 1 and 2 of the old text, 1 and 2 of the new one, 9, 3, 14, 15, 19. Tells as bridlesnow_index_build. */
+uint8_t bridlesnow_index_build(const uint8_t *text, size_t text_len, uint8_t *join, size_t join_len,
+                               size_t *table, size_t table_len, uint8_t *out, size_t out_len, size_t *told, size_t told_len);
+uint8_t bridlesnow_index_read(const uint8_t *index, size_t index_len, size_t *table, size_t table_len,
+                              size_t *told, size_t told_len);
+uint8_t bridlesnow_index_find(const uint8_t *index, size_t index_len, const uint8_t *id, size_t id_len,
+                              size_t *told, size_t told_len);
+uint8_t bridlesnow_index_find_row(const uint8_t *index, size_t index_len, const size_t *table, size_t table_len, size_t n,
+                                  const uint8_t *id, size_t id_len, size_t *told, size_t told_len);
+uint8_t bridlesnow_index_mend(const uint8_t *old_text, size_t old_len, const uint8_t *new_text, size_t new_len, size_t a, size_t b,
+                              const uint8_t *index, size_t index_len, uint8_t *join, size_t join_len,
+                              size_t *table, size_t table_len, uint8_t *out, size_t out_len, size_t *told, size_t told_len);
 
 #ifdef __cplusplus
 }

@@ -69,6 +69,11 @@ pub fn small_blocks(size: usize) -> Vec<u8> {
     filled(size, |_| "{.a}\n".into())
 }
 
+/// Indented lines, before none of which a sheet may be parted.
+pub fn indented(size: usize) -> Vec<u8> {
+    filled(size, |_| " {.a}\n".into())
+}
+
 /// Prose without a block.
 pub fn prose(size: usize) -> Vec<u8> {
     filled(size, |n| match n % 3 {

@@ -340,6 +340,112 @@ fn dealers_and_totals() {
     beside("feed, hostile", 0.0, &hostile, ours::totals, &[0]);
 }
 
+/// An index beside a sheet, against our own report on it: built, and an id that no record has looked up in its text and over its rows.
+fn indexes() {
+    println!("\n| index, 64 KB | our report | build | build / report | look-up in the text | / report | over rows / in the text | build, 64 KB / 32 KB | goal |");
+    println!("|---|---|---|---|---|---|---|---|---|");
+    let inputs: [(&str, Make, f64, f64); 2] = [("typical sheet", inputs::typical, 2.0, 0.05), ("`{.a}` on every line", inputs::small_blocks, 2.5, 0.1)];
+    let (mut m, mut n) = (Lent::new(), Lent::new());
+    for (input, make, build_goal, find_goal) in inputs {
+        let (text, half) = (make(inputs::MAX), make(inputs::MAX / 2));
+        let (number, records, len) = ours::index(&text, &mut m);
+        assert_eq!((number, ours::index(&text, &mut n).0), (0, 0), "{input}");
+        let id = b"no such id";
+        assert_eq!((ours::find(len, id, &mut m), ours::find_row(len, records, id, &mut n)), ((0, 0), (0, 0)), "{input}");
+        let (in_text, over_rows) = both(
+            || {
+                black_box(ours::find(len, black_box(id), &mut m));
+            },
+            || {
+                black_box(ours::find_row(len, records, black_box(id), &mut n));
+            },
+        );
+        let (report, build) = both(
+            || {
+                ours::sheet(black_box(&text), &mut m);
+                black_box(&m.report);
+            },
+            || {
+                black_box(ours::index(black_box(&text), &mut n));
+            },
+        );
+        let (whole, part) = both(
+            || {
+                black_box(ours::index(black_box(&text), &mut m));
+            },
+            || {
+                black_box(ours::index(black_box(&half), &mut n));
+            },
+        );
+        let (built, found, rows, growth) = (build / report, in_text / report, over_rows / in_text, whole / part);
+        let met = if built <= build_goal && found <= find_goal && rows <= 0.5 && growth <= 2.5 { "met" } else { "missed" };
+        println!(
+            "| {input} | {} | {} | {built:.3} | {} | {found:.3} | {rows:.3} | {growth:.2} | {build_goal}, {find_goal}, 0.5 and 2.5, {met} |",
+            time(report), time(build), time(in_text)
+        );
+    }
+}
+
+/// The text with its middle line replaced by one that is longer, and the number of that line.
+fn edited(text: &[u8]) -> (Vec<u8>, usize) {
+    let lines: Vec<&[u8]> = text.split_inclusive(|&b| b == b'\n').collect();
+    let middle = lines.len() / 2;
+    let new = [lines[..middle].concat(), b"{#edited k=v}\n".to_vec(), lines[middle + 1..].concat()].concat();
+    (new, middle + 1)
+}
+
+/// An index mended after one line was replaced, against our own report on the old sheet and against the new one's index built afresh.
+fn mends() {
+    println!("\n| mend of one line, 64 KB | our report | mend | mend / report | build | mend / build | mend, 64 KB / 32 KB | goal |\n|---|---|---|---|---|---|---|---|");
+    let inputs: [(&str, Make, f64, f64); 3] = [
+        ("typical sheet", inputs::typical, 1.2, 0.8), ("`{.a}` on every line", inputs::small_blocks, 1.8, 0.8), ("every line indented", inputs::indented, 2.5, 0.0),
+    ];
+    let (mut m, mut n) = (Lent::new(), Lent::new());
+    for (input, make, goal, build_goal) in inputs {
+        // An old text, one with a line more, that line, and the old one's index.
+        let mut case = |size: usize| {
+            let old = make(size - 16);
+            let (new, line) = edited(&old);
+            let (_, _, len) = ours::index(&old, &mut m);
+            let index = m.index[..len].to_vec();
+            let (number, _, fresh) = ours::index(&new, &mut m);
+            assert_eq!((number, ours::mend(&old, &new, line, &index, &mut n)), (0, (0, fresh)), "{input}");
+            assert_eq!(m.index[..fresh], n.index[..fresh], "{input}");
+            (old, new, line, index)
+        };
+        let ((old, new, line, index), (half, half_new, half_line, half_index)) = (case(inputs::MAX), case(inputs::MAX / 2));
+        let (report, mend) = both(
+            || {
+                ours::sheet(black_box(&old), &mut m);
+                black_box(&m.report);
+            },
+            || {
+                black_box(ours::mend(black_box(&old), black_box(&new), line, &index, &mut n));
+            },
+        );
+        let (build, again) = both(
+            || {
+                black_box(ours::index(black_box(&new), &mut m));
+            },
+            || {
+                black_box(ours::mend(black_box(&old), black_box(&new), line, &index, &mut n));
+            },
+        );
+        let (whole, part) = both(
+            || {
+                black_box(ours::mend(black_box(&old), black_box(&new), line, &index, &mut m));
+            },
+            || {
+                black_box(ours::mend(black_box(&half), black_box(&half_new), half_line, &half_index, &mut n));
+            },
+        );
+        let (ratio, of_build, growth) = (mend / report, again / build, whole / part);
+        let met = if ratio <= goal && (build_goal == 0.0 || of_build <= build_goal) && growth <= 2.5 { "met" } else { "missed" };
+        let goals = if build_goal == 0.0 { format!("{goal} and 2.5") } else { format!("{goal}, {build_goal} of build and 2.5") };
+        println!("| {input} | {} | {} | {ratio:.3} | {} | {of_build:.3} | {growth:.2} | {goals}, {met} |", time(report), time(mend), time(build));
+    }
+}
+
 /// The names of the inputs, or one input through the entries of the tables on our side; for a run under a small stack.
 fn stack(input: Option<String>) {
     let Some(input) = input else {
@@ -359,6 +465,11 @@ fn stack(input: Option<String>) {
     black_box(ours::merge_lines(&text, 1, 1, &mut m));
     black_box(ours::variants(&text, &mut m));
     black_box(ours::totals(&text, &mut m));
+    let (_, records, len) = ours::index(&text, &mut m);
+    black_box(ours::find(len, b"v17", &mut m));
+    black_box(ours::find_row(len, records, b"v17", &mut m));
+    let index = m.index[..len].to_vec();
+    black_box(ours::mend(&text, &text, 1, &index, &mut m));
 }
 
 fn main() {
@@ -372,4 +483,6 @@ fn main() {
     whole_job();
     hostile();
     dealers_and_totals();
+    indexes();
+    mends();
 }

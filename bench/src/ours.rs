@@ -38,6 +38,20 @@ extern "C" {
         cells: *mut u16, cells_len: usize, told: *mut usize, told_len: usize,
     ) -> u8;
     fn bridlesnow_totals_feed(totals: *mut u64, totals_len: usize, text: *const u8, len: usize, join: *mut u8, join_len: usize) -> u8;
+    fn bridlesnow_index_build(
+        text: *const u8, len: usize, join: *mut u8, join_len: usize,
+        table: *mut usize, table_len: usize, out: *mut u8, out_len: usize, told: *mut usize, told_len: usize,
+    ) -> u8;
+    fn bridlesnow_index_find(index: *const u8, len: usize, id: *const u8, id_len: usize, told: *mut usize, told_len: usize) -> u8;
+    fn bridlesnow_index_find_row(
+        index: *const u8, len: usize, table: *const usize, table_len: usize, n: usize,
+        id: *const u8, id_len: usize, told: *mut usize, told_len: usize,
+    ) -> u8;
+    fn bridlesnow_index_mend(
+        old: *const u8, old_len: usize, new: *const u8, new_len: usize, a: usize, b: usize,
+        index: *const u8, index_len: usize, join: *mut u8, join_len: usize,
+        table: *mut usize, table_len: usize, out: *mut u8, out_len: usize, told: *mut usize, told_len: usize,
+    ) -> u8;
     /// `read_brace::read_attrs_at_with`, which `bench/run` makes visible: it answers by a struct that the caller has room for, takes a slice by a
     /// pointer to its two words, and the mode by a pointer to its number.
     fn read_brace__read_attrs_at_with(answer: *mut u8, text: *const Slice, place: usize, mode: *const u8);
@@ -64,11 +78,22 @@ pub struct Lent {
     pub told: [usize; 5],
     pub cells: [u16; 120],
     pub totals: [u64; 13],
+    pub table: Vec<usize>,
+    pub index: Vec<u8>,
 }
 
 impl Lent {
     pub fn new() -> Self {
-        Lent { join: vec![0; 65_535], out: vec![0; 1 << 18], report: Vec::with_capacity(1 << 20), told: [0; 5], cells: [0; 120], totals: [0; 13] }
+        Lent {
+            join: vec![0; 65_535],
+            out: vec![0; 1 << 18],
+            report: Vec::with_capacity(1 << 20),
+            told: [0; 5],
+            cells: [0; 120],
+            totals: [0; 13],
+            table: vec![0; 5 * 16_384],
+            index: vec![0; 376_850],
+        }
     }
 }
 
@@ -146,4 +171,44 @@ pub fn variants(text: &[u8], m: &mut Lent) -> u8 {
 pub fn totals(text: &[u8], m: &mut Lent) -> u8 {
     m.totals = [0; 13];
     unsafe { bridlesnow_totals_feed(m.totals.as_mut_ptr(), m.totals.len(), text.as_ptr(), text.len(), m.join.as_mut_ptr(), m.join.len()) }
+}
+
+/// The index of a sheet, laid into `index` and `table`: its number, how many records it has, and how many bytes.
+pub fn index(text: &[u8], m: &mut Lent) -> (u8, usize, usize) {
+    let told = m.told.as_mut_ptr();
+    let number = unsafe {
+        bridlesnow_index_build(
+            text.as_ptr(), text.len(), m.join.as_mut_ptr(), m.join.len(),
+            m.table.as_mut_ptr(), m.table.len(), m.index.as_mut_ptr(), m.index.len(), told, 2,
+        )
+    };
+    (number, m.told[0], m.told[1])
+}
+
+/// Whether an id is found in the first `len` bytes of `index`.
+pub fn find(len: usize, id: &[u8], m: &mut Lent) -> (u8, usize) {
+    let told = m.told.as_mut_ptr();
+    let number = unsafe { bridlesnow_index_find(m.index.as_ptr(), len, id.as_ptr(), id.len(), told, 4) };
+    (number, m.told[0])
+}
+
+/// The same over the first `n` rows of `table`.
+pub fn find_row(len: usize, n: usize, id: &[u8], m: &mut Lent) -> (u8, usize) {
+    let told = m.told.as_mut_ptr();
+    let number = unsafe {
+        bridlesnow_index_find_row(m.index.as_ptr(), len, m.table.as_ptr(), m.table.len(), n, id.as_ptr(), id.len(), told, 4)
+    };
+    (number, m.told[0])
+}
+
+/// The index of a text in which one line of another was replaced, laid into `index` and `table`: its number, and how many bytes it has.
+pub fn mend(old: &[u8], new: &[u8], line: usize, index: &[u8], m: &mut Lent) -> (u8, usize) {
+    let told = m.told.as_mut_ptr();
+    let number = unsafe {
+        bridlesnow_index_mend(
+            old.as_ptr(), old.len(), new.as_ptr(), new.len(), line, line, index.as_ptr(), index.len(), m.join.as_mut_ptr(), m.join.len(),
+            m.table.as_mut_ptr(), m.table.len(), m.index.as_mut_ptr(), m.index.len(), told, 2,
+        )
+    };
+    (number, m.told[1])
 }

@@ -34,6 +34,11 @@ pub type Totals = [u64; TOTALS];
 /// The longest text of a report over sheets.
 pub const TOTALS_TEXT: usize = 384;
 
+/// An index beside a sheet: the most records of a sheet, how many numbers of a table each takes, and the longest text of an index.
+pub const RECORDS: usize = 16_384;
+pub const RECORD: usize = 5;
+pub const INDEX: usize = 376_850;
+
 /// The functions of the library, as `door/bridlesnow.h` declares them.
 mod raw {
     extern "C" {
@@ -114,6 +119,25 @@ mod raw {
         pub fn bridlesnow_totals_text(
             totals: *const u64, totals_len: usize, out: *mut u8, out_len: usize, told: *mut usize, told_len: usize,
         ) -> u8;
+        pub fn bridlesnow_index_build(
+            text: *const u8, len: usize, join: *mut u8, join_len: usize,
+            table: *mut usize, table_len: usize, out: *mut u8, out_len: usize, told: *mut usize, told_len: usize,
+        ) -> u8;
+        pub fn bridlesnow_index_read(
+            index: *const u8, len: usize, table: *mut usize, table_len: usize, told: *mut usize, told_len: usize,
+        ) -> u8;
+        pub fn bridlesnow_index_find(
+            index: *const u8, len: usize, id: *const u8, id_len: usize, told: *mut usize, told_len: usize,
+        ) -> u8;
+        pub fn bridlesnow_index_find_row(
+            index: *const u8, len: usize, table: *const usize, table_len: usize, n: usize,
+            id: *const u8, id_len: usize, told: *mut usize, told_len: usize,
+        ) -> u8;
+        pub fn bridlesnow_index_mend(
+            old: *const u8, old_len: usize, new: *const u8, new_len: usize, a: usize, b: usize,
+            index: *const u8, index_len: usize, join: *mut u8, join_len: usize,
+            table: *mut usize, table_len: usize, out: *mut u8, out_len: usize, told: *mut usize, told_len: usize,
+        ) -> u8;
     }
 }
 
@@ -133,7 +157,10 @@ impl fmt::Display for Refusal {
             7 => "more than 32 keys",
             9 => "the next line to join doesn't fit",
             10 => "the canonical text is too long",
+            14 => "not an index, or not that of the old text",
+            15 => "the records have no room in the table",
             17 => "a total over all sheets would not fit",
+            19 => "the index has no room",
             20 => "one or two of variant, wheel and valve, or a value out of range",
             21 => "a variant has one valve at two wheels",
             _ => "refused",
@@ -161,6 +188,73 @@ pub fn totals_text(totals: &Totals) -> String {
     assert_eq!(number, 0, "any report has room in {TOTALS_TEXT} bytes");
     out.truncate(len);
     String::from_utf8(out).expect("names and digits")
+}
+
+/// Where a block stands that was looked up: its first line, its line count, and the place of its first line's first byte, at which
+/// [`Reader::read_block_at`] reads it.
+#[derive(Clone, Copy, Debug, PartialEq, Eq)]
+pub struct Found {
+    pub line: usize,
+    pub count: usize,
+    pub offset: usize,
+}
+
+impl Found {
+    fn of(told: [usize; 4]) -> Option<Self> {
+        let [found, line, count, offset] = told;
+        (found == 1).then_some(Found { line, count, offset })
+    }
+}
+
+/// An index beside a sheet: its text, and the rows of its records, over which an id is found without reading the text again.
+#[derive(Clone, Debug, PartialEq, Eq)]
+pub struct Index {
+    text: Vec<u8>,
+    rows: Vec<usize>,
+}
+
+impl Index {
+    /// Reads an index text.
+    pub fn read(text: &[u8]) -> Result<Self, Refusal> {
+        // No record takes fewer than six bytes.
+        let mut rows = vec![0usize; text.len() / 6 * RECORD];
+        let mut records = 0;
+        granted(unsafe { raw::bridlesnow_index_read(text.as_ptr(), text.len(), rows.as_mut_ptr(), rows.len(), &mut records, 1) })?;
+        rows.truncate(records * RECORD);
+        Ok(Index { text: text.to_vec(), rows })
+    }
+
+    /// The text, to be kept beside the sheet.
+    pub fn text(&self) -> &[u8] {
+        &self.text
+    }
+
+    /// How many records there are.
+    pub fn records(&self) -> usize {
+        self.rows.len() / RECORD
+    }
+
+    /// The first record of an id.
+    pub fn find(&self, id: &[u8]) -> Option<Found> {
+        let mut told = [0usize; 4];
+        let number = unsafe {
+            raw::bridlesnow_index_find_row(
+                self.text.as_ptr(), self.text.len(), self.rows.as_ptr(), self.rows.len(), self.records(),
+                id.as_ptr(), id.len(), told.as_mut_ptr(), told.len(),
+            )
+        };
+        assert_eq!(number, 0, "looking up over rows refuses nothing");
+        Found::of(told)
+    }
+}
+
+/// The first record of an id in an index text, which is read whole.
+pub fn find_record(index: &[u8], id: &[u8]) -> Result<Option<Found>, Refusal> {
+    let mut told = [0usize; 4];
+    granted(unsafe {
+        raw::bridlesnow_index_find(index.as_ptr(), index.len(), id.as_ptr(), id.len(), told.as_mut_ptr(), told.len())
+    })?;
+    Ok(Found::of(told))
 }
 
 /// Whether the bytes are UTF-8.
@@ -535,6 +629,37 @@ impl Reader {
                 totals.as_mut_ptr(), TOTALS, text.as_ptr(), text.len(), self.join.as_mut_ptr(), self.join.len(),
             )
         })
+    }
+
+    /// The index of a sheet.
+    pub fn build_index(&mut self, text: &[u8]) -> Result<Index, Refusal> {
+        let (mut rows, mut out, mut told) = (vec![0usize; RECORDS * RECORD], vec![0u8; INDEX], [0usize; 2]);
+        granted(unsafe {
+            raw::bridlesnow_index_build(
+                text.as_ptr(), text.len(), self.join.as_mut_ptr(), self.join.len(),
+                rows.as_mut_ptr(), rows.len(), out.as_mut_ptr(), out.len(), told.as_mut_ptr(), told.len(),
+            )
+        })?;
+        let [records, bytes] = told;
+        rows.truncate(records * RECORD);
+        out.truncate(bytes);
+        Ok(Index { text: out, rows })
+    }
+
+    /// The index of the new text, from that of the old one, after lines `a` to `b` were replaced.
+    pub fn mend_index(&mut self, old: &[u8], new: &[u8], a: usize, b: usize, index: &[u8]) -> Result<Index, Refusal> {
+        let (mut rows, mut out, mut told) = (vec![0usize; RECORDS * RECORD], vec![0u8; INDEX], [0usize; 2]);
+        granted(unsafe {
+            raw::bridlesnow_index_mend(
+                old.as_ptr(), old.len(), new.as_ptr(), new.len(), a, b,
+                index.as_ptr(), index.len(), self.join.as_mut_ptr(), self.join.len(),
+                rows.as_mut_ptr(), rows.len(), out.as_mut_ptr(), out.len(), told.as_mut_ptr(), told.len(),
+            )
+        })?;
+        let [records, bytes] = told;
+        rows.truncate(records * RECORD);
+        out.truncate(bytes);
+        Ok(Index { text: out, rows })
     }
 }
 
@@ -952,6 +1077,77 @@ mod tests {
     }
 
     #[test]
+    fn indexes() {
+        let mut reader = Reader::new();
+        let text = b"t\r\n{id}\n{#v17\n side=right}\n{.a}\n{#v17 b}\n{id='a\tb\r'}\n";
+        let index = reader.build_index(text).unwrap();
+        let lines = "carve-attr-index\t1\n2\t1\t3\t\n3\t2\t8\tv17\n5\t1\t27\n6\t1\t32\tv17\n7\t1\t41\ta\tb\r\n";
+        assert_eq!((std::str::from_utf8(index.text()), index.records()), (Ok(lines), 5));
+        assert_eq!(Index::read(lines.as_bytes()), Ok(index.clone()));
+        // The first of two; an empty id, which is no missing one; one of a tab and a CR; one that no block has.
+        for (id, found) in [(&b"v17"[..], Some((3, 2, 8))), (b"", Some((2, 1, 3))), (b"a\tb\r", Some((7, 1, 41))), (b"a\tb", None), (b"V17", None)] {
+            let found = found.map(|(line, count, offset)| Found { line, count, offset });
+            assert_eq!((index.find(id), find_record(lines.as_bytes(), id)), (found, Ok(found)));
+        }
+        let place = index.find(b"v17").unwrap().offset;
+        assert_eq!(reader.read_block_at(text, place).map(|(lines, canonical)| (lines.count, canonical)), Ok((2, "{id=\"v17\" side=\"right\"}")));
+        // Neither a text that is refused nor a short join buffer has an index; what isn't one is refused also behind the record.
+        assert_eq!(reader.build_index(&vec![b' '; MAX + 1]), Err(Refusal(1)));
+        assert_eq!(reader.build_index(b"{a}\n\xff"), Err(Refusal(2)));
+        assert_eq!(Reader::with_room(MAX - 1, 0).build_index(text), Err(Refusal(9)));
+        for bad in ["", "carve-attr-index\t2\n", "carve-attr-index\t1\r\n", "carve-attr-index\t1\n1\t1\t0\tx\n01\t1\t0\n", "carve-attr-index\t1\n1\t1\t0\tx"] {
+            assert_eq!((Index::read(bad.as_bytes()), find_record(bad.as_bytes(), b"x")), (Err(Refusal(14)), Err(Refusal(14))));
+        }
+        // The most blocks that a sheet has, and its index.
+        let most = [&b"{a}\n".repeat(RECORDS - 1)[..], b"{a}"].concat();
+        let index = reader.build_index(&most).unwrap();
+        assert_eq!((most.len(), index.records(), index.text().len(), index.find(b"")), (MAX, RECORDS, 215_511, None));
+    }
+
+    #[test]
+    fn mended_indexes() {
+        let mut reader = Reader::new();
+        let old = b"{#a}\n{#b\n k}\ntext\n{#c}\n";
+        let index = reader.build_index(old).unwrap();
+        // A line more, a line less, one that opens a block with the next line's, one that runs into the next line, and nothing changed.
+        for (a, b, new) in [
+            (1, 1, &b"{#a}\n{#x}\n{#b\n k}\ntext\n{#c}\n"[..]), (2, 3, b"{#a}\ntext\n{#c}\n"), (4, 4, b"{#a}\n{#b\n k}\n{#d\n l}\n{#c}\n"),
+            (2, 2, b"{#a}\n{#y k}\n"), (4, 4, b"{#a}\n{#b\n k}\n t{#c}\n"), (5, 5, b"{#a}\n{#b\n k}\ntext\n"), (1, 5, b""), (3, 4, old),
+        ] {
+            // The fourth takes line 2 out of another text: what stands behind it isn't there.
+            let wanted = if new == b"{#a}\n{#y k}\n" { Err(Refusal(3)) } else { reader.build_index(new) };
+            assert_eq!(reader.mend_index(old, new, a, b, index.text()), wanted, "{}", String::from_utf8_lossy(new));
+        }
+        assert_eq!(reader.mend_index(b"a\nb\na\n", b"a\n", 2, 2, b"carve-attr-index\t1\n"), Err(Refusal(3)));
+        // The orders: 1 and 2 of the old text, then of the new one, 9, 3, 14.
+        let long = vec![b' '; MAX + 1];
+        for (old, new, number) in [(&long[..], &b"\xff"[..], 1), (b"\xff", &long, 2), (b"", &long, 1), (b"", b"\xff", 2), (b"", b"", 9)] {
+            assert_eq!(Reader::with_room(0, 0).mend_index(old, new, 0, 0, b""), Err(Refusal(number)));
+        }
+        assert_eq!(reader.mend_index(old, old, 0, 1, b""), Err(Refusal(3)));
+        assert_eq!(reader.mend_index(old, old, 1, 1, b""), Err(Refusal(14)));
+        // An index of the form, which is another text's.
+        assert_eq!(reader.mend_index(old, old, 1, 1, b"carve-attr-index\t1\n"), Err(Refusal(14)));
+    }
+
+    #[test]
+    fn room_for_indexes() {
+        let (text, len, mut join) = (b"{#a\n b}\n{.c}\n", "carve-attr-index\t1\n1\t2\t0\ta\n3\t1\t8\n".len(), vec![b'.'; MAX]);
+        for (numbers, bytes, wanted) in [(9, 0, 15), (10, len - 1, 19), (10, len, 0), (12, len + 1, 0)] {
+            let (mut table, mut out, mut told) = ([77usize; 12], [7u8; 64], [77usize; 3]);
+            let number = unsafe {
+                raw::bridlesnow_index_build(
+                    text.as_ptr(), text.len(), join.as_mut_ptr(), MAX, table.as_mut_ptr(), numbers, out.as_mut_ptr(), bytes, told.as_mut_ptr(), 3,
+                )
+            };
+            let rows = if wanted == 0 { [1, 2, 0, 25, 26, 3, 1, 8, 0, 0, 77, 77] } else { [77; 12] };
+            assert_eq!((number, table, told), (wanted, rows, if wanted == 0 { [2, len, 77] } else { [0, 0, 77] }));
+            assert_eq!((out[0], out[len - 1], out[len]), if wanted == 0 { (b'c', b'\n', 7) } else { (7, 7, 7) });
+            assert_eq!(&join[..7], b"{#a b}.");
+        }
+    }
+
+    #[test]
     fn refused_runs() {
         let mut reader = Reader::new();
         assert_eq!(reader.refused_brace_run(b"{a\nb}", 1), Ok((BraceRun::Lines(2), 4, 5)));
@@ -989,6 +1185,11 @@ mod tests {
             assert_eq!(raw::bridlesnow_consume_loose(null(), 0, 1, null_mut(), 0, null_mut(), 0, null_mut(), 0), 3);
             assert_eq!(raw::bridlesnow_consume_loose(b"{loose}".as_ptr(), 7, 1, null_mut(), 0, null_mut(), 0, null_mut(), 0), 12);
             assert_eq!(raw::bridlesnow_variants(null(), 0, null_mut(), 0, null_mut(), 0, null_mut(), 0), 9);
+            assert_eq!(raw::bridlesnow_index_build(null(), 0, null_mut(), 0, null_mut(), 0, null_mut(), 0, null_mut(), 0), 9);
+            assert_eq!(raw::bridlesnow_index_read(null(), 0, null_mut(), 0, null_mut(), 0), 14);
+            assert_eq!(raw::bridlesnow_index_find(null(), 0, null(), 0, null_mut(), 0), 14);
+            assert_eq!(raw::bridlesnow_index_find_row(null(), 0, null(), 0, 7, null(), 0, null_mut(), 0), 0);
+            assert_eq!(raw::bridlesnow_index_mend(null(), 0, null(), 0, 1, 1, null(), 0, null_mut(), 0, null_mut(), 0, null_mut(), 0, null_mut(), 0), 9);
             let mut join = vec![0u8; MAX];
             assert_eq!(raw::bridlesnow_variants(null(), 0, join.as_mut_ptr(), MAX, null_mut(), 0, null_mut(), 0), 0);
             let mut out = [255u8; 12];

@@ -32,12 +32,10 @@ use index::{INDEX_LIMIT, ROWS_LIMIT};
 use std::io::{self, BufWriter, Write};
 use std::sync::{Mutex, OnceLock};
 
-const FAMILIES: [&str; 14] = [
-    "leaves", "brace", "lines", "refused", "merge", "sheet", "rows", "quick", "merge2", "repeats", "variants", "report", "loose",
-    "columns",
+const FAMILIES: [&str; 16] = [
+    "leaves", "brace", "lines", "refused", "merge", "sheet", "rows", "quick", "merge2", "repeats", "variants", "report", "index",
+    "mends", "loose", "columns",
 ];
-/// Families of requests that the oracle alone answers as yet: only when named.
-const COMING: [&str; 2] = ["index", "mends"];
 const TEXT_LIMIT: usize = 65_535;
 
 // ---- Chance ----
@@ -3067,7 +3065,7 @@ fn main() -> io::Result<()> {
     let words: Vec<String> = std::env::args().skip(1).collect();
     let words: Vec<&str> = words.iter().map(String::as_str).collect();
     let number_of = |word: &str| word.parse::<u64>().ok();
-    let known = |name: &str| FAMILIES.contains(&name) || COMING.contains(&name);
+    let known = |name: &str| FAMILIES.contains(&name);
     let listed = |name: &str| known(name) || ["payload", "text", "refused-text", "bytes"].contains(&name);
     let mut to = BufWriter::with_capacity(1 << 20, io::stdout().lock());
     let mut out = Out { line: Vec::new() };

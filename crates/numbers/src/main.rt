@@ -2,7 +2,6 @@
 // reads one sheet from standard input; else the files that its arguments name, and for `-` standard input. Behind a first argument `--add` they are
 // reports, which are added up. Nothing is written where a file can't be read or is no report, and one line where a total would not fit.
 use base_refusals::Outcome;
-use base_refusals::Refusal;
 use set_writer::Wrote;
 use sheet_files::Sheet;
 use sheet_numbers::Reported;
@@ -82,20 +81,11 @@ fn turn_of(added: Added) -> Turn {
     let totals = added.totals;
     match outcome {
         Outcome::Refused(why) => {
-            write_refused(why);
+            sheet_files::say_refused(why);
             Turn { on: false, totals }
         }
         Outcome::Passed => Turn { on: true, totals },
     }
-}
-
-// Writes `refused`, a tab and a number.
-fn write_refused(why: Refusal) {
-    let mut field = [0u8; 21];
-    let n = text_digits::put_field(&mut field, 0, base_refusals::number(why) as u64);
-    sheet_files::say(b"refused");
-    sheet_files::say(set_table::bytes_of(&field, 0, n));
-    sheet_files::say(b"\n");
 }
 
 // With more than 100 files says on standard error after each 100 how many were read.

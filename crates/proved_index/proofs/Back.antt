@@ -26,7 +26,7 @@ use Rattle.sheet_records.specs.declared.Field.the-variants.{Unread, Read}
 use Rattle.sheet_records.specs.declared.IndexRow.{IndexRow}
 use Rattle.sheet_records.specs.declared.RecordAt.{RecordAt}
 use Rattle.sheet_records.specs.declared.RecordAt.the-variants.{Bad, Good}
-use Rattle.proved_index.proofs.Written.{byte-past, line-parts}
+use Rattle.sheet_records.proofs.Written.{byte-past, line-parts}
 
 -- ---- numbers
 

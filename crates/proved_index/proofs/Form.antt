@@ -13,16 +13,16 @@ use Rattle.base_lists.specs.Lists.{same}
 use Rattle.base_lists.proofs.Same.{same-refl, same-true}
 use Rattle.base_refusals.specs.declared.Outcome.the-variants as outcome
 use Rattle.base_refusals.specs.declared.Refusal.the-variants.{NotAnIndex}
-use Rattle.sheet_records.specs.Records.{Record, AllIn, numbersText, recordLine, indexHeader, indexText, rowAt, rowsAt, indexRows, IsIndex}
+use Rattle.sheet_records.specs.Records.{Record, AllIn, recordLine, indexHeader, indexText, rowAt, rowsAt, indexRows, IsIndex}
 use Rattle.sheet_records.specs.Computed.{Index, notIndex, rows, withRow, onRow, recordAt, recordIn, rowsFrom, headOf, indexBy, readIndex}
 use Rattle.sheet_records.specs.declared.IndexRow.{IndexRow}
 use Rattle.sheet_records.specs.declared.RecordAt.{RecordAt}
 use Rattle.sheet_records.specs.declared.RecordAt.the-variants.{Bad, Good}
 use Rattle.sheet_records.proofs.Further.{further}
 use Rattle.sheet_records.proofs.Lines.{row-next}
+use Rattle.sheet_records.proofs.Written.{row-reads}
 use Rattle.sheet_index.specs.Finding.{recordsBy}
 use Rattle.proved_index.specs.Form.{ReadIsIndex, IndexIsRead, OneList}
-use Rattle.proved_index.proofs.Written.{Reads, record-reads}
 use Rattle.proved_index.proofs.Back.{record-back}
 
 -- ---- what is written is read
@@ -30,18 +30,13 @@ use Rattle.proved_index.proofs.Back.{record-back}
 past-end : (t : List ℕ) (at : ℕ) → drop at t ≡ [] → length t ≤ at
 past-end t at d = omega (arith, sym (length-drop at t) ∙ ap length d)
 
-row-reads : (t : List ℕ) (at : ℕ) (r : Record) (s : List ℕ) → Reads t (recordAt t at) (at + length (numbersText (r .line) (r .count) (r .offset))) r s
-    → (recordAt t at ≡ Good (rowAt at r)) × ((recordIn t (rowAt at r) ≡ r) × (drop (rowAt at r .next) t ≡ s))
-unfolding rowAt
-row-reads t at r s x = (x .is, (x .says, x .on))
-
 from-reads : (left : ℕ) (t : List ℕ) (at : ℕ) (rs : List Record) → AllIn rs → drop at t ≡ flatMap recordLine rs → length t - at < left
     → (rowsFrom left t at ≡ rows (rowsAt at rs)) × (recordsBy t (rowsAt at rs) ≡ rs)
 unfolding rowsFrom AllIn flatMap onRow rowsAt
 from-reads zero t at rs w d h = absurd (omega arith)
 from-reads (suc left) t at [] w d h = (rw (le-ltb at (length t) (past-end t at d)), refl)
 from-reads (suc left) t at (r ∷ rs) w d h =
-    let x = row-reads t at r (flatMap recordLine rs) (record-reads t at r (flatMap recordLine rs) (w .0) d) in
+    let x = row-reads t at r (flatMap recordLine rs) (w .0) d in
     let k : length t - at ≡ length (recordLine r) + length (flatMap recordLine rs) = sym (length-drop at t) ∙ (ap length d ∙ length-append (recordLine r) (flatMap recordLine rs)) in
     let f = further t at (rowAt at r) (x .0) in
     let s : at < length t = omega (arith, k, row-next at r, f) in

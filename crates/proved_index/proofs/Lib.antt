@@ -1,5 +1,6 @@
 -- Theorems about the index.
-pub mod Written
 pub mod Back
 pub mod Form
 pub mod Found
+pub mod Built
+pub mod Printed

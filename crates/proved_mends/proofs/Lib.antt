@@ -1,3 +1,4 @@
 -- The theorems of proved_mends.
 pub mod Parts
 pub mod Replaced
+pub mod Mended

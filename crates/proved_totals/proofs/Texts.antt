@@ -17,7 +17,8 @@ use Rattle.text_digits.specs.declared.Decimal as decimals
 use Rattle.text_digits.specs.declared.Decimal.the-variants.{None, Is}
 use Rattle.text_digits.proofs.Decimals.{decimal-le}
 use Rattle.proved_valves.specs.Numbers.{IsNumber}
-use Rattle.proved_valves.proofs.Numbers.{decimal-one, decimal-more, read-is, is-read}
+use Rattle.text_numbers.proofs.Numbers.{decimal-one, decimal-more}
+use Rattle.proved_valves.proofs.Numbers.{read-is, is-read}
 use Rattle.sheet_totals.specs.Totals.{totalPlaces, maxTotal, overflows, IsReport}
 use Rattle.sheet_totals.proofs.Sums.{split-or}
 use Rattle.sheet_numbers.specs.Text.{totalsText, maxReport, IsTotalsText}

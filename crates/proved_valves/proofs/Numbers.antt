@@ -2,40 +2,21 @@
 -- Assumes nothing.
 use mathlib.Core.Path.{_≡_, refl, sym, _∙_, ap}
 use mathlib.Core.Bool.{Bool, true, false, cond}
-use mathlib.Core.List.{List, [], _∷_, _++_, append-assoc, append-nil, foldl, foldl-append}
-use Prim.Native.Nat.{ℕ, zero, suc, _+_, _-_, _*_, _/_, _%_, _≤_, _<_}
+use mathlib.Core.List.{List, [], _∷_, _++_, append-assoc, append-nil}
+use Prim.Native.Nat.{ℕ, _+_, _-_, _*_, _/_, _%_, _≤_, _<_}
 use native.Mathlib.Nat.{div-add-mod, mod-lt}
 use native.Mathlib.Omega.{arith}
-use borrow.Author.Tests.{ltb-true, ltb-false, lt-ltb, le-leb, eqb-true, eqb-false, ne-eqb, leb-true}
-use lib.Dec.{eqb, leb, ltb}
-use Rattle.io.specs.Digits.{digits}
-use Rattle.base_bytes.specs.Bytes.{isDigit, within}
-use Rattle.text_digits.specs.Decimal.{placesIn, places, decimal}
+use borrow.Author.Tests.{eqb-true, eqb-false, leb-true}
+use lib.Dec.{eqb, leb}
+use Rattle.base_bytes.specs.Bytes.{isDigit}
+use Rattle.text_digits.specs.Decimal.{decimal}
 use Rattle.text_digits.specs.Digits.{bounded, firstDigit, grown, digitsStep, digitsFrom, digitsOf, readOut, numberIn}
 use Rattle.text_digits.specs.declared.Digits as state
 use Rattle.text_digits.specs.declared.Digits.the-variants.{NoDigit, Zero, Number, Bad}
 use Rattle.text_digits.specs.declared.Decimal.the-variants.{Is}
-use Rattle.text_digits.proofs.Decimals.{fewest, fewest-is, more}
-use Rattle.text_digits.proofs.Steps.{bounded-in, digit-range}
+use Rattle.text_digits.proofs.Steps.{digit-range}
+use Rattle.text_numbers.proofs.Numbers.{decimal-one, decimal-more, number-read}
 use Rattle.proved_valves.specs.Numbers.{IsNumber, ReadExactly}
-
--- ---- how a decimal grows
-
-pub decimal-one : (n : ℕ) → n < 10 → decimal n ≡ (48 + n) ∷ []
-unfolding decimal places placesIn
-decimal-one n h =
-    let m : n % 10 ≡ n = omega (arith, div-add-mod n 10, mod-lt n {m = 10} (omega arith)) in
-    rw (one n, m, lt-ltb n 10 h)
-  where
-    one : (k : ℕ) → placesIn k n ≡ 1
-    one zero = refl
-    one (suc k) = rw (lt-ltb n 10 h)
-
-pub decimal-more : (n : ℕ) → 10 ≤ n → decimal n ≡ decimal (n / 10) ++ ((48 + n % 10) ∷ [])
-unfolding decimal
-decimal-more n h =
-    let p : suc (places (n / 10)) ≡ places n = fewest-is n (suc (places (n / 10))) (more n (places (n / 10)) h (fewest (n / 10))) in
-    rw (← p, lt-ltb (n % 10) 10 (mod-lt n {m = 10} (omega arith)))
 
 -- a digit more behind the digits of n
 behind : (n d : ℕ) → 1 ≤ n → d < 10 → decimal (n * 10 + d) ≡ decimal n ++ ((48 + d) ∷ [])
@@ -89,51 +70,6 @@ unfolding digitsFrom
 fold-keeps most s d [] e = rw append-nil e
 fold-keeps most s d (b ∷ t) e = rw append-assoc at (fold-keeps most (s ++ (b ∷ [])) (digitsStep most d b) t (step-keeps most s d b e))
 
--- ---- what stands there is read
-
-abbrev stateOf : ℕ → state.Digits
-stateOf zero = Zero
-stateOf (suc n) = Number (suc n)
-
-digit-yes : (d : ℕ) → d < 10 → isDigit (48 + d) ≡ true
-unfolding isDigit within
-digit-yes d h = rw (le-leb 48 (48 + d) (omega arith), le-leb (48 + d) 57 (omega arith))
-
-begins : (most n : ℕ) → n < 10 → n ≤ most → firstDigit most (48 + n) ≡ stateOf n
-unfolding firstDigit isDigit within
-begins most zero h l = refl
-begins most (suc n) h l =
-    let e : 48 + suc n - 48 ≡ suc n = omega arith in
-    rw (digit-yes (suc n) h, ne-eqb (48 + suc n) 48 (λ q. omega arith), e) (sym (bounded-in most (suc n) l))
-
-grows : (most n d : ℕ) → d < 10 → n * 10 + d ≤ most → grown most n (48 + d) ≡ Number (n * 10 + d)
-unfolding grown
-grows most n d h l =
-    let e : 48 + d - 48 ≡ d = omega arith in
-    rw (digit-yes d h, e) (sym (bounded-in most (n * 10 + d) l))
-
-stateOf-some : (n : ℕ) → 1 ≤ n → stateOf n ≡ Number n
-stateOf-some zero h = absurd (omega arith)
-stateOf-some (suc n) h = refl
-
-reads : (most left n : ℕ) → n ≤ left → n ≤ most → digitsOf most (decimal n) ≡ stateOf n
-unfolding digitsOf digitsFrom digitsStep
-reads most zero n h l = rw (decimal-one n (omega arith)) (begins most n (omega arith) l)
-reads most (suc left) n h l = go (ltb n 10) refl (reads most left (n / 10))
-  where
-    go : (x : Bool) → ltb n 10 ≡ x → (n / 10 ≤ left → n / 10 ≤ most → foldl (digitsStep most) NoDigit (decimal (n / 10)) ≡ stateOf (n / 10)) → foldl (digitsStep most) NoDigit (decimal n) ≡ stateOf n
-    go true q ih = rw (decimal-one n (ltb-true n 10 q)) (begins most n (ltb-true n 10 q) l)
-    go false q ih =
-        let f : 10 ≤ n = ltb-false n 10 q in
-        let r : n % 10 < 10 = mod-lt n {m = 10} (omega arith) in
-        let m : n / 10 * 10 + n % 10 ≡ n = omega (arith, div-add-mod n 10) in
-        rw (decimal-more n f, foldl-append, ih (omega (arith, div-add-mod n 10)) (omega (arith, div-add-mod n 10)), stateOf-some (n / 10) (omega (arith, div-add-mod n 10)), stateOf-some n (omega arith))
-        (grows most (n / 10) (n % 10) r (omega arith) ∙ ap Number m)
-
-number-stateOf : (n : ℕ) → readOut (stateOf n) ≡ Is n
-number-stateOf zero = refl
-number-stateOf (suc n) = refl
-
 -- ---- what is read is the rule's number, and each of the rule's numbers is read
 
 pub read-is : {most n : ℕ} {s : List ℕ} → numberIn most s ≡ Is n → IsNumber most s n
@@ -147,8 +83,7 @@ read-is {most} {n} {s} e = go (digitsFrom most NoDigit s) (fold-keeps most [] No
     go Bad m f = let g : _≡_ {A = ℕ} 0 1 = cc in absurd (omega arith)
 
 pub is-read : {most n : ℕ} {s : List ℕ} → IsNumber most s n → numberIn most s ≡ Is n
-unfolding numberIn
-is-read {most} {n} h = rw (h .written) (ap readOut (reads most n n (omega arith) (h .within)) ∙ number-stateOf n)
+is-read {most} {n} h = rw (h .written) (number-read most n (h .within))
 
 -- so no two numbers are written alike
 pub decimal-apart : (m n : ℕ) → decimal m ≡ decimal n → m ≡ n

@@ -10,6 +10,12 @@ struct State {
     more: bool,
 }
 
+// How many bytes came, and how many the buffer then has.
+struct Came {
+    n: usize,
+    have: usize,
+}
+
 // How far the lines of a buffer have been answered, and where the next answer goes.
 struct Answered {
     from: usize,
@@ -23,6 +29,9 @@ pub(crate) fn answer_all(
     a: &mut [u8],
     b: &mut [u8],
     join: &mut [u8],
+    index: &mut [u8],
+    table: &mut [usize],
+    laid: &mut [u8],
     output: &mut [u8],
 ) {
     let mut s = State {
@@ -32,7 +41,7 @@ pub(crate) fn answer_all(
     };
     let mut turns = u64::MAX;
     while turns > 0 {
-        s = turn(input, a, b, join, output, s);
+        s = turn(input, a, b, join, index, table, laid, output, s);
         if !s.more {
             return;
         }
@@ -46,18 +55,45 @@ fn turn(
     a: &mut [u8],
     b: &mut [u8],
     join: &mut [u8],
+    index: &mut [u8],
+    table: &mut [usize],
+    laid: &mut [u8],
     output: &mut [u8],
     s: State,
 ) -> State {
-    let n = fill(input, s.read);
-    let have = ended(input, s.read, n);
-    let done = answer_lines(fields::part(input, 0, have), a, b, join, output, s.at);
-    let left = shift(input, done.from, have);
+    let came = take(input, s.read);
+    let have = came.have;
+    let done = answer_lines(
+        fields::part(input, 0, have),
+        a,
+        b,
+        join,
+        index,
+        table,
+        laid,
+        output,
+        s.at,
+    );
     State {
-        read: shortened(input, left),
-        at: flushed(output, done.at, n),
-        more: n > 0,
+        read: keep(input, done.from, have),
+        at: flushed(output, done.at, came.n),
+        more: came.n > 0,
     }
+}
+
+// Reads once behind the bytes that wait.
+fn take(input: &mut [u8], read: usize) -> Came {
+    let n = fill(input, read);
+    Came {
+        n,
+        have: ended(input, read, n),
+    }
+}
+
+// Keeps what waits for its LF, and answers how much it is.
+fn keep(input: &mut [u8], from: usize, have: usize) -> usize {
+    let left = shift(input, from, have);
+    shortened(input, left)
 }
 
 // How many bytes the buffer has where n more came. At the end of the input a line may lack its LF, and is given it.
@@ -103,6 +139,9 @@ fn answer_lines(
     a: &mut [u8],
     b: &mut [u8],
     join: &mut [u8],
+    index: &mut [u8],
+    table: &mut [usize],
+    laid: &mut [u8],
     output: &mut [u8],
     at: usize,
 ) -> Answered {
@@ -113,9 +152,20 @@ fn answer_lines(
         if lines.len() <= end {
             return Answered { from, at: to };
         }
-        to = answer(fields::part(lines, from, end), a, b, join, output, to);
+        let next = end + 1;
+        to = answer(
+            fields::part(lines, from, end),
+            a,
+            b,
+            join,
+            index,
+            table,
+            laid,
+            output,
+            to,
+        );
         to = out::end_line(output, to);
-        from = end + 1;
+        from = next;
     }
     Answered { from, at: to }
 }

@@ -5,6 +5,7 @@ mod by_line;
 mod columns;
 mod dealers;
 mod fields;
+mod indexes;
 mod input;
 mod leaves;
 mod loose;
@@ -35,12 +36,45 @@ fn main() {
     let mut a = [0u8; TEXT];
     let mut b = [0u8; TEXT];
     let mut join = [255u8; JOIN];
+    let mut index = [0u8; indexes::INDEX];
+    let mut table = [0usize; indexes::TABLE];
+    let mut laid = [0u8; indexes::INDEX];
     let mut output = [0u8; OUTPUT];
-    input::answer_all(&mut input, &mut a, &mut b, &mut join, &mut output);
+    input::answer_all(
+        &mut input,
+        &mut a,
+        &mut b,
+        &mut join,
+        &mut index,
+        &mut table,
+        &mut laid,
+        &mut output,
+    );
 }
 
-// Answers one request, its text or texts laid into a and b, behind what stands in the output up to `at`.
+// Answers one request, its text or texts laid into a and b and an index into `index`, behind what stands in the output up to `at`.
 pub(crate) fn answer(
+    line: &[u8],
+    a: &mut [u8],
+    b: &mut [u8],
+    join: &mut [u8],
+    index: &mut [u8],
+    table: &mut [usize],
+    laid: &mut [u8],
+    output: &mut [u8],
+    at: usize,
+) -> usize {
+    let word = indexes::word_of(line);
+    if word < indexes::NONE {
+        let to = indexes::answer(word, line, a, b, join, index, table, laid, output, at);
+        by_line::clear(join);
+        return to;
+    }
+    answer_sheets(line, a, b, join, output, at)
+}
+
+// Answers a request about sheets.
+fn answer_sheets(
     line: &[u8],
     a: &mut [u8],
     b: &mut [u8],

@@ -111,11 +111,11 @@ fn heeded(word: usize, cap: Said) -> Said {
     cap
 }
 
-fn put_error(output: &mut [u8], at: usize) -> usize {
+pub(crate) fn put_error(output: &mut [u8], at: usize) -> usize {
     reply::put_phrase(output, at, reply::ERROR)
 }
 
-fn put_refused(output: &mut [u8], at: usize, why: Refusal) -> usize {
+pub(crate) fn put_refused(output: &mut [u8], at: usize, why: Refusal) -> usize {
     let to = reply::put_phrase(output, at, reply::REFUSED);
     out::put_number(output, to, fields::wide(base_refusals::number(why)))
 }

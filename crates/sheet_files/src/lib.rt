@@ -1,5 +1,6 @@
 // The sheets that a program is to read: the files that its arguments name, one after the other, or standard input where there are none. What stands in
 // files and in arguments is nothing that can be proved, so these functions promise no more than that they are safe.
+use base_refusals::Refusal;
 
 // One byte more than a sheet may have is enough to refuse it, so no further one is read.
 pub const TEXT: usize = base_refusals::MAX_TEXT + 1;
@@ -17,6 +18,26 @@ pub fn count() -> usize {
         return 1;
     }
     n - 1
+}
+
+// No argument is longer, as Linux hands them out.
+pub const WORD: usize = 131072;
+
+// How many arguments there are behind the program's own name.
+pub fn words() -> usize {
+    let n = os::arg_count();
+    if n == 0 {
+        return 0;
+    }
+    n - 1
+}
+
+// Lays an argument, counted from 0, at the front of lent memory, and answers how many bytes it has.
+pub fn word(i: usize, out: &mut [u8]) -> usize {
+    if i == usize::MAX {
+        return 0;
+    }
+    os::arg(i + 1, out)
 }
 
 // Whether the first argument is that word.
@@ -93,6 +114,24 @@ fn read_named(name: &[u8], text: &mut [u8]) -> Sheet {
     let n = io::read_full(fd, text);
     libc::close(fd);
     Sheet::Bytes(n)
+}
+
+// Writes `refused`, a tab and a number.
+pub fn say_refused(why: Refusal) {
+    say(b"refused\t");
+    say_number(wide(base_refusals::number(why)));
+    say(b"\n");
+}
+
+fn wide(n: u8) -> usize {
+    n as usize
+}
+
+// Writes a number in decimal.
+pub fn say_number(n: usize) {
+    let mut digits = [0u8; 20];
+    let k = io::decimal(n as u64, &mut digits);
+    say(&digits[..k]);
 }
 
 // Writes bytes to standard error.

@@ -56,7 +56,7 @@ pub record Measures (t join₀ join : List ℕ) (at line records bytes : ℕ) : 
   pub few : records ≤ at
   pub short : bytes ≤ 19 + 65599 * at
 
-index-long : (rs : List Record) → length (indexText rs) ≡ 19 + length (linesText rs)
+pub index-long : (rs : List Record) → length (indexText rs) ≡ 19 + length (linesText rs)
 unfolding indexText
 index-long rs = length-append indexHeader (linesText rs) ∙ omega (arith, header-long)
 

@@ -12,6 +12,7 @@ use lib.ListN.{length, getD, take, drop, length-drop}
 use lib.Seq.{slice, sets, length-sets, drop-drop, getD-drop}
 use Rattle.base_lists.specs.Lists.{same, over}
 use Rattle.base_lists.proofs.Sets.{sets-append}
+use Rattle.base_refusals.specs.Numbers.{passedPaper}
 use Rattle.base_refusals.specs.Orders.{Ground, inOrder, onPaper}
 use Rattle.base_refusals.specs.declared.Refusal.{Refusal}
 use Rattle.base_refusals.specs.declared.Refusal.the-variants.{NotAnIndex, TableFull}
@@ -26,8 +27,8 @@ use Rattle.sheet_records.specs.declared.RecordAt.{RecordAt}
 use Rattle.sheet_records.specs.declared.RecordAt.the-variants.{Bad, Good}
 use Rattle.sheet_records.proofs.Further as walk
 use Rattle.sheet_records.proofs.Lines.{front-laid}
-use Rattle.sheet_index.specs.Building.{isRead, rowsRead, countOrder, countedOf, countedTable, countedPaper}
-use Rattle.sheet_index.specs.Finding.{isId, hasId, firstWith, recordsBy, findRecord, firstRow, tableRows, findRow}
+use Rattle.sheet_index.specs.Building.{isRead, rowsRead, formOrder, countOrder, countedOf, countedTable, countedPaper}
+use Rattle.sheet_index.specs.Finding.{isId, hasId, firstWith, valuesWith, recordsBy, findRecord, firstRow, tableRows, findRow, lookPaper}
 use Rattle.sheet_index.specs.Inner.{countedBy, orFirst, foundAmong}
 use Rattle.sheet_index.specs.declared.Counted as counted
 use Rattle.sheet_index.specs.declared.Counted.the-variants as count
@@ -261,6 +262,26 @@ unfolding Only
 only-not t r e = rw e at (only t)
 
 -- ---- the whole of a look-up
+
+first-paper : (id : List ℕ) (rs : List Record) → lookPaper (firstWith id rs) ≡ passedPaper (valuesWith id rs)
+unfolding firstWith valuesWith
+first-paper id [] = refl
+first-paper id (r ∷ rs) = go (hasId id r) (first-paper id rs)
+  where
+    go : (x : Bool) → lookPaper (firstWith id rs) ≡ passedPaper (valuesWith id rs)
+        → lookPaper (cond x (look.Row (r .line) (r .count) (r .offset)) (firstWith id rs)) ≡ passedPaper (cond x (r .line ∷ r .count ∷ r .offset ∷ []) (valuesWith id rs))
+    go true h = refl
+    go false h = h
+
+pub find-paper : (t id : List ℕ) → lookPaper (findRecord t id) ≡ onPaper (formOrder t) (valuesWith id (recordsBy t (rowsRead (readIndex t))))
+unfolding findRecord onPaper inOrder
+find-paper t id =
+    let rs : List Record = recordsBy t (rowsRead (readIndex t)) in
+    paper-by lookPaper look.Refused (valuesWith id rs) (λ r. refl) (formOrder t) [] {next = firstWith id rs} (first-paper id rs)
+
+pub row-paper : (t table id : List ℕ) (n : ℕ) → lookPaper (findRow t table n id) ≡ onPaper [] (valuesWith id (recordsBy t (tableRows n table)))
+unfolding findRow onPaper inOrder
+row-paper t table id n = first-paper id (recordsBy t (tableRows n table))
 
 module _ (t id : List ℕ) where
   found-is : foundAmong t look.Missing id (readIndex t) ≡ findRecord t id

@@ -36,6 +36,16 @@ module _ {A : Type 0} (f : Refusal → A) (x : A) where
   order-past (Ground.lacking q true ∷ gs) hs e = order-past gs hs e
   order-past (Ground.lacking q false ∷ gs) hs e = let z : _≡_ {A = ℕ} 0 1 = cc in absurd (omega arith)
 
+-- where no ground of both parts holds, none of either does
+pub order-parts : (gs hs : List Ground) → inOrder outcome.Refused (gs ++ hs) outcome.Passed ≡ outcome.Passed
+    → (inOrder outcome.Refused gs outcome.Passed ≡ outcome.Passed) × (inOrder outcome.Refused hs outcome.Passed ≡ outcome.Passed)
+unfolding inOrder
+order-parts [] hs e = (refl, e)
+order-parts (Ground.given q true ∷ gs) hs e = let z : _≡_ {A = ℕ} 0 1 = cc in absurd (omega arith)
+order-parts (Ground.given q false ∷ gs) hs e = order-parts gs hs e
+order-parts (Ground.lacking q true ∷ gs) hs e = order-parts gs hs e
+order-parts (Ground.lacking q false ∷ gs) hs e = let z : _≡_ {A = ℕ} 0 1 = cc in absurd (omega arith)
+
 -- ---- one thing laid over another
 
 pub over-over : (ys p b : List ℕ) → over ys (over p b) ≡ over (over ys p) b

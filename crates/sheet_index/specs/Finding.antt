@@ -27,6 +27,11 @@ unfoldable pub firstWith : List ℕ → List Record → LookUp
 firstWith id [] = Missing
 firstWith id (r ∷ rs) = cond (hasId id r) (Row (r .line) (r .count) (r .offset)) (firstWith id rs)
 
+-- its first line, line count and offset, or nothing where no record has it
+unfoldable pub valuesWith : List ℕ → List Record → List ℕ
+valuesWith id [] = []
+valuesWith id (r ∷ rs) = cond (hasId id r) (r .line ∷ r .count ∷ r .offset ∷ []) (valuesWith id rs)
+
 -- what rows say of the index text t
 abbrev pub recordsBy : List ℕ → List IndexRow → List Record
 recordsBy t es = map (recordIn t) es

@@ -22,8 +22,8 @@ ghost use Rattle.sheet_records.specs.Listed.{recordsOf};
 ghost use Rattle.sheet_records.specs.Writing.{putOf, lineOver, tableSize};
 ghost use Rattle.sheet_records.specs.Computed.{readIndex, rowsFrom, idIn, recordIn};
 ghost use Rattle.sheet_index.specs.declared.LookUp.the-variants.{Missing};
-ghost use Rattle.sheet_index.specs.Building.{laidBy, buildOrder, builtOf, builtText, builtTable, builtTries, builtPaper, isRead, rowsRead, countOrder, countedOf, countedTable, countedPaper};
-ghost use Rattle.sheet_index.specs.Finding.{isId, firstWith, findRecord, findRow, lookPaper};
+ghost use Rattle.sheet_index.specs.Building.{laidBy, buildOrder, builtOf, builtText, builtTable, builtTries, builtPaper, isRead, rowsRead, formOrder, countOrder, countedOf, countedTable, countedPaper};
+ghost use Rattle.sheet_index.specs.Finding.{isId, firstWith, valuesWith, recordsBy, findRecord, tableRows, findRow, lookPaper};
 ghost use Rattle.sheet_index.specs.Inner.{setRecord, blockAdds, mostLine, addsSizes, sizesOf, putAdded, addedOver, roomToJoin, checkedOrder, checkedBuilt, countedBy, orFirst, foundAmong};
 
 // How many records, and how many bytes of index text, or why none.
@@ -352,7 +352,7 @@ fn find_from<'a>(index: &'a [u8], id: &'a [u8]) -> LookUp
 // The first record of an id in an index text, which is read whole.
 pub fn find_record<'a>(index: &'a [u8], id: &'a [u8]) -> LookUp
     ensures { λ r. ⌜ r ≡ findRecord (now (index .entry)) (now (id .entry)) ⌝ }
-    ensures { λ r. ⌜ lookPaper r ≡ lookPaper (findRecord (now (index .entry)) (now (id .entry))) ⌝ }
+    ensures { λ r. ⌜ lookPaper r ≡ onPaper (formOrder (now (index .entry))) (valuesWith (now (id .entry)) (recordsBy (now (index .entry)) (rowsRead (readIndex (now (index .entry)))))) ⌝ }
 {
     match sheet_records::head_of(index) {
         Outcome::Refused(why) => LookUp::Refused(why),
@@ -363,7 +363,7 @@ pub fn find_record<'a>(index: &'a [u8], id: &'a [u8]) -> LookUp
 // The first record of an id over rows already read: n of them, or as many as the table has.
 pub fn find_row<'a>(index: &'a [u8], table: &[usize], n: usize, id: &'a [u8]) -> LookUp
     ensures { λ r. ⌜ r ≡ findRow (now (index .entry)) (now (table .entry)) n (now (id .entry)) ⌝ }
-    ensures { λ r. ⌜ lookPaper r ≡ lookPaper (findRow (now (index .entry)) (now (table .entry)) n (now (id .entry))) ⌝ }
+    ensures { λ r. ⌜ lookPaper r ≡ onPaper [] (valuesWith (now (id .entry)) (recordsBy (now (index .entry)) (tableRows n (now (table .entry))))) ⌝ }
 {
     let mut k = 0;
     let mut i = 0;

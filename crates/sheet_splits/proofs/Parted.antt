@@ -44,7 +44,7 @@ flat-lines y e = go (lines y) (first y e)
 
 -- ---- farther on, once and again
 
-later-none : (rs : List Record) → map (movedOn 0 0) rs ≡ rs
+pub later-none : (rs : List Record) → map (movedOn 0 0) rs ≡ rs
 later-none [] = refl
 later-none (r ∷ rs) = rw (zero-add (r .line), zero-add (r .offset), later-none rs)
 

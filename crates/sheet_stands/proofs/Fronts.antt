@@ -46,14 +46,14 @@ short-front [] t h = absurd (omega arith)
 short-front (x ∷ xs) [] h = refl
 short-front (x ∷ xs) (b ∷ t) h = rw (short-front xs t (omega arith)) (never (eqb b x))
 
-front-same : (xs t : List ℕ) → length xs ≤ length t → same (take (length xs) t) xs ≡ isFront xs t
+pub front-same : (xs t : List ℕ) → length xs ≤ length t → same (take (length xs) t) xs ≡ isFront xs t
 unfolding isFront same
 front-same [] t h = refl
 front-same (x ∷ xs) [] h = absurd (omega arith)
 front-same (x ∷ xs) (b ∷ t) h = ap (λ r. eqb b x && r) (front-same xs t (omega arith))
 
 module _ (t : List ℕ) (at : ℕ) where
-  stands-append : (xs ys : List ℕ) → standsAt t at (xs ++ ys) ≡ (standsAt t at xs && standsAt t (at + length xs) ys)
+  pub stands-append : (xs ys : List ℕ) → standsAt t at (xs ++ ys) ≡ (standsAt t at xs && standsAt t (at + length xs) ys)
   stands-append xs ys = rw (← drop-drop (length xs) at t) (front-append ys xs (drop at t))
 
   stands-short : (xs : List ℕ) → length t < at + length xs → 0 < length xs → standsAt t at xs ≡ false

@@ -1,4 +1,4 @@
--- `main` lends its five buffers. Their lengths are cited by a law, since an array is not counted through here.
+-- `main` lends its eight buffers. Their lengths are cited by a law, since an array is not counted through here.
 -- Assumes nothing.
 use borrow.Author.Needs.{needs}
 use mathlib.Core.Path.{sym}
@@ -20,7 +20,16 @@ slice-aggregate-answer-all-4 : tie.Need-slice-aggregate-answer-all-4
 slice-aggregate-answer-all-4 c = sym (length-replicate {A = ℕ} 65535 255)
 
 slice-aggregate-answer-all-5 : tie.Need-slice-aggregate-answer-all-5
-slice-aggregate-answer-all-5 c = sym (length-replicate {A = ℕ} 1048576 0)
+slice-aggregate-answer-all-5 c = sym (length-replicate {A = ℕ} 262144 0)
+
+slice-aggregate-answer-all-6 : tie.Need-slice-aggregate-answer-all-6
+slice-aggregate-answer-all-6 c = sym (length-replicate {A = ℕ} 218450 0)
+
+slice-aggregate-answer-all-7 : tie.Need-slice-aggregate-answer-all-7
+slice-aggregate-answer-all-7 c = sym (length-replicate {A = ℕ} 262144 0)
+
+slice-aggregate-answer-all-8 : tie.Need-slice-aggregate-answer-all-8
+slice-aggregate-answer-all-8 c = sym (length-replicate {A = ℕ} 1048576 0)
 
 answer-all-requires : tie.Need-answer-all-requires
 answer-all-requires c κs = search needs
@@ -37,5 +46,8 @@ main-spec =
     slice-aggregate-answer-all-3
     slice-aggregate-answer-all-4
     slice-aggregate-answer-all-5
+    slice-aggregate-answer-all-6
+    slice-aggregate-answer-all-7
+    slice-aggregate-answer-all-8
     answer-all-requires
     returns)

@@ -1,4 +1,4 @@
-use Rattle.sheet_records.proofs.Lines.{told}
+use Rattle.base_refusals.proofs.Said.{said}
 use Rattle.sheet_index.specs.Finding.{lookPaper}
 use Rattle.sheet_index.proofs.Rows as laws
 use borrow.Author.Needs.{needs}
@@ -18,10 +18,10 @@ find-from-requires : tie.Need-find-from-requires
 find-from-requires c κs = search needs
 
 returns : tie.Need-returns
-returns c = told lookPaper (laws.find-refused _ _ (c .before .before .before .head-of .ensures .0) (c .before .why .given .1))
+returns c = said lookPaper (laws.find-paper _ _) (laws.find-refused _ _ (c .before .before .before .head-of .ensures .0) (c .before .why .given .1))
 
 returns-2 : tie.Need-returns-2
-returns-2 c = told lookPaper (laws.find-passed _ _ (c .before .before .before .head-of .ensures .0) (c .before .enum-told .given .1) (c .find-from .ensures))
+returns-2 c = said lookPaper (laws.find-paper _ _) (laws.find-passed _ _ (c .before .before .before .head-of .ensures .0) (c .before .enum-told .given .1) (c .find-from .ensures))
 
 pub find-record-spec : {M : Type 1} → statement M
 find-record-spec =

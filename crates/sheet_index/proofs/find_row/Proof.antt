@@ -1,6 +1,6 @@
 use Prim.Native.Nat.{_-_}
 use native.Mathlib.Omega.{arith}
-use Rattle.sheet_records.proofs.Lines.{told}
+use Rattle.base_refusals.proofs.Said.{said}
 use Rattle.sheet_index.specs.Finding.{lookPaper}
 use Rattle.sheet_index.proofs.Rows as laws
 use borrow.Author.Needs.{needs}
@@ -17,13 +17,13 @@ rows-holds : tie.Need-rows-holds Inv-rows μ-rows
 rows-holds c = laws.seeks-start _ _ _ _
 
 returns : tie.Need-returns Inv-rows μ-rows
-returns c = told lookPaper (laws.seeks-many (c .before .rows .inv) (omega (arith, c .if1 .taken)))
+returns c = said lookPaper (laws.row-paper _ _ _ _) (laws.seeks-many (c .before .rows .inv) (omega (arith, c .if1 .taken)))
 
 sub-if2 : tie.Need-sub-if2 Inv-rows μ-rows
 sub-if2 c = omega (arith, c .before .rows .inv .within)
 
 returns-2 : tie.Need-returns-2 Inv-rows μ-rows
-returns-2 c = told lookPaper (laws.seeks-few (c .before .before .rows .inv) (omega (arith, c .before .if1 .left)) (omega (arith, c .if2 .taken)))
+returns-2 c = said lookPaper (laws.row-paper _ _ _ _) (laws.seeks-few (c .before .before .rows .inv) (omega (arith, c .before .if1 .left)) (omega (arith, c .if2 .taken)))
 
 add-has-id : tie.Need-add-has-id Inv-rows μ-rows
 add-has-id c = search needs
@@ -71,7 +71,7 @@ shared-slice-read-t27 : tie.Need-shared-slice-read-t27 Inv-rows μ-rows
 shared-slice-read-t27 c = search needs
 
 returns-3 : tie.Need-returns-3 Inv-rows μ-rows
-returns-3 c = told lookPaper (laws.seeks-found (c .before .before .before .before .before .before .before .before .before .rows .inv) (omega (arith, c .before .before .before .before .before .before .before .before .if1 .left)) (omega (arith, c .before .before .before .before .before .before .before .if2 .left)) (c .before .before .before .before .has-id .ensures) (c .before .before .before .if3 .taken))
+returns-3 c = said lookPaper (laws.row-paper _ _ _ _) (laws.seeks-found (c .before .before .before .before .before .before .before .before .before .rows .inv) (omega (arith, c .before .before .before .before .before .before .before .before .if1 .left)) (omega (arith, c .before .before .before .before .before .before .before .if2 .left)) (c .before .before .before .before .has-id .ensures) (c .before .before .before .if3 .taken))
 
 add-k : tie.Need-add-k Inv-rows μ-rows
 add-k c = omega (arith, c .before .before .before .before .before .if1 .left)

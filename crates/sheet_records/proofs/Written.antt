@@ -1,62 +1,40 @@
 -- A record's line is read as that record.
 -- Assumes nothing.
 use mathlib.Core.Path.{_≡_, refl, sym, _∙_, ap}
-use mathlib.Core.Bool.{Bool, true, false}
+use mathlib.Core.Bool.{true}
 use mathlib.Core.List.{List, [], _∷_, _++_, append-assoc}
-use Prim.Native.Nat.{ℕ, zero, suc, _+_, _-_, _/_, _%_, _<_, _≤_}
-use native.Mathlib.Nat.{div-add-mod, mod-lt}
+use Prim.Native.Nat.{ℕ, suc, _+_, _-_, _≤_}
 use native.Mathlib.Omega.{arith}
-use borrow.Author.Tests.{ltb-true, ltb-false, lt-ltb, le-ltb, le-leb}
-use lib.Dec.{ltb}
+use borrow.Author.Tests.{lt-ltb, le-ltb}
 use lib.ListN.{length, take, drop, length-drop, length-append}
 use lib.Seq.{take-append-seam}
 use Rattle.base_lists.specs.Lists.{all, run}
-use Rattle.base_lists.proofs.Scan.{all-append}
 use Rattle.base_lists.proofs.More.{stops, run-is}
 use Rattle.base_lists.proofs.Parts.{drop-past, slice-add}
 use Rattle.base_bytes.specs.Bytes.{isDigit, within}
 use Rattle.text_digits.specs.Decimal.{decimal}
-use Rattle.proved_valves.proofs.Numbers.{decimal-one, decimal-more, is-read}
-use Rattle.sheet_records.specs.Records.{RecordId, noId, anId, Record, InBounds, idFits, idField, notLf, mostNumber, numbersText, recordLine, rowBy}
+use Rattle.text_numbers.proofs.Numbers.{number-read, all-digits}
+use Rattle.sheet_records.specs.Records.{RecordId, noId, anId, Record, InBounds, idFits, idField, notLf, mostNumber, numbersText, recordLine, rowBy, rowAt}
 use Rattle.sheet_records.specs.Computed.{leastNumber, fieldOf, fieldAt, onField, behindTab, idEnd, idAt, endAt, offsetAt, countAt, recordAt, recordIn}
 use Rattle.sheet_records.proofs.Lines.{numbers-long}
 use Rattle.sheet_records.specs.declared.Field.the-variants.{Read}
 use Rattle.sheet_records.specs.declared.RecordAt.{RecordAt}
 use Rattle.sheet_records.specs.declared.RecordAt.the-variants.{Good}
 
 -- ---- numbers
 
-digit-yes : (d : ℕ) → d < 10 → isDigit (48 + d) ≡ true
-unfolding isDigit within
-digit-yes d h = rw (le-leb 48 (48 + d) (omega arith), le-leb (48 + d) 57 (omega arith))
-
-digits-in : (left n : ℕ) → n ≤ left → all isDigit (decimal n) ≡ true
-unfolding all
-digits-in zero n h = rw (decimal-one n (omega arith), digit-yes n (omega arith))
-digits-in (suc left) n h = go (ltb n 10) refl (digits-in left (n / 10))
-  where
-    go : (x : Bool) → ltb n 10 ≡ x → (n / 10 ≤ left → all isDigit (decimal (n / 10)) ≡ true) → all isDigit (decimal n) ≡ true
-    go true q ih = rw (decimal-one n (ltb-true n 10 q), digit-yes n (ltb-true n 10 q))
-    go false q ih =
-        rw (decimal-more n (ltb-false n 10 q))
-        (all-append isDigit (decimal (n / 10)) ((48 + n % 10) ∷ []) (ih (omega (arith, ltb-false n 10 q, div-add-mod n 10))) (rw (digit-yes (n % 10) (mod-lt n {m = 10} (omega arith)))))
-
--- every byte of a decimal is a digit
-pub all-digits : (n : ℕ) → all isDigit (decimal n) ≡ true
-all-digits n = digits-in n n (omega arith)
-
 module _ (t : List ℕ) (at n : ℕ) (s : List ℕ) (d : drop at t ≡ decimal n ++ s) where
-  pub field-reads : (least : ℕ) → stops isDigit s ≡ true → least ≤ n → n ≤ mostNumber → fieldAt t at least ≡ Read n (at + length (decimal n))
+  field-reads : (least : ℕ) → stops isDigit s ≡ true → least ≤ n → n ≤ mostNumber → fieldAt t at least ≡ Read n (at + length (decimal n))
   unfolding fieldAt fieldOf leastNumber
   field-reads least st h l =
-      rw (d, run-is isDigit (decimal n) s (all-digits n) st, take-append-seam (decimal n) s, is-read {most = mostNumber} {n = n} {s = decimal n} (record { written = refl; within = l }), le-ltb n least h)
+      rw (d, run-is isDigit (decimal n) s (all-digits n) st, take-append-seam (decimal n) s, number-read mostNumber n l, le-ltb n least h)
 
-  pub field-past : drop (at + length (decimal n)) t ≡ s
+  field-past : drop (at + length (decimal n)) t ≡ s
   field-past = drop-past t (decimal n) s at (at + length (decimal n)) d refl
 
 -- ---- a byte
 
-pub tab-reads : (t : List ℕ) (at : ℕ) (s : List ℕ) (k : ℕ → RecordAt) → drop at t ≡ 9 ∷ s → behindTab t at k ≡ k (suc at)
+tab-reads : (t : List ℕ) (at : ℕ) (s : List ℕ) (k : ℕ → RecordAt) → drop at t ≡ 9 ∷ s → behindTab t at k ≡ k (suc at)
 unfolding behindTab
 tab-reads t at s k d = rw d
 
@@ -66,7 +44,7 @@ byte-past t at b s d = drop-past t (b ∷ []) s at (suc at) d (omega arith)
 -- ---- a record: what is read of it, and where the next begins
 
 -- the row that stands there: of a record whose numbers end at e
-pub record Reads (t : List ℕ) (got : RecordAt) (e : ℕ) (r : Record) (s : List ℕ) : Type 0 where
+record Reads (t : List ℕ) (got : RecordAt) (e : ℕ) (r : Record) (s : List ℕ) : Type 0 where
   pub is : got ≡ Good (rowBy e r (r .id))
   pub says : recordIn t (rowBy e r (r .id)) ≡ r
   pub on : drop (rowBy e r (r .id) .next) t ≡ s
@@ -101,7 +79,7 @@ unfolding isDigit within
 id-stops noId s = refl
 id-stops (anId i) s = refl
 
-pub record-reads : (t : List ℕ) (at : ℕ) (r : Record) (s : List ℕ) → InBounds r → drop at t ≡ recordLine r ++ s → Reads t (recordAt t at) (at + length (numbersText (r .line) (r .count) (r .offset))) r s
+record-reads : (t : List ℕ) (at : ℕ) (r : Record) (s : List ℕ) → InBounds r → drop at t ≡ recordLine r ++ s → Reads t (recordAt t at) (at + length (numbersText (r .line) (r .count) (r .offset))) r s
 unfolding recordAt countAt offsetAt onField isDigit within
 record-reads t at r s w d =
     let p₁ : ℕ = at + length (decimal (r .line)) in
@@ -130,3 +108,9 @@ record-reads t at r s w d =
       says = x .says;
       on = x .on;
     })
+
+-- the row of a record whose line begins at a place
+pub row-reads : (t : List ℕ) (at : ℕ) (r : Record) (s : List ℕ) → InBounds r → drop at t ≡ recordLine r ++ s
+    → (recordAt t at ≡ Good (rowAt at r)) × ((recordIn t (rowAt at r) ≡ r) × (drop (rowAt at r .next) t ≡ s))
+unfolding rowAt
+row-reads t at r s w d = let x = record-reads t at r s w d in (x .is, (x .says, x .on))

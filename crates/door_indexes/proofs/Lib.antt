@@ -1,0 +1,2 @@
+-- The laws of door_indexes.
+pub mod Says

@@ -1,0 +1,5 @@
+-- Laws of mending.
+pub mod Tells
+pub mod Tales
+pub mod Assembling
+pub mod Orders

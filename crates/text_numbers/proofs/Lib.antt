@@ -1,0 +1,2 @@
+-- Laws of numbers as they are written.
+pub mod Numbers

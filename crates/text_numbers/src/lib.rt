@@ -1,0 +1,1 @@
+// Numbers as they are written: theorems, and no code.
