@@ -186,7 +186,7 @@ int main(void)
     EXPECT(memcmp(report + told[0] - 22, "lookahead\t8\nlongest\t2\n", 22) == 0);
 
     /* An index: exact room, one row and one byte short, untouched where it is refused; read, and looked up in. */
-    static const char listed[] = "t\r\n{id}\n{#v17\n side=right}\n{.a}\n", kept[] = "carve-attr-index\t1\n2\t1\t3\t\n3\t2\t8\tv17\n5\t1\t27\n";
+    static const char listed[] = "t\r\n{id}\n{#v17\n side=right}\n{.a}\n", kept[] = "carve-attr-index\t2\n2\t1\t3\t\n3\t2\t8\tv17\n5\t1\t27\n";
     static const size_t rows[15] = {2, 1, 3, 25, 25, 3, 2, 8, 32, 35, 5, 1, 27, 0, 0};
     size_t table[16], again[16];
     for (i = 0; i < 16; i++)
@@ -213,7 +213,7 @@ int main(void)
     EXPECT(bridlesnow_index_find_row(report, 30, table, 15, 3, (const uint8_t *)"v17", 3, told, 4) == 0 && told[0] == 0);
 
     /* The same index mended after line 2 was replaced: 3 and 14 before 15 and 19, and untouched on all of these. */
-    static const char edited[] = "t\r\n{#x}\nu\n{#v17\n side=right}\n{.a}\n", mended[] = "carve-attr-index\t1\n2\t1\t3\tx\n4\t2\t10\tv17\n6\t1\t29\n";
+    static const char edited[] = "t\r\n{#x}\nu\n{#v17\n side=right}\n{.a}\n", mended[] = "carve-attr-index\t2\n2\t1\t3\tx\n4\t2\t10\tv17\n6\t1\t29\n";
     static const size_t moved[15] = {2, 1, 3, 25, 26, 4, 2, 10, 34, 37, 6, 1, 29, 0, 0};
     static uint8_t fresh[64];
     for (i = 0; i < 16; i++)

@@ -5,15 +5,16 @@
  *
  * Every call but those that return a bool returns a number: 0 where nothing is refused, else one of
  *
- *     1  the text has more than 65,535 bytes        7  more than 32 distinct keys
+ *     1  the text has more than 65,535 bytes        7  more than 64 distinct keys
  *     2  it isn't UTF-8                             9  the next line to join doesn't fit `join`
  *     3  nothing is there to read                  10  the canonical text has more than 65,535 bytes, or a text more than `out`
  *     4  no close                                  11  (never given here: a set that isn't well-formed)
  *     5  no reading                                12  nothing is left of a set (bridlesnow_consume_loose alone)
- *     6  more than 32 classes                      17  a total over all sheets would not fit 64 bits, or has no room
+ *     6  more than 64 classes                      17  a total over all sheets would not fit 64 bits, or has no room
  *    14  not an index, or not the old text's       18  more than 32 columns
- *    15  the records have no room in `table`       20  one or two of `variant`, `wheel` and `valve`, or a value out of range
- *    19  the index has no room in `out`            21  a variant has one valve at two wheels
+ *    15  the records have no room in `table`       19  the index has no room in `out`
+ *    16  an index of another version               20  one or two of `variant`, `wheel` and `valve`, or a value out of range
+ *                                                  21  a variant has one valve at two wheels
  *
  * A set is handed out as its canonical text at the front of `out`, such as {id="v17" class="wheel" side="left"}. A class that is listed again is
  * written once, at its first place. After a number other than 0 `out`, `cells`, `totals`, `numbers` and `table` are untouched, but for bridlesnow_report_start,
@@ -217,14 +218,14 @@ uint8_t bridlesnow_totals_add(uint64_t *totals, size_t totals_len, const uint64_
 uint8_t bridlesnow_totals_text(const uint64_t *totals, size_t totals_len, uint8_t *out, size_t out_len,
                                size_t *told, size_t told_len);
 
-/* An index beside a sheet is a text of lines: the first is `carve-attr-index`, a tab and 1; the others are the records of the blocks that a report
+/* An index beside a sheet is a text of lines: the first is `carve-attr-index`, a tab and 2; the others are the records of the blocks that a report
  * prints: first line, line count and the place of the first line's first byte, and the unescaped id where the block has one, parted by tabs.
  * bridlesnow_index_build lays the index of a sheet at the front of `out`, and its rows at the front of `table`, BRIDLESNOW_RECORD numbers each: the
  * three of the record, and from where to where its id stands in the index text, 0 and 0 where it has none. BRIDLESNOW_RECORDS rows and
  * BRIDLESNOW_INDEX bytes are enough for any sheet. `join` has at least BRIDLESNOW_MAX bytes, else 9.
  * Order: 1, 2, 9, 15, 19. Tells: how many records there are; how many bytes are laid.
- * bridlesnow_index_read lays the rows of an index. The whole text is read before the table counts. Order: 14, 15. Tells: how many records there are.
- * bridlesnow_index_find looks up the first record of an id in an index, which is read whole: 14, also for a fault behind that record.
+ * bridlesnow_index_read lays the rows of an index. The whole text is read before the table counts. Order: 16, 14, 15. Tells: how many records there are.
+ * bridlesnow_index_find looks up the first record of an id in an index, which is read whole: 16, or 14, also for a fault behind that record.
  * bridlesnow_index_find_row does so over rows that were laid, `n` of them or as many as `table_len` has, and reads no more of the index than their ids:
  * this is the one for a key press. It refuses nothing; what a row says past the index is left out.
  * Both tell: 1 where there is such a record, else 0; its first line, its line count, and its place, at which bridlesnow_read_block_at reads the block.

@@ -154,7 +154,7 @@ pub fn one_line(size: usize) -> Vec<u8> {
 
 /// As many classes as a set holds, in one block, from `next`, which is handed the number and how many bytes a class may take.
 fn classes(room: usize, next: impl Fn(usize, usize) -> String) -> Vec<u8> {
-    const LIMIT: usize = 32;
+    const LIMIT: usize = 64;
     let classes: Vec<String> = (0..LIMIT).map(|n| next(n, room / LIMIT)).collect();
     format!("{{{}}}\n", classes.join(" ")).into_bytes()
 }

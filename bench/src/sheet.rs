@@ -5,8 +5,8 @@ use crate::parse::attrs::door;
 use std::io::Write;
 
 pub const TEXT_LIMIT: usize = 65_535;
-const CLASS_LIMIT: usize = 32;
-const KEY_LIMIT: usize = 32;
+const CLASS_LIMIT: usize = 64;
+const KEY_LIMIT: usize = 64;
 
 /// The text, or 1 where it is too long, or 2 where it isn't UTF-8.
 pub fn text_of(bytes: &[u8]) -> Result<&str, u8> {

@@ -153,8 +153,8 @@ impl fmt::Display for Refusal {
             3 => "nothing is there to read",
             4 => "no close",
             5 => "no reading",
-            6 => "more than 32 classes",
-            7 => "more than 32 keys",
+            6 => "more than 64 classes",
+            7 => "more than 64 keys",
             9 => "the next line to join doesn't fit",
             10 => "the canonical text is too long",
             14 => "not an index, or not that of the old text",
@@ -706,10 +706,10 @@ mod tests {
         assert_eq!(reader.read_attrs_at(b"{.a\r.b}", 0, Mode::Strict), Err(Refusal(5)));
         assert_eq!(reader.read_attrs_at(b"{.a\r.b}", 0, Mode::Loose), Ok((7, "{class=\"a\" class=\"b\"}")));
         let many = |word: &str, n: usize| (0..n).map(|i| format!(" {word}{i}")).collect::<String>();
-        assert!(reader.read_attrs_at(format!("{{{}}}", many(".c", 32)).as_bytes(), 0, Mode::Strict).is_ok());
-        assert_eq!(reader.read_attrs_at(format!("{{{}}}", many(".c", 33)).as_bytes(), 0, Mode::Strict), Err(Refusal(6)));
-        assert!(reader.read_attrs_at(format!("{{{}}}", many("k", 32)).as_bytes(), 0, Mode::Strict).is_ok());
-        assert_eq!(reader.read_attrs_at(format!("{{{}}}", many("k", 33)).as_bytes(), 0, Mode::Strict), Err(Refusal(7)));
+        assert!(reader.read_attrs_at(format!("{{{}}}", many(".c", 64)).as_bytes(), 0, Mode::Strict).is_ok());
+        assert_eq!(reader.read_attrs_at(format!("{{{}}}", many(".c", 65)).as_bytes(), 0, Mode::Strict), Err(Refusal(6)));
+        assert!(reader.read_attrs_at(format!("{{{}}}", many("k", 64)).as_bytes(), 0, Mode::Strict).is_ok());
+        assert_eq!(reader.read_attrs_at(format!("{{{}}}", many("k", 65)).as_bytes(), 0, Mode::Strict), Err(Refusal(7)));
     }
 
     #[test]
@@ -736,7 +736,7 @@ mod tests {
         assert_eq!(reader.merge_lines(text, 3, 1), Ok("{side=\"left\" id=\"v17\" class=\"b\" class=\"wheel\"}"));
         assert_eq!(reader.merge_lines(text, 2, 1), Err((Refusal(3), 1)));
         assert_eq!(reader.merge_lines(text, 1, 4), Err((Refusal(5), 2)));
-        let classes = (0..17).map(|i| format!(" .c{i}")).collect::<String>();
+        let classes = (0..33).map(|i| format!(" .c{i}")).collect::<String>();
         assert_eq!(reader.merge_lines(format!("{{{classes}}}\n{{{classes}}}").as_bytes(), 1, 2), Err((Refusal(6), 3)));
     }
 
@@ -762,7 +762,7 @@ mod tests {
         let refused = Lines { count: 0, next: 0, lookahead: 5, joined: 5 };
         assert_eq!(reader.attrs_block_len_at(text, 1, 1), Err((Refusal(5), refused)));
         // A block keeps its lines where a limit refuses its set.
-        let classes = (0..33).map(|i| format!(" .c{i}")).collect::<String>();
+        let classes = (0..65).map(|i| format!(" .c{i}")).collect::<String>();
         let lines = Lines { count: 1, next: classes.len() + 2, lookahead: 0, joined: 0 };
         assert_eq!(reader.parse_standalone_attrs_block(format!("{{{classes}}}").as_bytes(), 1), Err((Refusal(6), lines)));
     }
@@ -784,9 +784,9 @@ mod tests {
         assert_eq!(reader.merge_blocks(text, 2, 7), Err((Refusal(5), 2)));
         assert_eq!(reader.merge_blocks(text, 2, 0), Err((Refusal(3), 2)));
         assert_eq!(reader.merge_blocks(b"{.a}\n\xff", 1, 1), Err((Refusal(2), 1)));
-        let classes = (0..17).map(|i| format!(" .c{i}")).collect::<String>();
+        let classes = (0..33).map(|i| format!(" .c{i}")).collect::<String>();
         assert_eq!(reader.merge_blocks(format!("{{{classes}}}\n{{{classes}\n b}}").as_bytes(), 1, 2), Err((Refusal(6), 3)));
-        let keys = |word: &str| (0..17).map(|i| format!(" {word}{i}")).collect::<String>();
+        let keys = |word: &str| (0..33).map(|i| format!(" {word}{i}")).collect::<String>();
         assert_eq!(reader.merge_blocks(format!("{{{}}}\n{{{}\n b}}", keys("k"), keys("l")).as_bytes(), 1, 2), Err((Refusal(7), 3)));
         // As much room as is needed, and one byte less.
         assert!(Reader::with_room(17, 37).merge_blocks(text, 1, 2).is_ok());
@@ -871,7 +871,7 @@ mod tests {
         assert_eq!(reported(&mut reader, b""), ("".into(), 1, Ok(())));
         assert_eq!(reported(&mut reader, b"{.a}\n\xff"), ("refused\t0\t0\t2\n".into(), 1, Err(Refusal(2))));
         assert_eq!(reported(&mut reader, &vec![b'a'; MAX + 1]), ("refused\t0\t0\t1\n".into(), 1, Err(Refusal(1))));
-        let classes = (0..33).map(|i| format!(" .c{i}")).collect::<String>();
+        let classes = (0..65).map(|i| format!(" .c{i}")).collect::<String>();
         assert_eq!(reported(&mut reader, format!("\n{{{classes}}}").as_bytes()), ("refused\t2\t1\t6\n".into(), 1, Ok(())));
         assert_eq!(reported(&mut Reader::with_room(MAX - 1, LINE), sheet), ("".into(), 1, Err(Refusal(9))));
         assert_eq!(reported(&mut Reader::with_room(MAX, LINE - 1), sheet), ("".into(), 1, Err(Refusal(10))));
@@ -930,7 +930,7 @@ mod tests {
 
     #[test]
     fn no_table() {
-        let many = |word: &str| (0..33).map(|i| format!(" {word}{i}")).collect::<String>();
+        let many = |word: &str| (0..65).map(|i| format!(" {word}{i}")).collect::<String>();
         let refused = |text: &[u8], told: (u8, usize, usize, usize)| {
             let (number, line, lines, variant) = told;
             assert_eq!(laid(text, &mut vec![0; MAX], 121), (number, [777; 121], [line, lines, variant, 99]));
@@ -998,7 +998,7 @@ mod tests {
         // Runs that are no block count their lines, and printed blocks alone their classes and keys.
         assert_eq!(counted(&[b"{a\nb}"]), [1, 0, 0, 0, 0, 0, 0, 0, 0, 0, 1, 2, 0]);
         assert_eq!(counted(&[b"{.a .a k k}\n{:en k}\n"]), [1, 2, 0, 0, 0, 0, 0, 0, 2, 3, 0, 0, 1]);
-        let many = |word: &str| (0..33).map(|i| format!(" {word}{i}")).collect::<String>();
+        let many = |word: &str| (0..65).map(|i| format!(" {word}{i}")).collect::<String>();
         let sheet = format!("{{{}}}\n{{{}}}\n{{k='{}'}}\n", many(".c"), many("k"), "\"".repeat(32_765));
         assert_eq!(counted(&[sheet.as_bytes()]), [1, 0, 0, 0, 0, 1, 1, 1, 0, 0, 0, 0, 0]);
         // Reports over two lists add up to the report over both, the longest by the larger.
@@ -1081,7 +1081,7 @@ mod tests {
         let mut reader = Reader::new();
         let text = b"t\r\n{id}\n{#v17\n side=right}\n{.a}\n{#v17 b}\n{id='a\tb\r'}\n";
         let index = reader.build_index(text).unwrap();
-        let lines = "carve-attr-index\t1\n2\t1\t3\t\n3\t2\t8\tv17\n5\t1\t27\n6\t1\t32\tv17\n7\t1\t41\ta\tb\r\n";
+        let lines = "carve-attr-index\t2\n2\t1\t3\t\n3\t2\t8\tv17\n5\t1\t27\n6\t1\t32\tv17\n7\t1\t41\ta\tb\r\n";
         assert_eq!((std::str::from_utf8(index.text()), index.records()), (Ok(lines), 5));
         assert_eq!(Index::read(lines.as_bytes()), Ok(index.clone()));
         // The first of two; an empty id, which is no missing one; one of a tab and a CR; one that no block has.
@@ -1095,8 +1095,13 @@ mod tests {
         assert_eq!(reader.build_index(&vec![b' '; MAX + 1]), Err(Refusal(1)));
         assert_eq!(reader.build_index(b"{a}\n\xff"), Err(Refusal(2)));
         assert_eq!(Reader::with_room(MAX - 1, 0).build_index(text), Err(Refusal(9)));
-        for bad in ["", "carve-attr-index\t2\n", "carve-attr-index\t1\r\n", "carve-attr-index\t1\n1\t1\t0\tx\n01\t1\t0\n", "carve-attr-index\t1\n1\t1\t0\tx"] {
+        for bad in ["", "carve-attr-index\t02\n", "carve-attr-index\t2\r\n", "carve-attr-index\t2\n1\t1\t0\tx\n01\t1\t0\n", "carve-attr-index\t2\n1\t1\t0\tx"] {
             assert_eq!((Index::read(bad.as_bytes()), find_record(bad.as_bytes(), b"x")), (Err(Refusal(14)), Err(Refusal(14))));
+        }
+        // Last season's, and any other version's.
+        for other in ["carve-attr-index\t1\n1\t1\t0\tx\n", "carve-attr-index\t65535\n"] {
+            assert_eq!((Index::read(other.as_bytes()), find_record(other.as_bytes(), b"x")), (Err(Refusal(16)), Err(Refusal(16))));
+            assert_eq!(reader.mend_index(b"{#x}", b"{#x}", 1, 1, other.as_bytes()), Err(Refusal(16)));
         }
         // The most blocks that a sheet has, and its index.
         let most = [&b"{a}\n".repeat(RECORDS - 1)[..], b"{a}"].concat();
@@ -1118,7 +1123,7 @@ mod tests {
             let wanted = if new == b"{#a}\n{#y k}\n" { Err(Refusal(3)) } else { reader.build_index(new) };
             assert_eq!(reader.mend_index(old, new, a, b, index.text()), wanted, "{}", String::from_utf8_lossy(new));
         }
-        assert_eq!(reader.mend_index(b"a\nb\na\n", b"a\n", 2, 2, b"carve-attr-index\t1\n"), Err(Refusal(3)));
+        assert_eq!(reader.mend_index(b"a\nb\na\n", b"a\n", 2, 2, b"carve-attr-index\t2\n"), Err(Refusal(3)));
         // The orders: 1 and 2 of the old text, then of the new one, 9, 3, 14.
         let long = vec![b' '; MAX + 1];
         for (old, new, number) in [(&long[..], &b"\xff"[..], 1), (b"\xff", &long, 2), (b"", &long, 1), (b"", b"\xff", 2), (b"", b"", 9)] {
@@ -1127,12 +1132,12 @@ mod tests {
         assert_eq!(reader.mend_index(old, old, 0, 1, b""), Err(Refusal(3)));
         assert_eq!(reader.mend_index(old, old, 1, 1, b""), Err(Refusal(14)));
         // An index of the form, which is another text's.
-        assert_eq!(reader.mend_index(old, old, 1, 1, b"carve-attr-index\t1\n"), Err(Refusal(14)));
+        assert_eq!(reader.mend_index(old, old, 1, 1, b"carve-attr-index\t2\n"), Err(Refusal(14)));
     }
 
     #[test]
     fn room_for_indexes() {
-        let (text, len, mut join) = (b"{#a\n b}\n{.c}\n", "carve-attr-index\t1\n1\t2\t0\ta\n3\t1\t8\n".len(), vec![b'.'; MAX]);
+        let (text, len, mut join) = (b"{#a\n b}\n{.c}\n", "carve-attr-index\t2\n1\t2\t0\ta\n3\t1\t8\n".len(), vec![b'.'; MAX]);
         for (numbers, bytes, wanted) in [(9, 0, 15), (10, len - 1, 19), (10, len, 0), (12, len + 1, 0)] {
             let (mut table, mut out, mut told) = ([77usize; 12], [7u8; 64], [77usize; 3]);
             let number = unsafe {

@@ -230,9 +230,19 @@ fn tokens(rng: &mut Rng) -> Vec<String> {
     (0..rng.weighted(&[2, 35, 30, 18, 10, 5])).map(|_| token(rng)).collect()
 }
 
-/// 31 to 34 classes or keys, spelled in several ways.
+/// So many less than 63 that all numbers around a limit stand around 32, where it was once: now and then.
+fn lower(rng: &mut Rng) -> usize {
+    32 * usize::from(rng.once_in(5))
+}
+
+/// A number of classes or keys around their limit, or now and then around half of it.
+fn around_limit(rng: &mut Rng) -> usize {
+    rng.between(63, 66) - lower(rng)
+}
+
+/// As many classes or keys, spelled in several ways.
 fn crowd(rng: &mut Rng) -> Vec<String> {
-    let count = rng.between(31, 34);
+    let count = around_limit(rng);
     let mut out: Vec<String> = match rng.below(6) {
         0 => (0..count).map(|n| format!(".c{n}")).collect(),
         1 => (0..count).map(|n| format!("k{n}=v")).collect(),
@@ -240,11 +250,11 @@ fn crowd(rng: &mut Rng) -> Vec<String> {
         3 => vec![format!("class=\"{}\"", (0..count).map(|n| format!("c{n}")).collect::<Vec<_>>().join(rng.pick(&[" ", "\t", "\u{c}", "  "])))],
         4 => {
             // Both at once.
-            let keys = rng.between(31, 34);
+            let keys = around_limit(rng);
             (0..count).map(|n| format!(".c{n}")).chain((0..keys).map(|n| format!("k{n}=\"v\""))).collect()
         }
         // Repeated classes count each time, repeated keys once.
-        _ => (0..count).map(|_| ".a".to_string()).chain((0..count).map(|n| format!("k{}=1", n % 31))).collect(),
+        _ => (0..count).map(|_| ".a".to_string()).chain((0..count + 2).map(|n| format!("k{}=1", n % (count - 2)))).collect(),
     };
     if rng.once_in(3) {
         out.push(":en".to_string());
@@ -1060,7 +1070,7 @@ fn merge(rng: &mut Rng, out: &mut Out) {
         0 => [chain(rng), chain(rng)],
         1 => {
             // Together around a limit, with some keys on both sides.
-            let total = rng.between(31, 34);
+            let total = around_limit(rng);
             let half = rng.between(1, total - 1);
             let shared = rng.below(3);
             let classes = rng.percent(50);
@@ -1184,7 +1194,7 @@ fn at_line_one(rng: &mut Rng, block: &str) -> Vec<u8> {
 
 /// Classes or keys of two sets that stand together around a limit, some or all of them in both.
 fn crowded_pair(rng: &mut Rng) -> [Vec<String>; 2] {
-    let total = rng.between(31, 34);
+    let total = around_limit(rng);
     let half = rng.between(1, total);
     let shared = if rng.once_in(4) { half } else { rng.below(3).min(half) };
     let spelled = rng.below(5);
@@ -1276,7 +1286,7 @@ fn spelled(rng: &mut Rng, class: &str) -> String {
 
 /// Tokens in which these classes come again and again, each time as chance spells them.
 fn repeated(rng: &mut Rng, classes: &[String]) -> Vec<String> {
-    let count = if rng.once_in(40) { rng.between(30, 34) } else { rng.between(1, 6) };
+    let count = if rng.once_in(40) { rng.between(62, 66) - lower(rng) } else { rng.between(1, 6) };
     let mut list = Vec::new();
     for _ in 0..count {
         let class = &classes[rng.below(classes.len())];
@@ -1658,13 +1668,15 @@ fn variant_tokens(rng: &mut Rng, care: &Care) -> Vec<String> {
     list
 }
 
-/// 29 to 31 other keys around the three, or 31 to 33 classes, so that the limits are met from both sides.
+/// 60 to 62 other keys around the three, or 63 to 65 classes, so that the limits are met from both sides; now and then 32
+/// less.
 fn crowded_variant(rng: &mut Rng, care: &Care) -> Vec<String> {
     let mut list = if rng.percent(60) { variant_tokens(rng, care) } else { Vec::new() };
+    let less = lower(rng);
     let others: Vec<String> = match rng.below(3) {
-        0 => (0..rng.between(31, 33)).map(|n| format!(".c{n}")).collect(),
-        1 => (0..rng.between(28, 30) + 3 * usize::from(list.is_empty())).map(|n| format!("k{n}")).collect(),
-        _ => (0..33).map(|n| format!("k{}={n}", n % rng.between(26, 33))).collect(),
+        0 => (0..rng.between(63, 65) - less).map(|n| format!(".c{n}")).collect(),
+        1 => (0..rng.between(60, 62) - less + 3 * usize::from(list.is_empty())).map(|n| format!("k{n}")).collect(),
+        _ => (0..65 - less).map(|n| format!("k{}={n}", n % (rng.between(58, 65) - less))).collect(),
     };
     let at = rng.below(list.len() + 1);
     drop(list.splice(at..at, others));
@@ -1869,7 +1881,7 @@ fn whole_cap(rng: &mut Rng) -> String {
 const INDEX_LINES: &[&str] = &[
     "{a}", "{#x}", "{#x", "{.a #y", " b}", " k=1", " k=1}", " .c}", "\"", "", " ", "\t", "\u{c}", "\u{c}{b}", "\r{c}", "text", "{#x}{.a}", "{#y}", "{id}",
     "{id=\"\"}", "{id='a\tb'}", "{id='\t'}", "{id=\"a\r\"}", "{id='\"'}", "{id=\"\\\"\"}", "{id='\\\\'}", "{id='\\a'}", "{id='1\t1\t0'}", "{id=x}", "{id=é}",
-    "{a\r", "{a=\"", " b\"}", "\tb}", "}", "{", "{%", " %}", "x}", "{k=\"}\"}", " {a}", "{}", "{a=}", "carve-attr-index\t1", "1\t1\t0",
+    "{a\r", "{a=\"", " b\"}", "\tb}", "}", "{", "{%", " %}", "x}", "{k=\"}\"}", " {a}", "{}", "{a=}", "carve-attr-index\t2", "1\t1\t0",
 ];
 
 /// Some of these lines, each with its LF or CR LF.
@@ -1935,7 +1947,7 @@ const RECORD_NUMBERS: &[&str] = &[
 ];
 /// Ids of records, also such as no text of UTF-8 has.
 const RECORD_IDS: &[&[u8]] =
-    &[b"", b"x", b"y", b"xx", b"\t", b"a\tb", b"\r", b"x\r", b" ", b"x ", b"1\t1\t0", b"\"", b"\\", b"\xC3\xA9", b"\xFF", b"\0", b"carve-attr-index\t1"];
+    &[b"", b"x", b"y", b"xx", b"\t", b"a\tb", b"\r", b"x\r", b" ", b"x ", b"1\t1\t0", b"\"", b"\\", b"\xC3\xA9", b"\xFF", b"\0", b"carve-attr-index\t2"];
 
 /// An index text by hand: mostly of the form, the numbers of its records in no order.
 fn index_by_hand(rng: &mut Rng) -> Vec<u8> {
@@ -1956,7 +1968,15 @@ fn index_by_hand(rng: &mut Rng) -> Vec<u8> {
     out
 }
 
-/// An index with one fault, or of another text.
+/// First lines that are none of this version's: of other numbers, and such as have no number or aren't right otherwise.
+const FIRST_LINES: &[&str] = &[
+    "carve-attr-index\t1\n", "carve-attr-index\t0\n", "carve-attr-index\t3\n", "carve-attr-index\t12\n", "carve-attr-index\t20\n", "carve-attr-index\t65535\n",
+    "carve-attr-index\t65536\n", "carve-attr-index\t02\n", "carve-attr-index\t00\n", "carve-attr-index\t\n", "carve-attr-index\t2\r\n", "carve-attr-index\t1\r\n",
+    "carve-attr-index\t1", "carve-attr-index\t 1\n", "carve-attr-index\t+1\n", "carve-attr-index\t-1\n", "carve-attr-index\t1\t\n", "carve-attr-index\t4294967297\n",
+    "carve-attr-index\n", "carve-attr-index 1\n", "Carve-attr-index\t1\n", "carve-attr-index\tx\n", "carve-attr-index\t1 \n",
+];
+
+/// An index with one fault, of another version, or of another text.
 fn wrong_index(rng: &mut Rng, index: &mut Vec<u8>) {
     let at = rng.below(index.len());
     match rng.below(10) {
@@ -1978,7 +1998,7 @@ fn wrong_index(rng: &mut Rng, index: &mut Vec<u8>) {
             *index = lines.concat();
         }
         8 => {
-            let first = rng.pick(&["carve-attr-index\t2\n", "carve-attr-index\t1\r\n", "carve-attr-index\n", "carve-attr-index 1\n", "Carve-attr-index\t1\n", "carve-attr-index\t0\n"]);
+            let first = rng.pick(FIRST_LINES);
             let behind = index.iter().position(|&b| b == b'\n').map_or(index.len(), |at| at + 1);
             drop(index.splice(..behind, first.bytes()));
         }
@@ -2562,10 +2582,10 @@ const LOOSE_ATOMS: &[&[u8]] = &[
 /// How the second of two blocks begins.
 const LOOSE_PAIRS: [&[u8]; 2] = [b"{", b"{\n "];
 
-/// The first line of an index without its LF, with it, and then the first two numbers of a record.
-const INDEX_HEADER: &[u8] = b"carve-attr-index\t1";
-const INDEX_FRONT: &[u8] = b"carve-attr-index\t1\n";
-const INDEX_RECORD: &[u8] = b"carve-attr-index\t1\n1\t65535";
+/// The first line of an index without its number, whole with its LF, and then the first two numbers of a record.
+const INDEX_WORD: &[u8] = b"carve-attr-index\t";
+const INDEX_FRONT: &[u8] = b"carve-attr-index\t2\n";
+const INDEX_RECORD: &[u8] = b"carve-attr-index\t2\n1\t65535";
 
 /// What sheets are made of: bytes, parts of blocks and lines, blanks.
 const SHEET_BYTES: &[&[u8]] = &[b"{", b"}", b"a", b" ", b"\n", b"\r", b"\"", b"="];
@@ -2585,7 +2605,7 @@ const REPORT_EDGES: &[(&str, &str)] = &[
     ("{class='Qa'\n class='Qb' id='R'}\n{.a\n .a}", "{class=\"Qa\" class=\"Qb\" id=\"R\"}"),
 ];
 /// Numbers of classes and keys around their limits; none is 0 of them.
-const AROUND: [usize; 5] = [0, 31, 32, 33, 34];
+const AROUND: [usize; 7] = [0, 32, 33, 63, 64, 65, 66];
 
 fn sections(family: &str) -> &'static [Section] {
     match family {
@@ -2773,7 +2793,7 @@ fn sections(family: &str) -> &'static [Section] {
         "index" => &[
             // What is read, from the first line on, behind it, and in the middle of a record; and looked up.
             Section {
-                atoms: &[INDEX_HEADER, b"1", b"0", b"65535", b"65536", b"\t", b"\n", b"\r", b"x"],
+                atoms: &[INDEX_WORD, b"1", b"2", b"0", b"65535", b"65536", b"\t", b"\n", b"\r", b"x"],
                 forms: &[
                     ("index_read", b"", b""),
                     ("index_read", INDEX_FRONT, b""),

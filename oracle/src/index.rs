@@ -1,6 +1,6 @@
-//! The index beside a sheet of document 02's change request 5. The blocks of a sheet and their ids come from the layer, so
-//! from the original; the index text, its reading and 3, 14, 15 and 19 are the oracle's own, after the document's words. A
-//! mended index is built afresh from the new text.
+//! The index beside a sheet of document 02's change requests 5 and 8. The blocks of a sheet and their ids come from the
+//! layer, so from the original; the index text, its reading and 3, 14, 15, 16 and 19 are the oracle's own, after the
+//! document's words. A mended index is built afresh from the new text.
 
 use crate::layer::{self, Number};
 
@@ -11,7 +11,7 @@ pub const ROWS_LIMIT: usize = 43_690;
 
 /// The word of the first line, and the version behind it.
 const WORD: &str = "carve-attr-index";
-const VERSION: &str = "1";
+const VERSION: &str = "2";
 
 /// What an index tells of a block: its first line, its lines, the place of its first line's first byte, and its id.
 #[derive(Clone, Debug, PartialEq)]
@@ -135,8 +135,25 @@ fn record(line: &[u8]) -> Option<Record> {
     Some(Record { line, count, offset, id: fields.next().map(<[u8]>::to_vec) })
 }
 
-/// The records of an index text: 14, then 15 for a table of fewer rows.
+/// Whether the first line, with its LF, is that of an index but for another number. What follows it doesn't matter.
+fn of_another_version(index: &[u8]) -> bool {
+    let first = index.split_inclusive(|&b| b == b'\n').next().unwrap_or(b"");
+    let number = first.strip_prefix(WORD.as_bytes()).and_then(|rest| rest.strip_prefix(b"\t")).and_then(|rest| rest.strip_suffix(b"\n"));
+    number.is_some_and(|number| in_form(number, 0).is_some() && number != VERSION.as_bytes())
+}
+
+/// 16 for an index of another version, which comes before all else that may be wrong about an index.
+fn check_version(index: &[u8]) -> Result<(), Number> {
+    if !of_another_version(index) {
+        return Ok(());
+    }
+    assert!(form(index).is_none(), "no index is of two versions");
+    Err(16)
+}
+
+/// The records of an index text: 16, 14, then 15 for a table of fewer rows.
 pub fn read(index: &[u8], rows: usize) -> Result<Vec<Record>, Number> {
+    check_version(index)?;
     let records = form(index).ok_or(14)?;
     assert_eq!(written(&records), index, "an index is what its records are written as");
     if records.len() > rows {
@@ -145,7 +162,7 @@ pub fn read(index: &[u8], rows: usize) -> Result<Vec<Record>, Number> {
     Ok(records)
 }
 
-/// The first record of that id, where there is one; or 14, also for a fault behind that record.
+/// The first record of that id, where there is one; or 16, or 14, also for a fault behind that record.
 pub fn look_up(index: &[u8], id: &[u8]) -> Result<Option<Record>, Number> {
     Ok(read(index, ROWS_LIMIT)?.into_iter().find(|record| record.id.as_deref() == Some(id)))
 }
@@ -162,8 +179,8 @@ fn replaced(old: &[u8], new: &[u8], a: usize, b: usize) -> bool {
     new.strip_prefix(&before[..]).is_some_and(|rest| rest.ends_with(&behind))
 }
 
-/// The index after lines a to b of the old text were replaced: 1 and 2 of the old text, 1 and 2 of the new one, 9, 3, 14,
-/// 15, 19.
+/// The index after lines a to b of the old text were replaced: 1 and 2 of the old text, 1 and 2 of the new one, 9, 3, 16,
+/// 14, 15, 19.
 pub fn mend(a: usize, b: usize, old: &[u8], new: &[u8], index: &[u8], lent: Lent) -> Result<Vec<u8>, Number> {
     let of_old = records(old)?;
     let of_new = records(new)?;
@@ -173,6 +190,7 @@ pub fn mend(a: usize, b: usize, old: &[u8], new: &[u8], index: &[u8], lent: Lent
     if !replaced(old, new, a, b) {
         return Err(3);
     }
+    check_version(index)?;
     if index != written(&of_old) {
         return Err(14);
     }

@@ -11,8 +11,8 @@ use crate::rows::Rows;
 use crate::standins::*;
 
 pub const TEXT_LIMIT: usize = 65_535;
-pub const CLASS_LIMIT: usize = 32;
-pub const KEY_LIMIT: usize = 32;
+pub const CLASS_LIMIT: usize = 64;
+pub const KEY_LIMIT: usize = 64;
 
 /// A column that no line of a text within the limit reaches. A base beyond it is handed to the original as this one:
 /// the answers are those of the true number, and the original's addition stays in its range.

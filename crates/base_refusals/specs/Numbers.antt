@@ -32,9 +32,9 @@ numberOf NothingThere = 3
 numberOf NoClose = 4
 -- "at a brace, no reading of the payload exists; elsewhere, not a good line .."
 numberOf NoReading = 5
--- "grammatical, more than 32 classes"
+-- "grammatical, more than 64 classes"
 numberOf TooManyClasses = 6
--- "grammatical, more than 32 distinct keys"
+-- "grammatical, more than 64 distinct keys"
 numberOf TooManyKeys = 7
 -- "8 stays unused."
 -- "the next line to join doesn't fit the join buffer, .."

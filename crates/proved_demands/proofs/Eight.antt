@@ -1,4 +1,4 @@
--- No reading and no merge gave 8: the set that it hands out has at most 34 slots.
+-- No reading and no merge gave 8: the set that it hands out has at most 66 slots.
 -- Assumes nothing.
 use mathlib.Core.Bool.{Bool, true, false, cond}
 use mathlib.Core.List.{List, [], _∷_}

@@ -1,5 +1,5 @@
 -- Document 02: "Show over every reading and merge that 8 is never given": of each public function that reads or merges, over the definition that it promises. With
--- "more than 34 slots" asked last, as document 01 had it at first, its number would be the same (`NeverEight`, proved_sets/specs/Eight).
+-- "more than 34 slots" (66 today) asked last, as document 01 had it at first, its number would be the same (`NeverEight`, proved_sets/specs/Eight).
 use mathlib.Core.List.{List}
 use Prim.Native.Nat.{ℕ}
 use Rattle.base_bytes.specs.declared.Mode.{Mode}

@@ -36,7 +36,7 @@ pub record Number (t : List ℕ) (at least n p : ℕ) : Type 0 where
   pub below : n ≤ mostNumber
   pub behind : at ≤ p
 
-field-back : (t : List ℕ) (at least n p : ℕ) → fieldAt t at least ≡ Read n p → Number t at least n p
+pub field-back : (t : List ℕ) (at least n p : ℕ) → fieldAt t at least ≡ Read n p → Number t at least n p
 unfolding fieldAt fieldOf leastNumber
 field-back t at least n p e = go (numberIn mostNumber (take (run isDigit (drop at t)) (drop at t))) refl e
   where
@@ -63,7 +63,7 @@ begins-is : (s : List ℕ) (b : ℕ) → begins s b ≡ true → s ≡ b ∷ dro
 begins-is [] b e = let z : _≡_ {A = ℕ} 0 1 = cc in absurd (omega arith)
 begins-is (a ∷ s) b e = ap (λ (x : ℕ). x ∷ s) (eqb-true a b e)
 
-byte-is : (t : List ℕ) (at b : ℕ) → begins (drop at t) b ≡ true → drop at t ≡ b ∷ drop (suc at) t
+pub byte-is : (t : List ℕ) (at b : ℕ) → begins (drop at t) b ≡ true → drop at t ≡ b ∷ drop (suc at) t
 byte-is t at b e =
     let q : drop at t ≡ b ∷ drop 1 (drop at t) = begins-is (drop at t) b e in
     q ∙ ap (λ (l : List ℕ). b ∷ l) (sym (byte-past t at b (drop 1 (drop at t)) q))

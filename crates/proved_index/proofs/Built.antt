@@ -33,15 +33,15 @@ use Rattle.proved_sheets.proofs.Order.{sheet-in-order}
 use Rattle.sheet_blocks.specs.Sheets.{Try, isBlock, blocksOf}
 use Rattle.sheet_blocks.proofs.Tries.{flush-by}
 use Rattle.sheet_verdicts.specs.Verdicts.{verdictAt}
-use Rattle.sheet_records.specs.Records.{noId, anId, Record, InBounds, AllIn, idFits, indexHeader, indexText, rowAt, rowsAt, indexRows, tableNumbers, IsIndex}
+use Rattle.sheet_records.specs.Records.{noId, anId, Record, InBounds, AllIn, idFits, indexVersion, indexHeader, indexText, rowAt, rowsAt, indexRows, tableNumbers, IsIndex}
 use Rattle.sheet_records.specs.Listed.{idOf, recordOf, listedIf, addedOf, recordsOf}
 use Rattle.sheet_records.specs.Writing.{tableSize}
-use Rattle.sheet_records.specs.Computed.{rows, readIndex}
+use Rattle.sheet_records.specs.Computed.{rows, isOther, readIndex}
 use Rattle.sheet_index.specs.Building.{sheetOrder, roomFor, formOrder, buildOrder, builtOf, builtText, builtTable, countOrder, countedOf, countedTable}
 use Rattle.sheet_index.specs.declared.Built.the-variants as build
 use Rattle.sheet_index.specs.declared.Counted.the-variants as count
 use Rattle.proved_index.specs.Built.{SheetInRange, BuiltIsIndex, BuiltPasses, BuiltIsRead}
-use Rattle.proved_index.proofs.Form.{index-is-read}
+use Rattle.proved_index.proofs.Form.{index-is-read, read-own}
 
 -- ---- an id of a set handed out has no LF
 
@@ -155,18 +155,21 @@ module _ (t : List ℕ) (cap n size k m : ℕ) (e : builtOf t cap n size ≡ bui
   is-read : readIndex (builtText t cap n size) ≡ rows (indexRows (recordsOf t))
   is-read = index-is-read (builtText t cap n size) (recordsOf t) of-form .0
 
+  is-own : isOther indexVersion (builtText t cap n size) ≡ false
+  is-own = read-own (builtText t cap n size) is-read
+
   never : orderNo (formOrder (builtText t cap n size)) ≡ 0
   unfolding orderNo inOrder
-  never = rw is-read
+  never = rw (is-own, is-read)
 
   module _ (p : ℕ) (g : k ≤ tableSize p) where
     counted-so : countedOf (builtText t cap n size) p ≡ count.Rows k
     unfolding countedOf countOrder inOrder
-    counted-so = rw (is-read, index-long (recordsOf t), few, le-ltb (tableSize p) k g)
+    counted-so = rw (is-own, is-read, index-long (recordsOf t), few, le-ltb (tableSize p) k g)
 
     table-so : countedTable (builtText t cap n size) p ≡ builtTable t cap n size
     unfolding countedTable countOrder inOrder
-    table-so = rw (is-read, index-long (recordsOf t), few, le-ltb (tableSize p) k g) (sym table-is)
+    table-so = rw (is-own, is-read, index-long (recordsOf t), few, le-ltb (tableSize p) k g) (sym table-is)
 
 pub built-is-index : BuiltIsIndex
 built-is-index = of-form

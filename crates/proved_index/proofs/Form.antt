@@ -9,19 +9,20 @@ use borrow.Author.Tests.{ltb-false, lt-ltb, le-ltb}
 use lib.Dec.{ltb}
 use lib.ListN.{length, take, drop, length-drop, length-append, drop-of-length-le, take-append-drop}
 use lib.Seq.{take-append-seam, drop-append-seam}
-use Rattle.base_lists.specs.Lists.{same}
 use Rattle.base_lists.proofs.Same.{same-refl, same-true}
+use Rattle.base_refusals.specs.Orders.{inOrder}
 use Rattle.base_refusals.specs.declared.Outcome.the-variants as outcome
 use Rattle.base_refusals.specs.declared.Refusal.the-variants.{NotAnIndex}
-use Rattle.sheet_records.specs.Records.{Record, AllIn, recordLine, indexHeader, indexText, rowAt, rowsAt, indexRows, IsIndex}
-use Rattle.sheet_records.specs.Computed.{Index, notIndex, rows, withRow, onRow, recordAt, recordIn, rowsFrom, headOf, indexBy, readIndex}
+use Rattle.sheet_records.specs.Records.{Record, AllIn, recordLine, indexVersion, indexHeader, indexText, rowAt, rowsAt, indexRows, IsIndex}
+use Rattle.sheet_records.specs.Computed.{Index, notIndex, rows, withRow, onRow, recordAt, recordIn, rowsFrom, isHeaded, isOther, otherTold, headIn, indexBy, readIndexOf, readIndex}
 use Rattle.sheet_records.specs.declared.IndexRow.{IndexRow}
 use Rattle.sheet_records.specs.declared.RecordAt.{RecordAt}
 use Rattle.sheet_records.specs.declared.RecordAt.the-variants.{Bad, Good}
 use Rattle.sheet_records.proofs.Further.{further}
-use Rattle.sheet_records.proofs.Lines.{row-next}
+use Rattle.sheet_records.proofs.Lines.{headed-passes, row-next}
 use Rattle.sheet_records.proofs.Written.{row-reads}
 use Rattle.sheet_index.specs.Finding.{recordsBy}
+use Rattle.sheet_index.proofs.Rows.{Whys, whys}
 use Rattle.proved_index.specs.Form.{ReadIsIndex, IndexIsRead, OneList}
 use Rattle.proved_index.proofs.Back.{record-back}
 
@@ -44,14 +45,20 @@ from-reads (suc left) t at (r ∷ rs) w d h =
     (rw (lt-ltb at (length t) s, x .0) (ap (withRow (rowAt at r)) (y .0)), ap (λ (q : Record). q ∷ recordsBy t (rowsAt (rowAt at r .next) rs)) (x .1 .0) ∙ ap (λ (qs : List Record). r ∷ qs) (y .1))
 
 text-read : (rs : List Record) → AllIn rs → (readIndex (indexText rs) ≡ rows (indexRows rs)) × (recordsBy (indexText rs) (indexRows rs) ≡ rs)
-unfolding readIndex headOf indexText indexRows
+unfolding readIndexOf indexText indexRows
 text-read rs w =
     let x : List ℕ = flatMap recordLine rs in
     let y = from-reads (suc (length (indexHeader ++ x))) (indexHeader ++ x) (length indexHeader) rs w (drop-append-seam indexHeader x) (omega (arith, length-append indexHeader x)) in
-    (rw (take-append-seam indexHeader x, same-refl indexHeader) (y .0), y .1)
+    let h : isHeaded (indexHeader ++ x) ≡ true = rw (take-append-seam indexHeader x) (same-refl indexHeader) in
+    (ap (indexBy indexVersion (indexHeader ++ x)) (sym (headed-passes (indexHeader ++ x) refl h)) ∙ y .0, y .1)
 
 pub index-is-read : IndexIsRead
 index-is-read t rs w = rw (w .text) (text-read rs (w .in-range))
+
+-- what is read has the first line of this version
+pub read-own : (t : List ℕ) {es : List IndexRow} → readIndex t ≡ rows es → isOther indexVersion t ≡ false
+unfolding Whys
+read-own t e = rw e at (whys indexVersion t)
 
 -- ---- what is read was written
 
@@ -86,15 +93,16 @@ from-back (suc left) t at es e = go (ltb at (length t)) refl e (from-back left t
         rw (← v) (record { in-range = tt; text = drop-of-length-le t {i = at} (ltb-false at (length t) b) })
 
 pub read-is-index : ReadIsIndex
-unfolding readIndex headOf indexText
-read-is-index t es e = go (same (take (length indexHeader) t) indexHeader) refl e
+unfolding readIndexOf headIn inOrder indexText
+read-is-index t es e = go (isOther indexVersion t) (isHeaded t) refl e
   where
-    go : (x : Bool) → same (take (length indexHeader) t) indexHeader ≡ x → indexBy t (cond x outcome.Passed (outcome.Refused NotAnIndex)) ≡ rows es → IsIndex t (recordsBy t es)
-    go true b f =
+    go : (o x : Bool) → isHeaded t ≡ x → indexBy indexVersion t (cond o (outcome.Refused (otherTold indexVersion)) (cond x outcome.Passed (outcome.Refused NotAnIndex))) ≡ rows es → IsIndex t (recordsBy t es)
+    go true x b f = let z : _≡_ {A = ℕ} 0 1 = cc in absurd (omega arith)
+    go false true b f =
         let w = from-back (suc (length t)) t (length indexHeader) es f in
         let h : take (length indexHeader) t ≡ indexHeader = same-true (take (length indexHeader) t) indexHeader b in
         record { in-range = w .in-range; text = sym (take-append-drop (length indexHeader) t) ∙ (ap (λ (l : List ℕ). l ++ drop (length indexHeader) t) h ∙ ap (λ (l : List ℕ). indexHeader ++ l) (w .text)) }
-    go false b f = let z : _≡_ {A = ℕ} 0 1 = cc in absurd (omega arith)
+    go false false b f = let z : _≡_ {A = ℕ} 0 1 = cc in absurd (omega arith)
 
 -- one list for each text
 pub one-list : OneList

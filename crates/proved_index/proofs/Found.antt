@@ -13,7 +13,7 @@ use Rattle.sheet_records.specs.Records.{Record, IsIndex}
 use Rattle.sheet_index.specs.Finding.{hasId, firstWith, findRecord}
 use Rattle.sheet_index.specs.declared.LookUp.the-variants.{Missing, Row}
 use Rattle.proved_index.specs.Lookups.{lacksId, FirstWith, FindsFirst, MissesExactly}
-use Rattle.proved_index.proofs.Form.{index-is-read}
+use Rattle.proved_index.proofs.Form.{index-is-read, read-own}
 
 missing-lacks : (id : List ℕ) (rs : List Record) → firstWith id rs ≡ Missing → lacksId id rs ≡ true
 unfolding firstWith all
@@ -57,7 +57,7 @@ at-front id (x ∷ xs) r ys e h =
 -- in an index a look-up says what its records say
 find-in : (t id : List ℕ) (rs : List Record) → IsIndex t rs → findRecord t id ≡ firstWith id rs
 unfolding findRecord inOrder
-find-in t id rs w = let x = index-is-read t rs w in rw (x .0) (ap (firstWith id) (x .1))
+find-in t id rs w = let x = index-is-read t rs w in rw (read-own t (x .0), x .0) (ap (firstWith id) (x .1))
 
 pub finds-first : FindsFirst
 finds-first t id rs w = (

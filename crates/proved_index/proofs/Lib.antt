@@ -4,3 +4,4 @@ pub mod Form
 pub mod Found
 pub mod Built
 pub mod Printed
+pub mod Versions

@@ -13,16 +13,16 @@ use Rattle.base_lists.proofs.Same.{same-refl, same-true}
 use Rattle.base_lists.proofs.More.{all-parts}
 use Rattle.base_lists.proofs.Scan.{both, all-append}
 use Rattle.base_refusals.specs.Orders.{inOrder}
-use Rattle.base_refusals.specs.declared.Refusal.the-variants.{NotAnIndex, TableFull}
+use Rattle.base_refusals.specs.declared.Refusal.the-variants.{NotAnIndex, TableFull, AnotherVersion}
 use Rattle.base_refusals.specs.declared.Outcome as outcomes
 use Rattle.base_refusals.specs.declared.Outcome.the-variants as outcome
 use Rattle.read_blocks.specs.Blocks.{textsIn, filledFound}
 use Rattle.sheet_blocks.specs.Sheets.{Try, blocksOf}
 use Rattle.sheet_verdicts.specs.Verdicts.{verdictAt}
-use Rattle.sheet_records.specs.Records.{RecordId, noId, anId, Record, tableNumbers}
+use Rattle.sheet_records.specs.Records.{RecordId, noId, anId, Record, indexVersion, tableNumbers}
 use Rattle.sheet_records.specs.Listed.{idOf, recordOf, addedOf, recordsOf}
 use Rattle.sheet_records.specs.Writing.{tableSize}
-use Rattle.sheet_records.specs.Computed.{Index, notIndex, rows, readIndex, recordIn}
+use Rattle.sheet_records.specs.Computed.{Index, notIndex, rows, isOther, readIndex, recordIn}
 use Rattle.sheet_records.specs.declared.IndexRow.{IndexRow}
 use Rattle.sheet_index.specs.Building.{countOrder, countedOf, countedTable}
 use Rattle.sheet_index.specs.Finding.{isId, hasId, firstWith, recordsBy, findRecord, tableRows, findRow}
@@ -88,10 +88,12 @@ unfolding tableNumbers flatMap
 rows-say t [] z = ap (recordsBy t) (rows-none (tableNumbers [] ++ z))
 rows-say t (e ∷ es) z = ap (recordsBy t) (rows-first (length es) (e .line) (e .count) (e .offset) (e .from) (e .to) (tableNumbers es ++ z)) ∙ ap (λ (rs : List Record). recordIn t e ∷ rs) (rows-say t es z)
 
-rows-found : (t id table : List ℕ) (x : Index) (k : ℕ) → readIndex t ≡ x → countedOf t (length table) ≡ count.Rows k → findRow t (over (countedTable t (length table)) table) k id ≡ findRecord t id
+rows-found : (t id table : List ℕ) (x : Index) (o : Bool) (k : ℕ) → readIndex t ≡ x → isOther indexVersion t ≡ o → countedOf t (length table) ≡ count.Rows k
+    → findRow t (over (countedTable t (length table)) table) k id ≡ findRecord t id
 unfolding countedOf countedTable countOrder findRecord findRow inOrder
-rows-found t id table (notIndex r) k q e = let f : count.Refused NotAnIndex ≡ count.Rows k = rw q at e in let z : _≡_ {A = ℕ} 0 1 = cc in absurd (omega arith)
-rows-found t id table (rows es) k q e = rw q (go (ltb (tableSize (length table)) (length es)) refl (rw q at e))
+rows-found t id table x true k q p e = let f : count.Refused AnotherVersion ≡ count.Rows k = rw p at e in let z : _≡_ {A = ℕ} 0 1 = cc in absurd (omega arith)
+rows-found t id table (notIndex r) false k q p e = let f : count.Refused NotAnIndex ≡ count.Rows k = rw (p, q) at e in let z : _≡_ {A = ℕ} 0 1 = cc in absurd (omega arith)
+rows-found t id table (rows es) false k q p e = rw (p, q) (go (ltb (tableSize (length table)) (length es)) refl (rw (p, q) at e))
   where
     go : (b : Bool) → ltb (tableSize (length table)) (length es) ≡ b → cond b (count.Refused TableFull) (count.Rows (length es)) ≡ count.Rows k
         → firstWith id (recordsBy t (tableRows k (over (cond b [] (tableNumbers es)) table))) ≡ firstWith id (recordsBy t es)
@@ -99,4 +101,4 @@ rows-found t id table (rows es) k q e = rw q (go (ltb (tableSize (length table))
     go false l f = let z : length es ≡ k = cc in rw (← z) (ap (firstWith id) (rows-say t es (drop (length (tableNumbers es)) table)))
 
 pub rows-answer : RowsAnswer
-rows-answer t id table k e = rows-found t id table (readIndex t) k refl e
+rows-answer t id table k e = rows-found t id table (readIndex t) (isOther indexVersion t) k refl refl e

@@ -20,7 +20,7 @@ SheetInRange = (t : List ℕ) → isText t ≡ true → AllIn (recordsOf t)
 abbrev pub BuiltIsIndex : Type 0
 BuiltIsIndex = (t : List ℕ) (cap n size k m : ℕ) → builtOf t cap n size ≡ build.Index k m → IsIndex (builtText t cap n size) (recordsOf t)
 
--- so it is never refused with 14
+-- so it is never refused with 16 or 14
 abbrev pub BuiltPasses : Type 0
 BuiltPasses = (t : List ℕ) (cap n size k m : ℕ) → builtOf t cap n size ≡ build.Index k m → orderNo (formOrder (builtText t cap n size)) ≡ 0
 

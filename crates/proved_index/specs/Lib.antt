@@ -2,3 +2,4 @@
 pub mod Form
 pub mod Built
 pub mod Lookups
+pub mod Versions

@@ -22,7 +22,7 @@ use Rattle.sheet_index.specs.declared.Built.the-variants as build
 use Rattle.sheet_index.proofs.Steps.{order-past, order-parts}
 use Rattle.sheet_edits.specs.Edits.{againOf, isAgain}
 use Rattle.sheet_edits.proofs.Cuts.{again-replaced}
-use Rattle.sheet_mends.specs.Mending.{editOrder, oldOrder, mendOrder, mendedOf, mendedText, mendedTable}
+use Rattle.sheet_mends.specs.Mending.{editOrder, versionOrder, oldOrder, mendOrder, mendedOf, mendedText, mendedTable}
 use Rattle.proved_mends.specs.Mended.{Afresh, MendedAfresh, RefusedLeaves}
 
 -- ---- an order of which no ground holds
@@ -75,12 +75,12 @@ module _ (old new : List ℕ) (a b : ℕ) (index : List ℕ) (cap n size k m : �
   unfolding mendedOf
   clear = is-clear (mendOrder old new a b index cap n size) (length (recordsOf new)) (length (indexText (recordsOf new))) k m e
 
-  edit-clear : Clear (editOrder old new a b cap) × Clear (oldOrder old index ++ room)
+  edit-clear : Clear (editOrder old new a b cap) × Clear (versionOrder index ++ (oldOrder old index ++ room))
   unfolding mendOrder
-  edit-clear = order-parts (editOrder old new a b cap) (oldOrder old index ++ room) clear
+  edit-clear = order-parts (editOrder old new a b cap) (versionOrder index ++ (oldOrder old index ++ room)) clear
 
   rest-clear : Clear (oldOrder old index) × Clear room
-  rest-clear = order-parts (oldOrder old index) room (edit-clear .1)
+  rest-clear = order-parts (oldOrder old index) room (order-parts (versionOrder index) (oldOrder old index ++ room) (edit-clear .1) .1)
 
   -- 1 and 2 of the new text, 9, and 3
   new-clear : Clear (textOrder new ++ (Ground.given JoinFull (ltb cap maxText) ∷ [])) × Clear (Ground.lacking NothingThere (isAgain (againOf old new a b)) ∷ [])

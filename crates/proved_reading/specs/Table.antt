@@ -47,9 +47,9 @@ pub data Given (m : Mode) (t : List ℕ) (i : ℕ) : Answer → List Entry → T
   garbled : {e : ℕ} (b : BlockAt t i e) → (WellFormed (b .closes .inside) → ⊥) → Given m t i (Refused NotUtf8) []
   -- 5: "at a brace, no reading of the payload exists"
   unread : {e : ℕ} (b : BlockAt t i e) → WellFormed (b .closes .inside) → ((is : List Placed) → Payload m (suc i) (b .closes .inside) is → ⊥) → Given m t i (Refused NoReading) []
-  -- 6: "grammatical, more than 32 classes"
+  -- 6: "grammatical, more than 64 classes"
   classes : {e : ℕ} {is : List Placed} → Reads m t i e is → maxClasses < classCount (entriesOf is) → Given m t i (Refused TooManyClasses) []
-  -- 7: "grammatical, more than 32 distinct keys"
+  -- 7: "grammatical, more than 64 distinct keys"
   keys : {e : ℕ} {is : List Placed} → Reads m t i e is → classCount (entriesOf is) ≤ maxClasses → maxKeys < keyCount (entriesOf is) → Given m t i (Refused TooManyKeys) []
   -- the set, and the place behind the close
   read : {e : ℕ} {is : List Placed} → Reads m t i e is → classCount (entriesOf is) ≤ maxClasses → keyCount (entriesOf is) ≤ maxKeys → Given m t i (Next (suc e)) (meaning is)

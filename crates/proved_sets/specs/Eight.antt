@@ -12,7 +12,8 @@ use Rattle.set_table.specs.declared.Attrs.{Attrs}
 use Rattle.set_table.specs.declared.Filled.{Filled}
 use Rattle.proved_sets.specs.HandedOut.{Throughout}
 
--- document 01 at first: "grammatical, more than 32 classes" (6), "grammatical, more than 32 distinct keys" (7), "more than 34 slots" (8), in the order "6, 7, 8"
+-- document 01 at first: "grammatical, more than 32 classes" (6), "grammatical, more than 32 distinct keys" (7), "more than 34 slots" (8), in the order "6, 7, 8";
+-- the limits are today's
 abbrev pub firstLimits : Rows → ℕ
 firstLimits s = cond (ltb maxClasses (length (s .classes))) 6 (cond (ltb maxKeys (length (s .keys))) 7 (cond (ltb maxSlots (length (s .order))) 8 0))
 

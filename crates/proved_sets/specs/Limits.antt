@@ -15,7 +15,7 @@ use Rattle.proved_grammar.specs.Meaning.{absent}
 use Rattle.set_table.specs.Types.{Texts, maxClasses, maxKeys}
 use Rattle.set_table.specs.Shape.{isFree}
 
--- "32 classes": each counts, each time that it is said
+-- "64 classes": each counts, each time that it is said
 abbrev pub entryClasses : Entry → ℕ
 entryClasses e = cond (isClass (e .name)) (length (e .values)) 0
 
@@ -55,8 +55,8 @@ TextsGiven t G = SizeGiven (t .first) (Utf8Given (t .first) (SizeGiven (t .secon
 
 -- ".., 6, 7", where es is all that is said, and else the set, which means s
 pub data LimitGiven (es s : List Entry) : Outcome → List Entry → Type 0 where
-  -- 6: "grammatical, more than 32 classes"
+  -- 6: "grammatical, more than 64 classes"
   classes : maxClasses < classCount es → LimitGiven es s (Refused TooManyClasses) []
-  -- 7: "grammatical, more than 32 distinct keys"
+  -- 7: "grammatical, more than 64 distinct keys"
   keys : classCount es ≤ maxClasses → maxKeys < keyCount es → LimitGiven es s (Refused TooManyKeys) []
   within : classCount es ≤ maxClasses → keyCount es ≤ maxKeys → LimitGiven es s Passed s

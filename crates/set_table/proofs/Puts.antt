@@ -1,5 +1,5 @@
 -- What puts do to rows, counted: how many classes, keys and slots there are behind them. There is one slot for the id, one for the classes and one for
--- each key, so 32 keys have room among 34 slots.
+-- each key, so 64 keys have room among 66 slots.
 -- Assumes nothing.
 use mathlib.Core.Path.{_≡_, refl}
 use mathlib.Core.Bool.{Bool, true, false, cond, _||_}
@@ -73,7 +73,7 @@ shaped-put t {s} (Put.key n v) h = record { is = omega (arith, h .is, slot-count
 pub shaped-none : OneEach noRows
 shaped-none = record { is = refl }
 
--- ---- "34 slots" are slots
+-- ---- "66 slots" are slots
 pub slots : {s : Rows} → OneEach s → length (s .keys) ≤ maxKeys → length (s .order) ≤ maxSlots
 slots {s} h k = omega (arith, h .is, one-le (isThere (s .ident)), one-le (isSome (s .classes)))
 

@@ -14,7 +14,7 @@ use Rattle.set_table.specs.declared.Filled.{Filled}
 abbrev pub refusing : Refusal → Filled
 refusing r = record { outcome = Refused r; set = emptySet }
 
--- "grammatical, more than 32 classes", then "more than 32 distinct keys"
+-- "grammatical, more than 64 classes", then "more than 64 distinct keys"
 abbrev pub limitOrder : Rows → List Ground
 limitOrder s =
     Ground.given TooManyClasses (ltb maxClasses (length (s .classes)))

@@ -19,15 +19,15 @@ use Rattle.set_table.specs.declared.Slot.the-variants.{Key}
 use Rattle.set_table.specs.declared.SlotRecord.{SlotRecord}
 use Rattle.set_table.specs.declared.Attrs.{Attrs}
 
--- "32 classes, 32 keys, 34 slots."
+-- "64 classes, 64 keys, 66 slots."
 abbrev pub maxClasses : ℕ
-maxClasses = 32
+maxClasses = 64
 
 abbrev pub maxKeys : ℕ
-maxKeys = 32
+maxKeys = 64
 
 abbrev pub maxSlots : ℕ
-maxSlots = 34
+maxSlots = 66
 
 -- "Rows past the counts are zero"
 abbrev pub zeroValue : Value

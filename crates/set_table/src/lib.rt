@@ -65,11 +65,11 @@ pub struct Filled {
 }
 
 impl Attrs {
-    pub const CLASSES: usize = 32;
+    pub const CLASSES: usize = 64;
 
-    pub const KEYS: usize = 32;
+    pub const KEYS: usize = 64;
 
-    pub const SLOTS: usize = 34;
+    pub const SLOTS: usize = 66;
 
     // The set with nothing in it: what a refusal hands out.
     pub fn empty() -> Self

@@ -8,19 +8,19 @@ use native.Mathlib.Nat.{div-add-mod}
 use native.Mathlib.Omega.{arith}
 use borrow.Author.Tests.{lt-ltb, le-ltb}
 use lib.Dec.{ltb}
-use lib.ListN.{length, getD, take, drop, length-drop}
+use lib.ListN.{length, getD, drop, length-drop}
 use lib.Seq.{slice, sets, length-sets, drop-drop, getD-drop}
 use Rattle.base_lists.specs.Lists.{same, over}
 use Rattle.base_lists.proofs.Sets.{sets-append}
 use Rattle.base_refusals.specs.Numbers.{passedPaper}
 use Rattle.base_refusals.specs.Orders.{Ground, inOrder, onPaper}
 use Rattle.base_refusals.specs.declared.Refusal.{Refusal}
-use Rattle.base_refusals.specs.declared.Refusal.the-variants.{NotAnIndex, TableFull}
+use Rattle.base_refusals.specs.declared.Refusal.the-variants.{NotAnIndex, TableFull, AnotherVersion}
 use Rattle.base_refusals.specs.declared.Outcome as outcomes
 use Rattle.base_refusals.specs.declared.Outcome.the-variants as outcome
 use Rattle.base_refusals.proofs.Orders.{paper-by}
-use Rattle.sheet_records.specs.Records.{Record, indexHeader, rowNumbers, tableNumbers}
-use Rattle.sheet_records.specs.Computed.{Index, notIndex, rows, withRow, onRow, rowsFrom, recordAt, idIn, recordIn, headOf, indexBy, readIndex}
+use Rattle.sheet_records.specs.Records.{Record, indexVersion, headerOf, indexHeader, rowNumbers, tableNumbers}
+use Rattle.sheet_records.specs.Computed.{Index, notIndex, rows, withRow, onRow, rowsFrom, recordAt, idIn, recordIn, isHeadedBy, isOther, otherTold, headIn, headOf, indexBy, readIndexOf, readIndex}
 use Rattle.sheet_records.specs.Writing.{tableSize, rowOver}
 use Rattle.sheet_records.specs.declared.IndexRow.{IndexRow}
 use Rattle.sheet_records.specs.declared.RecordAt.{RecordAt}
@@ -73,12 +73,12 @@ module _ {t : List ℕ} {R : counted.Counted} {n at : ℕ} (inv : Counts t R n a
 -- by the first line
 module _ (t : List ℕ) {o : outcomes.Outcome} (e : o ≡ headOf t) where
   pub head-refused : {r : Refusal} → o ≡ outcome.Refused r → readIndex t ≡ notIndex r
-  unfolding readIndex
-  head-refused f = ap (indexBy t) (sym e ∙ f)
+  unfolding readIndexOf
+  head-refused f = ap (indexBy indexVersion t) (sym e ∙ f)
 
   pub head-passed : o ≡ outcome.Passed → readIndex t ≡ rowsFrom (suc (length t)) t (length indexHeader)
-  unfolding readIndex
-  head-passed f = ap (indexBy t) (sym e ∙ f)
+  unfolding readIndexOf
+  head-passed f = ap (indexBy indexVersion t) (sym e ∙ f)
 
 pub count-refused : (t : List ℕ) {o : outcomes.Outcome} {r : Refusal} → o ≡ headOf t → o ≡ outcome.Refused r → count.Refused r ≡ countedBy 0 (readIndex t)
 count-refused t e f = rw (head-refused t e f)
@@ -98,10 +98,10 @@ pub record Fills (t table₀ table : List ℕ) (k at : ℕ) : Type 0 where
 
 -- a text that is read has the first line
 good-head : (t : List ℕ) → isRead (readIndex t) ≡ true → readIndex t ≡ rowsFrom (suc (length t)) t (length indexHeader)
-unfolding readIndex
+unfolding readIndexOf
 good-head t g = go (headOf t) refl g
   where
-    go : (o : outcomes.Outcome) → headOf t ≡ o → isRead (indexBy t o) ≡ true → indexBy t o ≡ rowsFrom (suc (length t)) t (length indexHeader)
+    go : (o : outcomes.Outcome) → headOf t ≡ o → isRead (indexBy indexVersion t o) ≡ true → indexBy indexVersion t o ≡ rowsFrom (suc (length t)) t (length indexHeader)
     go outcome.Passed e h = refl
     go (outcome.Refused r) e h = let z : _≡_ {A = ℕ} 0 1 = cc in absurd (omega arith)
 
@@ -249,17 +249,29 @@ only-from (suc f) t at = go (ltb at (length t)) (recordAt t at) (only-from f t)
     go true Bad ih = refl
     go true (Good e) ih = only-row e (rowsFrom f t (e .next)) (ih (e .next))
 
-only : (t : List ℕ) → Only (readIndex t)
-unfolding readIndex headOf Only
-only t = go (same (take (length indexHeader) t) indexHeader)
-  where
-    go : (x : Bool) → Only (indexBy t (cond x outcome.Passed (outcome.Refused NotAnIndex)))
-    go true = only-from (suc (length t)) t (length indexHeader)
-    go false = refl
+-- why a text is read as no index: where x is so, for q, and else for 14
+unfoldable pub Whys : Refusal → Bool → Index → Type 0
+Whys q x (notIndex r) = r ≡ cond x q NotAnIndex
+Whys q x (rows es) = x ≡ false
 
-pub only-not : (t : List ℕ) (r : Refusal) → readIndex t ≡ notIndex r → r ≡ NotAnIndex
-unfolding Only
-only-not t r e = rw e at (only t)
+only-whys : (q : Refusal) (x : Index) → Only x → Whys q false x
+unfolding Only Whys
+only-whys q (notIndex r) h = h
+only-whys q (rows es) h = refl
+
+-- by a reader of any version: for the number of the first line, or else for 14
+pub whys : (v : ℕ) (t : List ℕ) → Whys (otherTold v) (isOther v t) (readIndexOf v t)
+unfolding readIndexOf headIn inOrder Whys
+whys v t = go (isOther v t) (isHeadedBy v t)
+  where
+    go : (x y : Bool) → Whys (otherTold v) x (indexBy v t (cond x (outcome.Refused (otherTold v)) (cond y outcome.Passed (outcome.Refused NotAnIndex))))
+    go true y = refl
+    go false true = only-whys (otherTold v) (rowsFrom (suc (length t)) t (length (headerOf v))) (only-from (suc (length t)) t (length (headerOf v)))
+    go false false = refl
+
+own-whys : (t : List ℕ) → Whys AnotherVersion (isOther indexVersion t) (readIndex t)
+unfolding indexVersion
+own-whys t = whys indexVersion t
 
 -- ---- the whole of a look-up
 
@@ -285,12 +297,15 @@ row-paper t table id n = first-paper id (recordsBy t (tableRows n table))
 
 module _ (t id : List ℕ) where
   found-is : foundAmong t look.Missing id (readIndex t) ≡ findRecord t id
-  unfolding findRecord inOrder Only
-  found-is = go (readIndex t) (only t)
+  unfolding findRecord inOrder Whys
+  found-is = go (readIndex t) (isOther indexVersion t) (own-whys t)
     where
-      go : (x : Index) → Only x → foundAmong t look.Missing id x ≡ inOrder look.Refused (Ground.lacking NotAnIndex (isRead x) ∷ []) (firstWith id (recordsBy t (rowsRead x)))
-      go (notIndex r) h = ap look.Refused h
-      go (rows es) h = refl
+      go : (x : Index) (b : Bool) → Whys AnotherVersion b x
+          → foundAmong t look.Missing id x ≡ inOrder look.Refused (Ground.given AnotherVersion b ∷ Ground.lacking NotAnIndex (isRead x) ∷ []) (firstWith id (recordsBy t (rowsRead x)))
+      go (notIndex r) true h = ap look.Refused h
+      go (notIndex r) false h = ap look.Refused h
+      go (rows es) true h = let z : _≡_ {A = ℕ} 0 1 = cc in absurd (omega arith)
+      go (rows es) false h = refl
 
   module _ {o : outcomes.Outcome} (e : o ≡ headOf t) where
     pub find-refused : {r : Refusal} → o ≡ outcome.Refused r → look.Refused r ≡ findRecord t id
@@ -364,39 +379,48 @@ module _ (t table₀ : List ℕ) where
   told : {r : counted.Counted} {table : List ℕ} → r ≡ countedOf t (length table₀) → table ≡ over (countedTable t (length table₀)) table₀ → Answers r table
   told a b = (a, (b, ap countedPaper a ∙ paper))
 
-  none-is : (x : Index) → Only x → (r : Refusal) → count.Refused r ≡ countedBy 0 x → (isRead x ≡ false) × (r ≡ NotAnIndex)
-  unfolding Only
-  none-is (notIndex q) h r e = let z : r ≡ q = cc in (refl, z ∙ h)
-  none-is (rows es) h r e = let z : _≡_ {A = ℕ} 0 1 = cc in absurd (omega arith)
+  none-is : (x : Index) (b : Bool) → Whys AnotherVersion b x → (r : Refusal) → count.Refused r ≡ countedBy 0 x → (isRead x ≡ false) × (r ≡ cond b AnotherVersion NotAnIndex)
+  unfolding Whys
+  none-is (notIndex q) b h r e = let z : r ≡ q = cc in (refl, z ∙ h)
+  none-is (rows es) b h r e = let z : _≡_ {A = ℕ} 0 1 = cc in absurd (omega arith)
 
   pub read-none : {c : counted.Counted} {r : Refusal} → c ≡ countedBy 0 (readIndex t) → c ≡ count.Refused r → Answers (count.Refused r) table₀
   unfolding countedOf countedTable countOrder inOrder
   read-none {c} {r} e f =
-      let w = none-is (readIndex t) (only t) r (sym f ∙ e) in
-      told (rw (w .0, w .1)) (rw (w .0))
+      let w = none-is (readIndex t) (isOther indexVersion t) (own-whys t) r (sym f ∙ e) in
+      told (rw (w .0, w .1) (go (isOther indexVersion t))) (rw (w .0) (none (isOther indexVersion t)))
+    where
+      go : (b : Bool) → count.Refused (cond b AnotherVersion NotAnIndex) ≡ cond b (count.Refused AnotherVersion) (count.Refused NotAnIndex)
+      go true = refl
+      go false = refl
 
-  some-is : (x : Index) (n : ℕ) → count.Rows n ≡ countedBy 0 x → (isRead x ≡ true) × (n ≡ length (rowsRead x))
-  some-is (notIndex q) n e = let z : _≡_ {A = ℕ} 0 1 = cc in absurd (omega arith)
-  some-is (rows es) n e = let z : n ≡ 0 + length es = cc in (refl, omega (arith, z))
+      none : (b : Bool) → table₀ ≡ over (cond b [] []) table₀
+      none true = refl
+      none false = refl
+
+  some-is : (x : Index) (b : Bool) → Whys AnotherVersion b x → (n : ℕ) → count.Rows n ≡ countedBy 0 x → (isRead x ≡ true) × ((n ≡ length (rowsRead x)) × (b ≡ false))
+  unfolding Whys
+  some-is (notIndex q) b h n e = let z : _≡_ {A = ℕ} 0 1 = cc in absurd (omega arith)
+  some-is (rows es) b h n e = let z : n ≡ 0 + length es = cc in (refl, (omega (arith, z), h))
 
   module _ {c : counted.Counted} {n : ℕ} (e : c ≡ countedBy 0 (readIndex t)) (f : c ≡ count.Rows n) where
-    w : (isRead (readIndex t) ≡ true) × (n ≡ length (rowsRead (readIndex t)))
-    w = some-is (readIndex t) n (sym f ∙ e)
+    w : (isRead (readIndex t) ≡ true) × ((n ≡ length (rowsRead (readIndex t))) × (isOther indexVersion t ≡ false))
+    w = some-is (readIndex t) (isOther indexVersion t) (own-whys t) n (sym f ∙ e)
 
     pub read-full : tableSize (length table₀) < n → Answers (count.Refused TableFull) table₀
     unfolding countedOf countedTable countOrder inOrder
     read-full h =
-        let l = lt-ltb (tableSize (length table₀)) (length (rowsRead (readIndex t))) (omega (arith, w .1)) in
-        told (rw (w .0, l)) (rw (w .0, l))
+        let l = lt-ltb (tableSize (length table₀)) (length (rowsRead (readIndex t))) (omega (arith, w .1 .0)) in
+        told (rw (w .1 .1, w .0, l)) (rw (w .1 .1, w .0, l))
 
     pub rows-room : n ≤ tableSize (length table₀) → (isRead (readIndex t) ≡ true) × (length (rowsRead (readIndex t)) ≤ tableSize (length table₀))
-    rows-room h = (w .0, omega (arith, w .1))
+    rows-room h = (w .0, omega (arith, w .1 .0))
 
     pub read-whole : {table : List ℕ} → n ≤ tableSize (length table₀) → table ≡ over (tableNumbers (rowsRead (readIndex t))) table₀ → Answers (count.Rows n) table
     unfolding countedOf countedTable countOrder inOrder
     read-whole h q =
-        let l = le-ltb (tableSize (length table₀)) (length (rowsRead (readIndex t))) (omega (arith, w .1)) in
-        told (rw (w .0, l) (ap count.Rows (w .1))) (rw (w .0, l) q)
+        let l = le-ltb (tableSize (length table₀)) (length (rowsRead (readIndex t))) (omega (arith, w .1 .0)) in
+        told (rw (w .1 .1, w .0, l) (ap count.Rows (w .1 .0))) (rw (w .1 .1, w .0, l) q)
 
 -- the numbers of rows that have their seats have room
 five : (es : List IndexRow) → length (tableNumbers es) ≡ length es * 5

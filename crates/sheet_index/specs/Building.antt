@@ -6,12 +6,12 @@ use lib.Dec.{ltb}
 use lib.ListN.{length}
 use Rattle.base_refusals.specs.Numbers.{maxText, Paper, refusedPaper, passedPaper}
 use Rattle.base_refusals.specs.Orders.{Ground, inOrder}
-use Rattle.base_refusals.specs.declared.Refusal.the-variants.{JoinFull, NotAnIndex, TableFull, IndexTooLong}
+use Rattle.base_refusals.specs.declared.Refusal.the-variants.{JoinFull, NotAnIndex, TableFull, AnotherVersion, IndexTooLong}
 use Rattle.text_checks.specs.Check.{textOrder}
 use Rattle.sheet_blocks.specs.Sheets.{Try, triesAt}
-use Rattle.sheet_records.specs.Records.{Record, indexText, indexRows, tableNumbers}
+use Rattle.sheet_records.specs.Records.{Record, indexVersion, indexText, indexRows, tableNumbers}
 use Rattle.sheet_records.specs.Listed.{recordsOf}
-use Rattle.sheet_records.specs.Computed.{Index, notIndex, rows, readIndex}
+use Rattle.sheet_records.specs.Computed.{Index, notIndex, rows, isOther, readIndex}
 use Rattle.sheet_records.specs.Writing.{tableSize}
 use Rattle.sheet_records.specs.declared.IndexRow.{IndexRow}
 use Rattle.sheet_index.specs.declared.Built as built
@@ -34,8 +34,9 @@ abbrev pub isRead : Index → Bool
 isRead (notIndex r) = false
 isRead (rows es) = true
 
+-- and before it "16 first line right but for another number"
 abbrev pub formOrder : List ℕ → List Ground
-formOrder t = Ground.lacking NotAnIndex (isRead (readIndex t)) ∷ []
+formOrder t = Ground.given AnotherVersion (isOther indexVersion t) ∷ Ground.lacking NotAnIndex (isRead (readIndex t)) ∷ []
 
 -- "lent table and buffer are then unchanged": on a refusal nothing is laid
 abbrev pub laidBy : {A : Type 0} → List Ground → List A → List A
@@ -70,7 +71,7 @@ abbrev pub rowsRead : Index → List IndexRow
 rowsRead (notIndex r) = []
 rowsRead (rows es) = es
 
--- 14 before 15: the whole text counts before the table does
+-- 16 and 14 before 15: the whole text counts before the table does
 unfoldable pub countOrder : List ℕ → ℕ → List Ground
 countOrder t n = formOrder t ++ (Ground.given TableFull (ltb (tableSize n) (length (rowsRead (readIndex t)))) ∷ [])
 

@@ -11,7 +11,7 @@ use Rattle.base_lists.specs.Lists.{over, same}
 use Rattle.base_refusals.specs.Numbers.{maxText}
 use Rattle.base_refusals.specs.Orders.{Ground, inOrder, onPaper}
 use Rattle.base_refusals.specs.declared.Refusal.{Refusal}
-use Rattle.base_refusals.specs.declared.Refusal.the-variants.{NothingThere, JoinFull, NotAnIndex, TableFull, IndexTooLong}
+use Rattle.base_refusals.specs.declared.Refusal.the-variants.{NothingThere, JoinFull, NotAnIndex, TableFull, AnotherVersion, IndexTooLong}
 use Rattle.base_refusals.specs.declared.Outcome as outcomes
 use Rattle.base_refusals.specs.declared.Outcome.the-variants as outcome
 use Rattle.base_refusals.proofs.Orders.{paper-by}
@@ -19,8 +19,9 @@ use Rattle.text_checks.specs.Check.{textOrder, checkOf, bothOrder, bothOf, isTe
 use Rattle.text_checks.proofs.Texts.{passed}
 use Rattle.sheet_blocks.specs.Sheets.{Try, triesAt, joinBehind}
 use Rattle.sheet_blocks.proofs.Goes.{join-append}
-use Rattle.sheet_records.specs.Records.{Record, indexText, indexRows, tableNumbers}
+use Rattle.sheet_records.specs.Records.{Record, indexVersion, indexText, indexRows, tableNumbers}
 use Rattle.sheet_records.specs.Listed.{recordsOf}
+use Rattle.sheet_records.specs.Computed.{isOther}
 use Rattle.sheet_records.specs.Writing.{tableSize}
 use Rattle.sheet_index.specs.Building.{roomFor, laidBy, builtPaper}
 use Rattle.sheet_index.specs.declared.Built as built
@@ -29,8 +30,8 @@ use Rattle.sheet_index.proofs.Steps.{order-met, order-past, order-parts, join-t
 use Rattle.sheet_edits.specs.Edits.{againOf, againText}
 use Rattle.sheet_edits.specs.declared.Again as agains
 use Rattle.sheet_edits.specs.declared.Again.the-variants as again
-use Rattle.sheet_mends.specs.Mending.{editOrder, oldOrder, mendOrder, mendedOf, mendedText, mendedTable, mendTries}
-use Rattle.sheet_mends.specs.Assembled.{answeredBy, tableBy, textBy, behindEdit, comparedTries, joinAndEdit, checkedTries}
+use Rattle.sheet_mends.specs.Mending.{editOrder, versionOrder, oldOrder, mendOrder, mendedOf, mendedText, mendedTable, mendTries}
+use Rattle.sheet_mends.specs.Assembled.{answeredBy, tableBy, textBy, behindEdit, comparedTries, versionTries, joinAndEdit, checkedTries}
 
 -- both texts are texts where neither is refused
 pub both-texts : (t u : List ℕ) {c : outcomes.Outcome} → c ≡ bothOf t u → c ≡ outcome.Passed → (isText t ≡ true) × (isText u ≡ true)
@@ -115,6 +116,34 @@ module _ (old new index again table₀ out₀ join₀ : List ℕ) where
           let w = meets-past (recordsOf new) table₀ out₀ (oldOrder old index) behindOld (rw own) h in
           (w .0, (k ∙ (rw (j, own) (sym (join-append join₀ (triesAt old maxText 1 0) (triesAt again maxText 1 0)))), w .1))
 
+-- ---- 16
+
+module _ (old new index again table₀ out₀ join₀ : List ℕ) where
+  abbrev behindFirst : List Ground
+  behindFirst = oldOrder old index ++ roomFor (length table₀) (length out₀) (recordsOf new)
+
+  -- what is promised of an index of any version
+  abbrev pub Versioned : built.Built → List ℕ → List ℕ → List ℕ → Type 0
+  Versioned r join table out =
+      (r ≡ answeredBy (versionOrder index ++ behindFirst) (recordsOf new))
+      × ((join ≡ joinBehind join₀ (versionTries old index again))
+      × ((table ≡ tableBy (versionOrder index ++ behindFirst) (recordsOf new) table₀) × (out ≡ textBy (versionOrder index ++ behindFirst) (recordsOf new) out₀)))
+
+  module _ {other : Bool} (e : other ≡ isOther indexVersion index) where
+    pub version-other : other ≡ true → Versioned (build.Refused AnotherVersion) join₀ table₀ out₀
+    unfolding inOrder joinBehind
+    version-other y =
+        let f : isOther indexVersion index ≡ true = sym e ∙ y in
+        let w = meets-met (recordsOf new) table₀ out₀ (versionOrder index) behindFirst {q = AnotherVersion} (rw f) in
+        (w .0, (rw f, w .1))
+
+    pub version-own : other ≡ false → {r : built.Built} {join table out : List ℕ} → Lined old new index again table₀ out₀ join₀ r join table out → Versioned r join table out
+    unfolding inOrder
+    version-own y h =
+        let f : isOther indexVersion index ≡ false = sym e ∙ y in
+        let w = meets-past (recordsOf new) table₀ out₀ (versionOrder index) behindFirst (rw f) (h .0, h .1 .1) in
+        (w .0, (h .1 .0 ∙ rw f, w .1))
+
 -- ---- 9 and 3
 
 module _ (old new : List ℕ) (a b : ℕ) (index table₀ out₀ join₀ : List ℕ) where
@@ -131,7 +160,7 @@ module _ (old new : List ℕ) (a b : ℕ) (index table₀ out₀ join₀ : List 
       × ((join ≡ joinBehind join₀ (checkedTries old new a b index (length join₀)))
       × ((table ≡ tableBy (edit ++ rest) (recordsOf new) table₀) × (out ≡ textBy (edit ++ rest) (recordsOf new) out₀)))
 
-  refused-edit : {q : Refusal} → inOrder outcome.Refused edit outcome.Passed ≡ outcome.Refused q → laidBy edit (comparedTries old index (againText new (againOf old new a b))) ≡ [] → Edited (build.Refused q) join₀ table₀ out₀
+  refused-edit : {q : Refusal} → inOrder outcome.Refused edit outcome.Passed ≡ outcome.Refused q → laidBy edit (versionTries old index (againText new (againOf old new a b))) ≡ [] → Edited (build.Refused q) join₀ table₀ out₀
   unfolding joinBehind
   refused-edit m z = let w = meets-met (recordsOf new) table₀ out₀ edit rest m in (w .0, (rw z, w .1))
 
@@ -144,7 +173,7 @@ module _ (old new : List ℕ) (a b : ℕ) (index table₀ out₀ join₀ : List 
     unfolding inOrder
     edit-missing y = refused-edit (rw (le-ltb (length join₀) maxText wide, ← e, y)) (rw (le-ltb (length join₀) maxText wide, ← e, y))
 
-    pub edit-lines : {p q n : ℕ} → x ≡ again.Lines p q n → {r : built.Built} {join table out : List ℕ} → Lined old new index (slice p n new) table₀ out₀ join₀ r join table out → Edited r join table out
+    pub edit-lines : {p q n : ℕ} → x ≡ again.Lines p q n → {r : built.Built} {join table out : List ℕ} → Versioned old new index (slice p n new) table₀ out₀ join₀ r join table out → Edited r join table out
     unfolding inOrder
     edit-lines y h =
         let m : inOrder outcome.Refused edit outcome.Passed ≡ outcome.Passed = rw (le-ltb (length join₀) maxText wide, ← e, y) in
@@ -168,7 +197,7 @@ module _ (old new : List ℕ) (a b : ℕ) (index table₀ out₀ join₀ : List 
       ∙ ap (λ gs. onPaper gs (length (recordsOf new) ∷ length (indexText (recordsOf new)) ∷ [])) (append-nil (mendOrder old new a b index (length join₀) (length table₀) (length out₀)))
 
   whole : {r : built.Built} {join table out : List ℕ} → Meets (recordsOf new) table₀ out₀ (bothOrder old new ++ (edit ++ rest)) r table out
-      → join ≡ joinBehind join₀ (laidBy (bothOrder old new ++ edit) (comparedTries old index (againText new (againOf old new a b)))) → Mended r join table out
+      → join ≡ joinBehind join₀ (laidBy (bothOrder old new ++ edit) (versionTries old index (againText new (againOf old new a b)))) → Mended r join table out
   unfolding mendedOf mendedTable mendedText mendTries mendOrder editOrder
   whole {r} h j =
       let z : r ≡ mendedOf old new a b index (length join₀) (length table₀) (length out₀) = h .0 in
@@ -180,11 +209,11 @@ module _ (old new : List ℕ) (a b : ℕ) (index table₀ out₀ join₀ : List 
     mend-refused {q} f =
         let m : inOrder outcome.Refused (bothOrder old new) outcome.Passed ≡ outcome.Refused q = sym e ∙ f in
         whole (meets-met (recordsOf new) table₀ out₀ (bothOrder old new) (edit ++ rest) m)
-        (ap (joinBehind join₀) (sym (order-met (λ q. []) (comparedTries old index (againText new (againOf old new a b))) (bothOrder old new) edit m)))
+        (ap (joinBehind join₀) (sym (order-met (λ q. []) (versionTries old index (againText new (againOf old new a b))) (bothOrder old new) edit m)))
 
     pub mend-passed : {r : built.Built} {join table out : List ℕ} → c ≡ outcome.Passed → Edited r join table out → Mended r join table out
     unfolding bothOf
     mend-passed f h =
         let m : inOrder outcome.Refused (bothOrder old new) outcome.Passed ≡ outcome.Passed = sym e ∙ f in
         whole (meets-past (recordsOf new) table₀ out₀ (bothOrder old new) (edit ++ rest) m (h .0, h .1 .1))
-        (h .1 .0 ∙ ap (joinBehind join₀) (sym (order-past (λ q. []) (comparedTries old index (againText new (againOf old new a b))) (bothOrder old new) edit m)))
+        (h .1 .0 ∙ ap (joinBehind join₀) (sym (order-past (λ q. []) (versionTries old index (againText new (againOf old new a b))) (bothOrder old new) edit m)))

@@ -333,22 +333,3 @@ module _ {t index table₀ out₀ table out : List ℕ} {from to ll ml lo mo : �
             few = omega (arith, inv .few, a, next-is, line-some, inv .ordered);
             short = omega (arith, inv .short, c, next-is, line-some, inv .ordered, long (movedOn ml mo (f .one)), long (movedOn ll lo (f .one)), n);
           }
-
--- ---- the first line of an index
-
-module _ (t : List ℕ) {o : outcomes.Outcome} (e : o ≡ headOf t) where
-  pub headed-no : {r : Refusal} → o ≡ outcome.Refused r → false ≡ isHeaded t
-  unfolding headOf
-  headed-no {r} f = go (isHeaded t) refl (sym f ∙ e)
-    where
-      go : (x : Bool) → isHeaded t ≡ x → outcome.Refused r ≡ cond x outcome.Passed (outcome.Refused NotAnIndex) → false ≡ isHeaded t
-      go true q g = let z : _≡_ {A = ℕ} 0 1 = cc in absurd (omega arith)
-      go false q g = sym q
-
-  pub headed-yes : o ≡ outcome.Passed → true ≡ isHeaded t
-  unfolding headOf
-  headed-yes f = go (isHeaded t) refl (sym f ∙ e)
-    where
-      go : (x : Bool) → isHeaded t ≡ x → outcome.Passed ≡ cond x outcome.Passed (outcome.Refused NotAnIndex) → true ≡ isHeaded t
-      go true q g = sym q
-      go false q g = let z : _≡_ {A = ℕ} 0 1 = cc in absurd (omega arith)

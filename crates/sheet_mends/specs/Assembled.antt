@@ -20,7 +20,7 @@ use Rattle.sheet_index.specs.declared.Built.the-variants as build
 use Rattle.sheet_splits.specs.Parting.{MayPart, movedOn}
 use Rattle.sheet_edits.specs.Edits.{againOf, isAgain, againText}
 use Rattle.sheet_edits.specs.declared.Again.the-variants as again
-use Rattle.sheet_mends.specs.Mending.{oldOrder}
+use Rattle.sheet_mends.specs.Mending.{versionOrder, oldOrder}
 use Rattle.sheet_mends.specs.Inner.{mostIndex}
 use Rattle.sheet_mends.specs.declared.Progress.{Progress}
 use Rattle.sheet_mends.specs.declared.Seen.{Seen}
@@ -89,11 +89,17 @@ textBy gs rs out = over (laidBy gs (indexText rs)) out
 
 -- ---- the orders from a check on, and the tries behind it
 
-abbrev pub behindEdit : List ℕ → List ℕ → List ℕ → ℕ → ℕ → List Ground
-behindEdit old new index n size = oldOrder old index ++ roomFor n size (recordsOf new)
+abbrev pub behindVersion : List ℕ → List ℕ → List ℕ → ℕ → ℕ → List Ground
+behindVersion old new index n size = oldOrder old index ++ roomFor n size (recordsOf new)
 
 abbrev pub comparedTries : List ℕ → List ℕ → List ℕ → List Try
 comparedTries old index again = triesAt old maxText 1 0 ++ laidBy (oldOrder old index) (triesAt again maxText 1 0)
+
+abbrev pub behindEdit : List ℕ → List ℕ → List ℕ → ℕ → ℕ → List Ground
+behindEdit old new index n size = versionOrder index ++ behindVersion old new index n size
+
+abbrev pub versionTries : List ℕ → List ℕ → List ℕ → List Try
+versionTries old index again = laidBy (versionOrder index) (comparedTries old index again)
 
 abbrev pub joinAndEdit : List ℕ → List ℕ → ℕ → ℕ → ℕ → List Ground
 joinAndEdit old new a b cap = Ground.given JoinFull (ltb cap maxText) ∷ Ground.lacking NothingThere (isAgain (againOf old new a b)) ∷ []
@@ -102,4 +108,4 @@ abbrev pub behindTexts : List ℕ → List ℕ → ℕ → ℕ → List ℕ → 
 behindTexts old new a b index cap n size = joinAndEdit old new a b cap ++ behindEdit old new index n size
 
 abbrev pub checkedTries : List ℕ → List ℕ → ℕ → ℕ → List ℕ → ℕ → List Try
-checkedTries old new a b index cap = laidBy (joinAndEdit old new a b cap) (comparedTries old index (againText new (againOf old new a b)))
+checkedTries old new a b index cap = laidBy (joinAndEdit old new a b cap) (versionTries old index (againText new (againOf old new a b)))

@@ -22,14 +22,14 @@ ghost use Rattle.set_table.specs.Types.{two};
 ghost use Rattle.sheet_blocks.specs.Sheets.{triesAt, joinBehind};
 ghost use Rattle.sheet_records.specs.Records.{AllIn, rowAt, indexText, indexRows, tableNumbers};
 ghost use Rattle.sheet_records.specs.Listed.{recordsOf};
-ghost use Rattle.sheet_records.specs.Computed.{idIn, isHeaded};
+ghost use Rattle.sheet_records.specs.Computed.{idIn};
 ghost use Rattle.sheet_records.specs.Writing.{rawId, tableSize};
 ghost use Rattle.sheet_index.specs.Inner.{setRecord, blockAdds, linesText, mostLine};
 ghost use Rattle.sheet_index.specs.Building.{roomFor, builtPaper};
 ghost use Rattle.sheet_splits.specs.Parting.{movedOn};
 ghost use Rattle.sheet_mends.specs.Inner.{soFew, oneMore, atMost, mostText, mostIndex, mostKept, tellOne, tellAll};
 ghost use Rattle.sheet_mends.specs.Mending.{mendOrder, mendedOf, mendedText, mendedTable, mendTries};
-ghost use Rattle.sheet_mends.specs.Assembled.{AreAgain, OldParts, MayMend, seenOf, soFar, textAndRest, behindEdit, behindTexts, comparedTries, checkedTries, answeredBy, tableBy, textBy};
+ghost use Rattle.sheet_mends.specs.Assembled.{AreAgain, OldParts, MayMend, seenOf, soFar, textAndRest, behindVersion, behindEdit, behindTexts, comparedTries, versionTries, checkedTries, answeredBy, tableBy, textBy};
 
 // Records that are told one after the other: whether their lines stand in an index, how many they are, and where the next line begins.
 pub struct Progress {
@@ -296,16 +296,6 @@ fn tell_kept(
     }
 }
 
-// Whether an index begins with the first line of one.
-fn is_headed(index: &[u8]) -> bool
-    ensures { λ r. ⌜ r ≡ isHeaded (now (index .entry)) ⌝ }
-{
-    match sheet_records::head_of(index) {
-        Outcome::Refused(_) => false,
-        Outcome::Passed => true,
-    }
-}
-
 // Compares the old text with the index, in three parts, so that it is seen where in the index the records of the lines that are read again stand. They are told into a
 // table and a buffer that have room for none.
 fn compare_old<'a>(old: &'a [u8], p: usize, e: usize, index: &'a [u8], join: &mut [u8]) -> Seen
@@ -321,7 +311,7 @@ fn compare_old<'a>(old: &'a [u8], p: usize, e: usize, index: &'a [u8], join: &mu
     let again = set_table::bytes_of(old, p, e);
     let rest = set_table::bytes_of(old, e, old.len());
     let start = Progress {
-        good: is_headed(index),
+        good: sheet_records::is_headed(index),
         records: 0,
         next: sheet_records::HEADER,
     };
@@ -524,16 +514,42 @@ fn mend_lines<'a>(
     requires { ⌜ (length (now old) ≤ maxText) × ((length (now new) ≤ maxText) × (maxText ≤ length (now join))) ⌝ }
     requires { ⌜ AllIn (recordsOf (now old)) ⌝ }
     requires { ⌜ AreAgain (now old) (now new) p e n ⌝ }
-    ensures { λ r. ⌜ r ≡ answeredBy (behindEdit (now (old .entry)) (now (new .entry)) (now (index .entry)) (length (now (table .entry))) (length (now (out .entry)))) (recordsOf (now (new .entry))) ⌝ }
+    ensures { λ r. ⌜ r ≡ answeredBy (behindVersion (now (old .entry)) (now (new .entry)) (now (index .entry)) (length (now (table .entry))) (length (now (out .entry)))) (recordsOf (now (new .entry))) ⌝ }
     ensures { λ _. ⌜ now (join .exit) ≡ joinBehind (now (join .entry)) (comparedTries (now (old .entry)) (now (index .entry)) (slice p n (now (new .entry)))) ⌝ }
-    ensures { λ _. ⌜ now (table .exit) ≡ tableBy (behindEdit (now (old .entry)) (now (new .entry)) (now (index .entry)) (length (now (table .entry))) (length (now (out .entry)))) (recordsOf (now (new .entry))) (now (table .entry)) ⌝ }
-    ensures { λ _. ⌜ now (out .exit) ≡ textBy (behindEdit (now (old .entry)) (now (new .entry)) (now (index .entry)) (length (now (table .entry))) (length (now (out .entry)))) (recordsOf (now (new .entry))) (now (out .entry)) ⌝ }
+    ensures { λ _. ⌜ now (table .exit) ≡ tableBy (behindVersion (now (old .entry)) (now (new .entry)) (now (index .entry)) (length (now (table .entry))) (length (now (out .entry)))) (recordsOf (now (new .entry))) (now (table .entry)) ⌝ }
+    ensures { λ _. ⌜ now (out .exit) ≡ textBy (behindVersion (now (old .entry)) (now (new .entry)) (now (index .entry)) (length (now (table .entry))) (length (now (out .entry)))) (recordsOf (now (new .entry))) (now (out .entry)) ⌝ }
 {
     let seen = compare_old(old, p, e, index, join);
     if !seen.good {
         return Built::Refused(Refusal::NotAnIndex);
     }
     mend_seen(old, new, p, e, n, index, seen, join, table, out)
+}
+
+// The same for an index of any version: another one is told by its first line, before the old text is read.
+fn mend_version<'a>(
+    old: &'a [u8],
+    new: &'a [u8],
+    p: usize,
+    e: usize,
+    n: usize,
+    index: &'a [u8],
+    join: &mut [u8],
+    table: &mut [usize],
+    out: &mut [u8],
+) -> Built
+    requires { ⌜ (length (now old) ≤ maxText) × ((length (now new) ≤ maxText) × (maxText ≤ length (now join))) ⌝ }
+    requires { ⌜ AllIn (recordsOf (now old)) ⌝ }
+    requires { ⌜ AreAgain (now old) (now new) p e n ⌝ }
+    ensures { λ r. ⌜ r ≡ answeredBy (behindEdit (now (old .entry)) (now (new .entry)) (now (index .entry)) (length (now (table .entry))) (length (now (out .entry)))) (recordsOf (now (new .entry))) ⌝ }
+    ensures { λ _. ⌜ now (join .exit) ≡ joinBehind (now (join .entry)) (versionTries (now (old .entry)) (now (index .entry)) (slice p n (now (new .entry)))) ⌝ }
+    ensures { λ _. ⌜ now (table .exit) ≡ tableBy (behindEdit (now (old .entry)) (now (new .entry)) (now (index .entry)) (length (now (table .entry))) (length (now (out .entry)))) (recordsOf (now (new .entry))) (now (table .entry)) ⌝ }
+    ensures { λ _. ⌜ now (out .exit) ≡ textBy (behindEdit (now (old .entry)) (now (new .entry)) (now (index .entry)) (length (now (table .entry))) (length (now (out .entry)))) (recordsOf (now (new .entry))) (now (out .entry)) ⌝ }
+{
+    if sheet_records::is_other(index) {
+        return Built::Refused(Refusal::AnotherVersion);
+    }
+    mend_lines(old, new, p, e, n, index, join, table, out)
 }
 
 // Mends an index where the two texts are texts.
@@ -559,7 +575,7 @@ fn mend_checked<'a>(
     }
     match sheet_edits::lines_again(old, new, a, b) {
         Again::Missing => Built::Refused(Refusal::NothingThere),
-        Again::Lines(p, e, n) => mend_lines(old, new, p, e, n, index, join, table, out),
+        Again::Lines(p, e, n) => mend_version(old, new, p, e, n, index, join, table, out),
     }
 }
 

@@ -1,18 +1,20 @@
 -- Writing a record's line: its numbers, its end, its row; and the row of a lent table.
 -- Assumes nothing.
 use mathlib.Core.Path.{_≡_, refl, sym, _∙_, ap}
-use mathlib.Core.Bool.{Bool, true, false}
+use mathlib.Core.Bool.{Bool, true, false, cond, _&&_}
 use mathlib.Core.List.{List, [], _∷_, _++_, append-nil}
 use Prim.Native.Nat.{ℕ, suc, _+_, _-_, _*_, _/_, _^_, _≤_, _<_}
 use native.Mathlib.Numerals.{add-one}
 use native.Mathlib.Omega.{arith}
 use borrow.Author.Tests.{le-leb, lt-leb, leb-true, leb-false, lt-ltb, le-ltb}
-use lib.Dec.{leb}
-use lib.ListN.{length, take, drop, set, length-append, length-set, replicate, drop-of-length-le}
-use lib.Seq.{slice, sets, length-sets, sets-eq, take-all, take-append-seam}
+use lib.Dec.{leb, eqb}
+use lib.ListN.{length, getD, take, drop, set, length-append, length-set, replicate, drop-of-length-le}
+use lib.Seq.{drop-cons, slice, sets, length-sets, sets-eq, take-all, take-append-seam}
 use Rattle.base_lists.proofs.Sets.{sets-append}
-use Rattle.base_refusals.specs.declared.Refusal.the-variants.{NotAnIndex}
-use Rattle.base_refusals.specs.declared.Outcome as outcomes
+use Rattle.base_refusals.specs.Numbers.{outcomeNo}
+use Rattle.base_refusals.specs.Orders.{inOrder, orderNo}
+use Rattle.base_refusals.proofs.Orders.{order-no}
+use Rattle.base_refusals.specs.declared.Refusal.the-variants.{NotAnIndex, AnotherVersion}
 use Rattle.base_refusals.specs.declared.Outcome.the-variants as outcome
 use Rattle.base_bytes.specs.Bytes.{lf, tab}
 use Rattle.text_digits.specs.Decimal.{decimal, places, placesIn}
@@ -23,12 +25,14 @@ use Rattle.text_escapes.specs.declared.Written.the-variants.{Full, To}
 use Rattle.set_marks.specs.Marks.{bytesIn}
 use Rattle.base_lists.specs.Lists.{same}
 use Rattle.base_lists.proofs.Same.{same-length}
-use Rattle.sheet_records.specs.Records.{RecordId, noId, anId, Record, numbersText, idField, recordLine, indexVersion, indexHeader, rowBy, rowAt}
-use Rattle.sheet_records.specs.Computed.{isHeaded, headOf}
+use Rattle.sheet_records.specs.Records.{RecordId, noId, anId, Record, numbersText, idField, recordLine, indexVersion, headerOf, indexHeader, rowBy, rowAt}
+use Rattle.sheet_records.specs.Computed.{fieldAt, isHeaded, headFront, endsLine, isNumbered, isOther, otherTold, headOrder, headIn, headOf}
 use Rattle.sheet_records.specs.Writing.{rawId, lineFits, putOf, lineOver, putPaper, rowOver}
 use Rattle.sheet_records.specs.Inner.{lineSize, endText, rowTo}
+use Rattle.sheet_records.specs.declared.Field.the-variants.{Unread, Read}
 use Rattle.sheet_records.specs.declared.IndexRow.{IndexRow}
 use Rattle.sheet_records.specs.declared.Put.the-variants.{NoRoom, Row}
+use Rattle.sheet_records.proofs.Places.{begins-past}
 
 -- an answer, and the same on paper
 pub told : {A B : Type 0} (f : A → B) {x y : A} → x ≡ y → (x ≡ y) × (f x ≡ f y)
@@ -36,16 +40,15 @@ told f e = (e, ap f e)
 
 -- ---- the first line
 
-pub header-is : indexHeader ≡ 99 ∷ 97 ∷ 114 ∷ 118 ∷ 101 ∷ 45 ∷ 97 ∷ 116 ∷ 116 ∷ 114 ∷ 45 ∷ 105 ∷ 110 ∷ 100 ∷ 101 ∷ 120 ∷ 9 ∷ 49 ∷ 10 ∷ []
-unfolding indexHeader indexVersion decimal places placesIn
+pub header-is : indexHeader ≡ 99 ∷ 97 ∷ 114 ∷ 118 ∷ 101 ∷ 45 ∷ 97 ∷ 116 ∷ 116 ∷ 114 ∷ 45 ∷ 105 ∷ 110 ∷ 100 ∷ 101 ∷ 120 ∷ 9 ∷ 50 ∷ 10 ∷ []
+unfolding headerOf indexVersion decimal places placesIn
 header-is = refl
 
 pub header-long : length indexHeader ≡ 19
 header-long = ap length header-is
 
-pub head-short : (t : List ℕ) → length t < 19 → outcome.Refused NotAnIndex ≡ headOf t
-unfolding headOf
-head-short t h = rw (← same-length (take (length indexHeader) t) indexHeader (λ e. absurd (omega (arith, e, header-long, ap length (take-all (length indexHeader) t (omega (arith, header-long)))))))
+pub head-short : (t : List ℕ) → length t < 19 → false ≡ isHeaded t
+head-short t h = same-length (take (length indexHeader) t) indexHeader (λ e. absurd (omega (arith, e, header-long, ap length (take-all (length indexHeader) t (omega (arith, header-long))))))
 
 -- what is laid at the front
 pub front-laid : (buf xs : List ℕ) → length xs ≤ length buf → sets buf 0 xs ≡ xs ++ drop (length xs) buf
@@ -57,17 +60,68 @@ laid-head buf l e =
     let d : drop (length indexHeader) buf ≡ [] = drop-of-length-le buf {i = length indexHeader} (omega (arith, header-long)) in
     e ∙ (front-laid buf indexHeader (omega (arith, header-long)) ∙ (ap (λ (x : List ℕ). indexHeader ++ x) d ∙ append-nil indexHeader))
 
-module _ (t buf : List ℕ) {x : Bool} {s h : List ℕ} (l : length buf ≡ 19) (e : h ≡ sets buf 0 indexHeader) (f : s ≡ take 19 t) (q : x ≡ same s h) where
-  headed-is : x ≡ isHeaded t
-  headed-is = q ∙ rw (f, laid-head buf l e, header-long)
+pub headed-is : (t buf : List ℕ) {x : Bool} {s h : List ℕ} → length buf ≡ 19 → h ≡ sets buf 0 indexHeader → s ≡ take 19 t → x ≡ same s h → x ≡ isHeaded t
+headed-is t buf l e f q = q ∙ rw (f, laid-head buf l e, header-long)
 
-  pub head-yes : x ≡ true → outcome.Passed ≡ headOf t
-  unfolding headOf
-  head-yes y = rw (← headed-is, y)
+-- the first line of some version: what stands before its number, the number, and the LF
+module _ (t : List ℕ) {s : List ℕ} {x : Bool} (e : s ≡ take 17 t) (f : x ≡ same s headFront) where
+  pub numbered-no : x ≡ false → false ≡ isNumbered t
+  unfolding isNumbered
+  numbered-no y = rw (← e, ← f, y)
 
-  pub head-no : x ≡ false → outcome.Refused NotAnIndex ≡ headOf t
-  unfolding headOf
-  head-no y = rw (← headed-is, y)
+  module _ (y : x ≡ true) where
+    numbered-by : {b : Bool} → b ≡ endsLine t (fieldAt t 17 0) → b ≡ isNumbered t
+    unfolding isNumbered
+    numbered-by g = rw (← e, ← f, y) g
+
+    pub numbered-bad : fieldAt t 17 0 ≡ Unread → false ≡ isNumbered t
+    numbered-bad g = numbered-by (rw g)
+
+    module _ {n p : ℕ} (g : fieldAt t 17 0 ≡ Read n p) where
+      pub numbered-past : length t ≤ p → false ≡ isNumbered t
+      numbered-past h = numbered-by (rw (g, begins-past t p lf h))
+
+      pub numbered-byte : p < length t → eqb (getD t p 0) 10 ≡ isNumbered t
+      numbered-byte h = numbered-by (rw (g, drop-cons t p 0 h))
+
+-- some version's, and this one's
+module _ (t : List ℕ) where
+  pub headed-passes : {x : Bool} → x ≡ isHeaded t → x ≡ true → outcome.Passed ≡ headOf t
+  unfolding headIn isOther inOrder
+  headed-passes e y = rw (← e, y) (go (isNumbered t))
+    where
+      go : (b : Bool) → outcome.Passed ≡ cond (b && false) (outcome.Refused (otherTold indexVersion)) outcome.Passed
+      go true = refl
+      go false = refl
+
+  pub headed-own : {x : Bool} → x ≡ isHeaded t → x ≡ true → false ≡ isOther indexVersion t
+  unfolding isOther
+  headed-own e y = rw (← e, y) (go (isNumbered t))
+    where
+      go : (b : Bool) → false ≡ (b && false)
+      go true = refl
+      go false = refl
+
+  module _ {x y : Bool} (e : x ≡ isHeaded t) (f : x ≡ false) (g : y ≡ isNumbered t) where
+    pub numbered-other : y ≡ isOther indexVersion t
+    unfolding isOther
+    numbered-other = rw (← e, f) (g ∙ go (isNumbered t))
+      where
+        go : (b : Bool) → b ≡ (b && true)
+        go true = refl
+        go false = refl
+
+    pub other-refused : y ≡ true → outcome.Refused AnotherVersion ≡ headOf t
+    unfolding headIn isOther inOrder indexVersion
+    other-refused h = rw (← e, f, ← g, h)
+
+    pub head-refused : y ≡ false → outcome.Refused NotAnIndex ≡ headOf t
+    unfolding headIn isOther inOrder
+    head-refused h = rw (← e, f, ← g, h)
+
+  pub head-no : outcomeNo (headOf t) ≡ orderNo (headOrder indexVersion t)
+  unfolding headIn orderNo inOrder
+  head-no = order-no outcomeNo outcome.Refused (λ r. refl) (headOrder indexVersion t) [] {next = outcome.Passed} refl
 
 -- ---- the numbers
 

@@ -24,12 +24,12 @@ use Rattle.sheet_records.specs.declared.RecordAt.the-variants.{Good}
 -- ---- numbers
 
 module _ (t : List ℕ) (at n : ℕ) (s : List ℕ) (d : drop at t ≡ decimal n ++ s) where
-  field-reads : (least : ℕ) → stops isDigit s ≡ true → least ≤ n → n ≤ mostNumber → fieldAt t at least ≡ Read n (at + length (decimal n))
+  pub field-reads : (least : ℕ) → stops isDigit s ≡ true → least ≤ n → n ≤ mostNumber → fieldAt t at least ≡ Read n (at + length (decimal n))
   unfolding fieldAt fieldOf leastNumber
   field-reads least st h l =
       rw (d, run-is isDigit (decimal n) s (all-digits n) st, take-append-seam (decimal n) s, number-read mostNumber n l, le-ltb n least h)
 
-  field-past : drop (at + length (decimal n)) t ≡ s
+  pub field-past : drop (at + length (decimal n)) t ≡ s
   field-past = drop-past t (decimal n) s at (at + length (decimal n)) d refl
 
 -- ---- a byte

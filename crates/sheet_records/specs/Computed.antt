@@ -1,22 +1,23 @@
 -- How an index is read, by places. It needs no belief: a text is read as rows exactly where it is the index text of the records that these rows say, all in range
 -- (proved_index/specs/Form).
 use Prim.Native.Nat.{ℕ, zero, suc, _+_}
-use mathlib.Core.Bool.{Bool, cond}
-use mathlib.Core.List.{List, [], _∷_}
+use mathlib.Core.Bool.{Bool, false, cond, not, _&&_}
+use mathlib.Core.List.{List, [], _∷_, _++_}
 use lib.Dec.{ltb}
 use lib.ListN.{length, take, drop}
 use lib.Seq.{slice}
 use Rattle.base_lists.specs.Lists.{run, begins, same}
 use Rattle.base_bytes.specs.Bytes.{isDigit, lf, tab}
 use Rattle.base_refusals.specs.Numbers.{Paper, passedPaper}
+use Rattle.base_refusals.specs.Orders.{Ground, inOrder}
 use Rattle.base_refusals.specs.declared.Refusal.{Refusal}
-use Rattle.base_refusals.specs.declared.Refusal.the-variants.{NotAnIndex}
+use Rattle.base_refusals.specs.declared.Refusal.the-variants.{NotAnIndex, AnotherVersion}
 use Rattle.base_refusals.specs.declared.Outcome as outcomes
 use Rattle.base_refusals.specs.declared.Outcome.the-variants as outcome
 use Rattle.text_digits.specs.Digits.{numberIn}
 use Rattle.text_digits.specs.declared.Decimal as answer
 use Rattle.text_digits.specs.declared.Decimal.the-variants.{None, Is}
-use Rattle.sheet_records.specs.Records.{RecordId, noId, anId, Record, notLf, mostNumber, indexHeader, rowNumbers}
+use Rattle.sheet_records.specs.Records.{RecordId, noId, anId, Record, notLf, mostNumber, indexVersion, indexWord, headerOf, rowNumbers}
 use Rattle.sheet_records.specs.declared.Field.{Field}
 use Rattle.sheet_records.specs.declared.Field.the-variants.{Unread, Read}
 use Rattle.sheet_records.specs.declared.IndexRow.{IndexRow}
@@ -105,16 +106,55 @@ unfoldable pub rowsFrom : ℕ → List ℕ → ℕ → Index
 rowsFrom zero t at = notIndex NotAnIndex
 rowsFrom (suc left) t at = cond (ltb at (length t)) (onRow (recordAt t at) (rowsFrom left t)) (rows [])
 
--- the first line
+-- ---- the first line
+
+-- it is that of the version v
+abbrev pub isHeadedBy : ℕ → List ℕ → Bool
+isHeadedBy v t = same (take (length (headerOf v)) t) (headerOf v)
+
 abbrev pub isHeaded : List ℕ → Bool
-isHeaded t = same (take (length indexHeader) t) indexHeader
+isHeaded t = isHeadedBy indexVersion t
 
-unfoldable pub headOf : List ℕ → outcomes.Outcome
-headOf t = cond (isHeaded t) outcome.Passed (outcome.Refused NotAnIndex)
+-- what stands before the number
+abbrev pub headFront : List ℕ
+headFront = indexWord ++ (tab ∷ [])
 
-abbrev pub indexBy : List ℕ → outcomes.Outcome → Index
-indexBy t (outcome.Refused r) = notIndex r
-indexBy t outcome.Passed = rowsFrom (suc (length t)) t (length indexHeader)
+-- a number was read, and an LF stands behind it
+abbrev pub endsLine : List ℕ → Field → Bool
+endsLine t Unread = false
+endsLine t (Read n p) = begins (drop p t) lf
 
-unfoldable pub readIndex : List ℕ → Index
-readIndex t = indexBy t (headOf t)
+-- it is, with its LF, that of some version: "Numbers are decimal, at most 65,535, no leading zero"
+unfoldable pub isNumbered : List ℕ → Bool
+isNumbered t = same (take (length headFront) t) headFront && endsLine t (fieldAt t (length headFront) 0)
+
+-- "16 first line right but for another number": for another than v
+unfoldable pub isOther : ℕ → List ℕ → Bool
+isOther v t = isNumbered t && not (isHeadedBy v t)
+
+-- a reader of version 1 knows no 16: "a display of last season must refuse version 2 by its header", and for it 14 was every first line but its own
+abbrev pub otherTold : ℕ → Refusal
+otherTold v = cond (ltb v 2) NotAnIndex AnotherVersion
+
+-- "before 14"
+abbrev pub headOrder : ℕ → List ℕ → List Ground
+headOrder v t = Ground.given (otherTold v) (isOther v t) ∷ Ground.lacking NotAnIndex (isHeadedBy v t) ∷ []
+
+unfoldable pub headIn : ℕ → List ℕ → outcomes.Outcome
+unfolding inOrder
+headIn v t = inOrder outcome.Refused (headOrder v t) outcome.Passed
+
+abbrev pub headOf : List ℕ → outcomes.Outcome
+headOf t = headIn indexVersion t
+
+-- ---- the whole, by a reader of the version v
+
+abbrev pub indexBy : ℕ → List ℕ → outcomes.Outcome → Index
+indexBy v t (outcome.Refused r) = notIndex r
+indexBy v t outcome.Passed = rowsFrom (suc (length t)) t (length (headerOf v))
+
+unfoldable pub readIndexOf : ℕ → List ℕ → Index
+readIndexOf v t = indexBy v t (headIn v t)
+
+abbrev pub readIndex : List ℕ → Index
+readIndex t = readIndexOf indexVersion t

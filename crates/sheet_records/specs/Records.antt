@@ -64,17 +64,20 @@ idField (anId s) = tab ∷ s
 unfoldable pub recordLine : Record → List ℕ
 recordLine r = numbersText (r .line) (r .count) (r .offset) ++ (idField (r .id) ++ (lf ∷ []))
 
--- the number of the form, named here and nowhere else
+-- "The index header becomes 2": the number of the form, named here and nowhere else
 unfoldable pub indexVersion : ℕ
-indexVersion = 1
+indexVersion = 2
 
 -- "`carve-attr-index`"
 abbrev pub indexWord : List ℕ
 indexWord = 99 ∷ 97 ∷ 114 ∷ 118 ∷ 101 ∷ hyphen ∷ 97 ∷ 116 ∷ 116 ∷ 114 ∷ hyphen ∷ 105 ∷ 110 ∷ 100 ∷ 101 ∷ 120 ∷ []
 
--- "first line `carve-attr-index`, tab, `1`"
-unfoldable pub indexHeader : List ℕ
-indexHeader = indexWord ++ ((tab ∷ decimal indexVersion) ++ (lf ∷ []))
+-- "first line `carve-attr-index`, tab, `1`", where the version is 1
+unfoldable pub headerOf : ℕ → List ℕ
+headerOf v = indexWord ++ ((tab ∷ decimal v) ++ (lf ∷ []))
+
+abbrev pub indexHeader : List ℕ
+indexHeader = headerOf indexVersion
 
 -- "first line ..; then one record a line"
 unfoldable pub indexText : List Record → List ℕ

@@ -10,10 +10,11 @@ ghost use lib.Dec.{leb};
 ghost use lib.ListN.{length};
 ghost use lib.Seq.{sets};
 ghost use Rattle.base_refusals.specs.Numbers.{outcomeNo};
+ghost use Rattle.base_refusals.specs.Orders.{orderNo};
 ghost use Rattle.text_digits.specs.Digits.{readOut};
 ghost use Rattle.set_marks.specs.Marks.{bytesIn};
-ghost use Rattle.sheet_records.specs.Records.{numbersText, indexHeader};
-ghost use Rattle.sheet_records.specs.Computed.{leastNumber, fieldAt, idEnd, idAt, endAt, offsetAt, countAt, recordAt, rowPaper, headOf};
+ghost use Rattle.sheet_records.specs.Records.{numbersText, indexVersion, indexHeader};
+ghost use Rattle.sheet_records.specs.Computed.{leastNumber, fieldAt, idEnd, idAt, endAt, offsetAt, countAt, recordAt, rowPaper, isHeaded, isNumbered, isOther, headOrder, headOf};
 ghost use Rattle.sheet_records.specs.Writing.{rawId, putOf, lineOver, putPaper, rowOver};
 ghost use Rattle.sheet_records.specs.Inner.{lineSize, endText, rowTo};
 
@@ -190,22 +191,62 @@ const FRONT: usize = 62;
 pub fn put_header(out: &mut [u8])
     ensures { λ _. ⌜ now (out .exit) ≡ sets (now (out .entry)) 0 indexHeader ⌝ }
 {
-    base_lists::put_bytes(out, 0, b"carve-attr-index\t1\n");
+    base_lists::put_bytes(out, 0, b"carve-attr-index\t2\n");
 }
 
-// Whether the first line is an index's.
-pub fn head_of(index: &[u8]) -> Outcome
-    ensures { λ r. ⌜ r ≡ headOf (now (index .entry)) ⌝ }
-    ensures { λ r. ⌜ outcomeNo r ≡ outcomeNo (headOf (now (index .entry))) ⌝ }
+// Whether the first line is that of this version.
+pub fn is_headed(index: &[u8]) -> bool
+    ensures { λ r. ⌜ r ≡ isHeaded (now (index .entry)) ⌝ }
 {
     if index.len() < HEADER {
-        return Outcome::Refused(Refusal::NotAnIndex);
+        return false;
     }
     let mut head = [0u8; HEADER];
     put_header(&mut head);
     let first = set_table::bytes_of(index, 0, HEADER);
-    if base_lists::same_bytes(first, &head) {
+    base_lists::same_bytes(first, &head)
+}
+
+// Whether the first line, with its LF, is that of some version.
+fn is_numbered(index: &[u8]) -> bool
+    ensures { λ r. ⌜ r ≡ isNumbered (now (index .entry)) ⌝ }
+{
+    let first = set_table::bytes_of(index, 0, 17);
+    if !base_lists::same_bytes(first, b"carve-attr-index\t") {
+        return false;
+    }
+    let number = field_at(index, 17, 0);
+    match number {
+        Field::Unread => false,
+        Field::Read(_, p) => {
+            if index.len() <= p {
+                return false;
+            }
+            index[p] == b'\n'
+        }
+    }
+}
+
+// Whether the first line, with its LF, is that of another version.
+pub fn is_other(index: &[u8]) -> bool
+    ensures { λ r. ⌜ r ≡ isOther indexVersion (now (index .entry)) ⌝ }
+{
+    if is_headed(index) {
+        return false;
+    }
+    is_numbered(index)
+}
+
+// Whether the first line is that of this version, or why it isn't.
+pub fn head_of(index: &[u8]) -> Outcome
+    ensures { λ r. ⌜ r ≡ headOf (now (index .entry)) ⌝ }
+    ensures { λ r. ⌜ outcomeNo r ≡ orderNo (headOrder indexVersion (now (index .entry))) ⌝ }
+{
+    if is_headed(index) {
         return Outcome::Passed;
+    }
+    if is_numbered(index) {
+        return Outcome::Refused(Refusal::AnotherVersion);
     }
     Outcome::Refused(Refusal::NotAnIndex)
 }

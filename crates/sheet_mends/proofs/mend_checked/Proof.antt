@@ -19,8 +19,8 @@ enum-told c = search needs
 enum-known-p : tie.Need-enum-known-p
 enum-known-p c = search needs
 
-mend-lines-requires : tie.Need-mend-lines-requires
-mend-lines-requires c κs =
+mend-version-requires : tie.Need-mend-version-requires
+mend-version-requires c κs =
     let start = c .before .before .before .before .before .before .before .before .before .before .before .before .before .before in
     let q = start .pre in
     ((q .0 .0, (q .0 .1, omega (arith, c .before .before .before .before .before .before .before .if1 .left))), (q .1, (start .args .a, (start .args .b, sym (c .before .before .before .before .before .before .lines-again .ensures .0) ∙ c .before .before .before .before .p .given .1))))
@@ -42,7 +42,7 @@ same-length-3 c = search needs
 returns-3 : tie.Need-returns-3
 returns-3 c =
     let a = c .before .before .before .before .before .before .before .before .before .before .before .before .before .before .before .before .before .before .before .before .before .args in
-    orders.edit-lines (a .old .now) (a .new .now) (a .a) (a .b) (a .index .now) (a .table .now) (a .out .now) (a .join .now) (omega (arith, c .before .before .before .before .before .before .before .before .before .before .before .before .before .before .if1 .left)) (c .before .before .before .before .before .before .before .before .before .before .before .before .before .lines-again .ensures .0) (c .before .before .before .before .before .before .before .before .before .before .before .p .given .1) (c .before .before .before .before .before .before .mend-lines .ensures)
+    orders.edit-lines (a .old .now) (a .new .now) (a .a) (a .b) (a .index .now) (a .table .now) (a .out .now) (a .join .now) (omega (arith, c .before .before .before .before .before .before .before .before .before .before .before .before .before .before .if1 .left)) (c .before .before .before .before .before .before .before .before .before .before .before .before .before .lines-again .ensures .0) (c .before .before .before .before .before .before .before .before .before .before .before .p .given .1) (c .before .before .before .before .before .before .mend-version .ensures)
 
 pub mend-checked-spec : {M : Type 1} → statement M
 mend-checked-spec =
@@ -52,7 +52,7 @@ mend-checked-spec =
     lines-again-requires
     enum-told
     enum-known-p
-    mend-lines-requires
+    mend-version-requires
     returns-2
     same-length
     same-length-2
