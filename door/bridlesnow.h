@@ -22,6 +22,8 @@
  * untouched. So a caller who wants none passes NULL and 0. They are told on a refusal too; the length of the canonical text is 0 where none is
  * written, so 10 doesn't tell how much is needed.
  *
+ * A text is its bytes and its length. No NUL ends it; one within it is a byte like others.
+ *
  * What the caller owes: each pointer with a length other than 0 points to that many elements, and memory that a call writes (`join`, `other_join`,
  * `out`, `cells`, `totals`, `numbers`, `table`, `told`) overlaps no other memory of that call. A pointer with length 0 may be NULL. Any other argument gets an answer: a place or
  * a line that isn't there is 3 (for a refused run: no), a `join` or an `out` too short is 9 or 10.
@@ -45,6 +47,37 @@
 #ifdef __cplusplus
 extern "C" {
 #endif
+
+/* The version of this header and of the library that is made with it. */
+#define BRIDLESNOW_VERSION "0.9.0"
+#define BRIDLESNOW_VERSION_MAJOR 0
+#define BRIDLESNOW_VERSION_MINOR 9
+#define BRIDLESNOW_VERSION_PATCH 0
+
+/* The numbers by name. */
+enum {
+    BRIDLESNOW_OK = 0,
+    BRIDLESNOW_TEXT_TOO_LONG = 1,
+    BRIDLESNOW_NOT_UTF8 = 2,
+    BRIDLESNOW_NOTHING_THERE = 3,
+    BRIDLESNOW_NO_CLOSE = 4,
+    BRIDLESNOW_NO_READING = 5,
+    BRIDLESNOW_TOO_MANY_CLASSES = 6,
+    BRIDLESNOW_TOO_MANY_KEYS = 7,
+    BRIDLESNOW_JOIN_FULL = 9,
+    BRIDLESNOW_CANON_TOO_LONG = 10,
+    BRIDLESNOW_NOT_WELL_FORMED = 11,
+    BRIDLESNOW_EMPTY_SET = 12,
+    BRIDLESNOW_BAD_TAG = 13,
+    BRIDLESNOW_NOT_AN_INDEX = 14,
+    BRIDLESNOW_TABLE_FULL = 15,
+    BRIDLESNOW_ANOTHER_VERSION = 16,
+    BRIDLESNOW_TOTAL_TOO_LARGE = 17,
+    BRIDLESNOW_TOO_MANY_COLUMNS = 18,
+    BRIDLESNOW_INDEX_TOO_LONG = 19,
+    BRIDLESNOW_BAD_SETTING = 20,
+    BRIDLESNOW_SHARED_VALVE = 21
+};
 
 /* The longest text, and the longest canonical text. */
 #define BRIDLESNOW_MAX 65535

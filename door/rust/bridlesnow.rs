@@ -1,9 +1,11 @@
 //! Bridlesnow for Rust: a safe face of the proved reader of Carve attribute blocks.
 //!
-//! One file and no crate: build it with plain `rustc` and link `target/door/libdoor.a`, which `door/library` writes:
+//! A crate without dependencies (`Cargo.toml` beside this file), and one file that plain `rustc` takes too. Either links
+//! `target/door/libdoor.a`, which `door/library` writes, or what `make install` has installed (`BRIDLESNOW_LIB` names its folder):
 //!
 //! ```text
-//! rustc -O --crate-type rlib door/rust/bridlesnow.rs -L target/door -l static=door
+//! cargo test --offline --manifest-path door/rust/Cargo.toml --target-dir target/rust
+//! rustc --edition 2024 -O --crate-type rlib --out-dir target door/rust/bridlesnow.rs -L target/door -l static=door
 //! ```
 //!
 //! A [`Reader`] owns the memory that the calls are lent, 192 KB, and hands out canonical text as a part of it. A class that
@@ -41,7 +43,7 @@ pub const INDEX: usize = 376_850;
 
 /// The functions of the library, as `door/bridlesnow.h` declares them.
 mod raw {
-    extern "C" {
+    unsafe extern "C" {
         pub fn bridlesnow_is_utf8(text: *const u8, len: usize) -> bool;
         pub fn bridlesnow_check_text(text: *const u8, len: usize) -> u8;
         pub fn bridlesnow_parse_attrs(payload: *const u8, len: usize) -> bool;
