@@ -27,6 +27,7 @@ int main(void)
     EXPECT(!bridlesnow_is_valid_attr_payload(NULL, 0));
     EXPECT(!bridlesnow_valid_wrapped_attr_continuation(NULL, 0));
     EXPECT(bridlesnow_read_attrs_at(NULL, 0, 0, 0, NULL, 0, NULL, 0) == 3);
+    EXPECT(bridlesnow_read_attrs_at_tags(NULL, 0, 0, 0, 1, NULL, 0, NULL, 0) == 3);
     EXPECT(bridlesnow_parse_standalone_attrs(NULL, 0, 1, NULL, 0, NULL, 0) == 3);
     EXPECT(bridlesnow_merge_lines(NULL, 0, 1, 2, NULL, 0, NULL, 0) == 3);
     EXPECT(bridlesnow_parse_standalone_attrs_block(NULL, 0, 1, NULL, 0, NULL, 0, NULL, 0) == 3);
@@ -65,6 +66,14 @@ int main(void)
     EXPECT(told[0] == 4 && told[1] == 0 && out[0] == 7);
     EXPECT(bridlesnow_read_attrs_at(block, 4, 0, 0, out, 11, told, 2) == 0);
     EXPECT(told[0] == 4 && told[1] == 11 && memcmp(out, "{class=\"a\"}\7", 12) == 0);
+    /* A tag that isn't well-formed: refused where it is looked at, and the memory as it was. */
+    memset(out, 7, sizeof out);
+    EXPECT(bridlesnow_read_attrs_at_tags((const uint8_t *)"{:1}", 4, 0, 0, 1, out, 16, told, 2) == 13);
+    EXPECT(told[0] == 0 && told[1] == 0 && out[0] == 7);
+    EXPECT(bridlesnow_read_attrs_at_tags((const uint8_t *)"{:1}", 4, 0, 0, 0, out, 16, told, 2) == 0);
+    EXPECT(told[0] == 4 && told[1] == 10 && memcmp(out, "{lang=\"1\"}\7", 11) == 0);
+    EXPECT(bridlesnow_read_attrs_at_tags((const uint8_t *)"{:1 :x-1}", 9, 0, 255, 255, out, 16, told, 2) == 0);
+    EXPECT(told[0] == 9 && told[1] == 12 && memcmp(out, "{lang=\"x-1\"}\7", 13) == 0);
     memset(join, 7, sizeof join);
     EXPECT(bridlesnow_standalone_attrs_block_len(wrapped, 6, 1, join, 4, told, 4) == 9);
     EXPECT(told[0] == 0 && told[1] == 0 && told[2] == 2 && told[3] == 2 && memcmp(join, "{a\7\7", 4) == 0);

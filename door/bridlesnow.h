@@ -10,11 +10,11 @@
  *     3  nothing is there to read                  10  the canonical text has more than 65,535 bytes, or a text more than `out`
  *     4  no close                                  11  (never given here: a set that isn't well-formed)
  *     5  no reading                                12  nothing is left of a set (bridlesnow_consume_loose alone)
- *     6  more than 64 classes                      17  a total over all sheets would not fit 64 bits, or has no room
- *    14  not an index, or not the old text's       18  more than 32 columns
- *    15  the records have no room in `table`       19  the index has no room in `out`
+ *     6  more than 64 classes                      13  the language tag isn't well-formed (bridlesnow_read_attrs_at_tags alone)
+ *    14  not an index, or not the old text's       17  a total over all sheets would not fit 64 bits, or has no room
+ *    15  the records have no room in `table`       18  more than 32 columns
  *    16  an index of another version               20  one or two of `variant`, `wheel` and `valve`, or a value out of range
- *                                                  21  a variant has one valve at two wheels
+ *    19  the index has no room in `out`            21  a variant has one valve at two wheels
  *
  * A set is handed out as its canonical text at the front of `out`, such as {id="v17" class="wheel" side="left"}. A class that is listed again is
  * written once, at its first place. After a number other than 0 `out`, `cells`, `totals`, `numbers` and `table` are untouched, but for bridlesnow_report_start,
@@ -136,6 +136,12 @@ bool bridlesnow_valid_wrapped_attr_continuation(const uint8_t *line, size_t line
  * Tells: the place behind the block, 0 where it isn't read; the length of the canonical text. */
 uint8_t bridlesnow_read_attrs_at(const uint8_t *text, size_t text_len, size_t place, uint8_t loose,
                                  uint8_t *out, size_t out_len, size_t *told, size_t told_len);
+
+/* The same; where `strict_tags` isn't 0, the value of `lang` that counts, which is the last one, unescaped, has to be empty or well-formed by RFC 5646
+ * section 2.1, letter case ignored. With 0 it is bridlesnow_read_attrs_at.
+ * Order: 1, 3, 4, 2 (of the payload), 5, 13, 6, 7, then 2 (of the whole text) and 10. Tells as above. */
+uint8_t bridlesnow_read_attrs_at_tags(const uint8_t *text, size_t text_len, size_t place, uint8_t loose, uint8_t strict_tags,
+                                      uint8_t *out, size_t out_len, size_t *told, size_t told_len);
 
 /* Reads one line of blocks that stand back to back. Order: 1, 2, 3, 5, 6, 7, 10.
  * Tells: the length of the canonical text. */
@@ -267,7 +273,7 @@ uint8_t bridlesnow_totals_text(const uint64_t *totals, size_t totals_len, uint8_
  * is what bridlesnow_index_build lays of the new text. It reads the old text once, to see that `index` is its index, and of the new text only the lines
  * around the edit. 3: `a` or `b` is no line of the old text, `b` is before `a`, or the new text isn't the old one with something else, or nothing, in
  * place of lines a to b, the LF of line b among them. 14: any other bytes than the old text's index. Only the new records must fit `table`.
- * Order: 1 and 2 of the old text, 1 and 2 of the new one, 9, 3, 14, 15, 19. Tells as bridlesnow_index_build. */
+ * Order: 1 and 2 of the old text, 1 and 2 of the new one, 9, 3, 16, 14, 15, 19. Tells as bridlesnow_index_build. */
 uint8_t bridlesnow_index_build(const uint8_t *text, size_t text_len, uint8_t *join, size_t join_len,
                                size_t *table, size_t table_len, uint8_t *out, size_t out_len, size_t *told, size_t told_len);
 uint8_t bridlesnow_index_read(const uint8_t *index, size_t index_len, size_t *table, size_t table_len,

@@ -53,6 +53,10 @@ mod raw {
             text: *const u8, len: usize, place: usize, loose: u8,
             out: *mut u8, out_len: usize, told: *mut usize, told_len: usize,
         ) -> u8;
+        pub fn bridlesnow_read_attrs_at_tags(
+            text: *const u8, len: usize, place: usize, loose: u8, strict_tags: u8,
+            out: *mut u8, out_len: usize, told: *mut usize, told_len: usize,
+        ) -> u8;
         pub fn bridlesnow_parse_standalone_attrs(
             text: *const u8, len: usize, line: usize,
             out: *mut u8, out_len: usize, told: *mut usize, told_len: usize,
@@ -291,6 +295,13 @@ pub enum Mode {
     Loose,
 }
 
+/// Whether `lang` may have any value, or has to be empty or a language tag that is well-formed by RFC 5646 section 2.1.
+#[derive(Clone, Copy, Debug, PartialEq, Eq)]
+pub enum Tags {
+    Any,
+    WellFormed,
+}
+
 /// What is said of a block's lines, also where its set is refused.
 #[derive(Clone, Copy, Debug, PartialEq, Eq, Default)]
 pub struct Lines {
@@ -394,6 +405,18 @@ impl Reader {
         granted(unsafe {
             raw::bridlesnow_read_attrs_at(
                 text.as_ptr(), text.len(), place, u8::from(mode == Mode::Loose),
+                self.out.as_mut_ptr(), self.out.len(), told.as_mut_ptr(), told.len(),
+            )
+        })?;
+        Ok((told[0], self.canonical(told[1])?))
+    }
+
+    /// The same, with `lang` empty or a well-formed language tag: 13 where it is neither. With `Tags::Any` it is `read_attrs_at`.
+    pub fn read_attrs_at_tags(&mut self, text: &[u8], place: usize, mode: Mode, tags: Tags) -> Result<(usize, &str), Refusal> {
+        let mut told = [0usize; 2];
+        granted(unsafe {
+            raw::bridlesnow_read_attrs_at_tags(
+                text.as_ptr(), text.len(), place, u8::from(mode == Mode::Loose), u8::from(tags == Tags::WellFormed),
                 self.out.as_mut_ptr(), self.out.len(), told.as_mut_ptr(), told.len(),
             )
         })?;
@@ -712,6 +735,28 @@ mod tests {
         assert_eq!(reader.read_attrs_at(format!("{{{}}}", many(".c", 65)).as_bytes(), 0, Mode::Strict), Err(Refusal(6)));
         assert!(reader.read_attrs_at(format!("{{{}}}", many("k", 64)).as_bytes(), 0, Mode::Strict).is_ok());
         assert_eq!(reader.read_attrs_at(format!("{{{}}}", many("k", 65)).as_bytes(), 0, Mode::Strict), Err(Refusal(7)));
+    }
+
+    #[test]
+    fn tags_at_a_brace() {
+        let mut reader = Reader::new();
+        let mut number = |text: &str, tags: Tags| reader.read_attrs_at_tags(text.as_bytes(), 0, Mode::Strict, tags).map_or_else(|refusal| refusal.0, |_| 0);
+        // The value that counts is the last one, unescaped, wherever it is said.
+        for good in ["{:en}", "{:1 :en}", "{lang=1 :en-GB-oed}", "{:I-AMI}", r#"{lang="en\-GB"}"#, "{:}", "{lang}", r#"{lang=""}"#, "{:1 lang}", "{LANG=1}", "{.a k=1}", "{:x-1-1}"] {
+            assert_eq!((number(good, Tags::WellFormed), number(good, Tags::Any)), (0, 0), "{good}");
+        }
+        for bad in ["{:1}", "{:en :1}", "{:en lang=1}", r#"{lang="e\n"}"#, r#"{lang=" en"}"#, "{lang=de_DE}", "{lang=en-}", "{:deutsch-DE-1}", "{lang=\u{e9}}"] {
+            assert_eq!((number(bad, Tags::WellFormed), number(bad, Tags::Any)), (13, 0), "{bad}");
+        }
+        // Behind 5, and before 6 and 7, which look at what is listed.
+        assert_eq!(number("{:1 =}", Tags::WellFormed), 5);
+        let many = |word: &str, last: &str| format!("{{{}{last}}}", (0..200).map(|i| format!(" {word}{i}")).collect::<String>());
+        assert_eq!((number(&many("k", " :1"), Tags::WellFormed), number(&many("k", " :en"), Tags::WellFormed)), (13, 7));
+        assert_eq!((number(&many(".c", " :1"), Tags::WellFormed), number(&many(".c", " :en"), Tags::WellFormed)), (13, 6));
+        // A long tag.
+        assert_eq!(number(&format!("{{:x{}}}", "-1".repeat(32000)), Tags::WellFormed), 0);
+        assert_eq!(reader.read_attrs_at_tags(b"{k=\xff :1}", 0, Mode::Strict, Tags::WellFormed), Err(Refusal(2)));
+        assert_eq!(reader.read_attrs_at_tags(b"a{:de-DE}", 1, Mode::Loose, Tags::WellFormed), Ok((9, "{lang=\"de-DE\"}")));
     }
 
     #[test]
@@ -1185,6 +1230,7 @@ mod tests {
             assert!(!raw::bridlesnow_parse_attrs(null(), 0));
             assert_eq!(raw::bridlesnow_read_attrs_at(null(), 0, 0, 0, null_mut(), 0, null_mut(), 0), 3);
             assert_eq!(raw::bridlesnow_read_attrs_at(b"{.a}".as_ptr(), 4, 0, 7, null_mut(), 0, null_mut(), 0), 10);
+            assert_eq!(raw::bridlesnow_read_attrs_at_tags(null(), 0, 0, 0, 1, null_mut(), 0, null_mut(), 0), 3);
             assert_eq!(raw::bridlesnow_parse_standalone_attrs_block(null(), 0, 1, null_mut(), 0, null_mut(), 0, null_mut(), 0), 3);
             assert_eq!(raw::bridlesnow_standalone_attrs_block_len(b"{a\n b}".as_ptr(), 6, 1, null_mut(), 0, null_mut(), 0), 9);
             assert_eq!(raw::bridlesnow_merge_lines(null(), 0, 1, 2, null_mut(), 0, null_mut(), 0), 3);

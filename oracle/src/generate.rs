@@ -6,8 +6,8 @@
 //!     generate groups KIND SEED FROM COUNT          triples of lines for the merger of groups, of a KIND of its own
 //!
 //! FAMILIES are names parted by commas: leaves, brace, lines, refused, merge, sheet, rows, quick, merge2, repeats,
-//! variants, report, index, mends, loose, columns; `all` stands for these sixteen. The family `errors`, which is in no
-//! `all`, damages the request lines themselves.
+//! variants, report, reports, index, mends, loose, columns, place, lang, once; `all` stands for those of them that both
+//! sides answer. The family `errors`, which is in no `all`, damages the request lines themselves.
 //! Each request is made from the seed and its own number, so any part of the list can be made again. A request that
 //! carries the index of a text has it from the oracle's own modules.
 
@@ -32,9 +32,15 @@ use index::{INDEX_LIMIT, ROWS_LIMIT};
 use std::io::{self, BufWriter, Write};
 use std::sync::{Mutex, OnceLock};
 
-const FAMILIES: [&str; 16] = [
+const FAMILIES: [&str; 17] = [
     "leaves", "brace", "lines", "refused", "merge", "sheet", "rows", "quick", "merge2", "repeats", "variants", "report", "index",
-    "mends", "loose", "columns",
+    "mends", "loose", "columns", "reports",
+];
+/// Families of requests that the oracle alone answers as yet, all or some of them: only when named.
+const LATER: [&str; 3] = ["place", "lang", "once"];
+/// Kinds of strings of which there are only lists of all.
+const LISTED: [&str; 10] = [
+    "payload", "text", "refused-text", "bytes", "place-characters", "place-tags", "place-bytes", "lang-letters", "lang-kinds", "lang-subtags",
 ];
 const TEXT_LIMIT: usize = 65_535;
 
@@ -660,8 +666,12 @@ fn random(family: &str, rng: &mut Rng, out: &mut Out) {
         "quick" => quick(rng, out),
         "variants" => variants(rng, out),
         "report" => report(rng, out),
+        "reports" => reports(rng, out),
         "index" => indexes(rng, out),
         "mends" => mends(rng, out),
+        "place" => place(rng, out),
+        "lang" => lang(rng, out),
+        "once" => once(rng, out),
         "loose" => loose(rng, out),
         "columns" => columns_of_tables(rng, out),
         "errors" => errors(rng, out),
@@ -1866,6 +1876,59 @@ fn report(rng: &mut Rng, out: &mut Out) {
     }
 }
 
+/// Parts of short sheets, each of which counts as something: blocks of one line and of more, classes and keys met again,
+/// runs that are none, lines that are no block, and what isn't UTF-8.
+const REPORT_PARTS: &[&[u8]] = &[
+    b"{a}\n", b"{.a .a}\n", b"{a\n b}\n", b"{.a\n k\n m=1}\n", b"{k k :en lang=x}\n", b"{.a}{.a k}{k}\n", b"{.a}{b\n      c}\r\n", b"text\n", b"\n", b"{a\n", b" b}\n", b"{=}\n", b"{}\n", b"{a\nb}\n",
+    b"{a\n\n", b" {a}\n", b"\x0C{a}\n", b"{a=\"\n", b"{k='\xC3\xA9'}\r\n", b"}\n", b"{class='a b a' #i}\n", b"\t{a\n", b"{a\n b\n c\n d\n}\n", b"{.a", b"{a\n b", b"\r",
+];
+
+/// A sheet of a few of these; seldom one that is no text, that is too long, or that has a block of too much of something.
+fn short_sheet(rng: &mut Rng) -> Vec<u8> {
+    if rng.once_in(60) {
+        let list = crowd(rng);
+        return laid(rng, &list, 40).into_bytes();
+    }
+    if rng.once_in(20_000) {
+        return if rng.percent(50) { filled(TEXT_LIMIT + rng.below(2), "{a}\n", "x", "\n{b}").into_bytes() } else { canon_edge(rng).into_bytes() };
+    }
+    let mut text = Vec::new();
+    for _ in 0..rng.weighted(&[8, 30, 30, 20, 12]) {
+        text.extend_from_slice(rng.pick(REPORT_PARTS));
+    }
+    if rng.once_in(15) {
+        text.extend_from_slice(rng.pick(BROKEN));
+    }
+    text
+}
+
+/// Lists of short sheets, of which some come again: one report over them, or one more sheet to a report.
+fn reports(rng: &mut Rng, out: &mut Out) {
+    if rng.percent(25) {
+        let (before, text, cap) = (totals(rng), short_sheet(rng), whole_cap(rng));
+        return out.request(&format!("report_feed {}", listed(before)), &text, &cap);
+    }
+    let count = match rng.weighted(&[600, 380, 20]) {
+        0 => rng.between(1, 5),
+        1 => rng.between(6, 14),
+        _ => rng.between(15, 60),
+    };
+    let mut sheets: Vec<Vec<u8>> = Vec::new();
+    for n in 0..count {
+        let again = n > 0 && rng.once_in(6);
+        let sheet = if again { sheets[rng.below(n)].clone() } else { short_sheet(rng) };
+        sheets.push(sheet);
+    }
+    // No request line is longer than that.
+    while sheets.iter().map(|sheet| 2 * sheet.len() + 2).sum::<usize>() > 500_000 {
+        sheets.pop();
+    }
+    out.words("report");
+    for sheet in sheets {
+        out.request("", &sheet, "");
+    }
+}
+
 /// Seldom a join buffer shorter than whole sheets need, or as long as it takes.
 fn whole_cap(rng: &mut Rng) -> String {
     match rng.below(60) {
@@ -2107,6 +2170,324 @@ fn mends(rng: &mut Rng, out: &mut Out) {
     out.words(" ");
     out.hex(&index);
     out.words(&lent);
+}
+
+// ---- Where a payload went wrong ----
+
+/// Tokens that are none, and one that is none behind another.
+const FAULTS: &[&str] = &[
+    "a=", "=", "=a", "_a", "_", "_=", ":abcdefghi", ":a-", ":-", ":a--b", ":a_b", ":abcdefgh-123456789", "#", ".", "#-", ".-a", "#a.b", ".a#b", "1", "-a", "9=1", "a.b",
+    "a:b", "a=\"1\"b", "a='1'\"2\"", "a=b\"c\"", "a=b'", "a=|", "a=b|c", "a\\", "a=\\", "a=b\\}", "\\\"", "\"}\"", "'a'", "a= b", "a =b", "é", "€", ":aé", "aé", "#é", "a=é\\ ", "a=é|",
+    "a=\"é\"é", "a\tb", "\t", "a\rb", "a=\"\t\" =", "a=\"\\\"\"b", "a='\\\\'b", "a\u{c}b", "\u{a0}", "\0", "a=\"b\"=", "a=\"", "a='\\'", "a=\"b\\",
+];
+/// Long blocks by their head, what fills them, and their end; most of them go wrong at the end, some at the front.
+const LONG_FAULTS: &[(&str, &str, &str)] = &[
+    ("{k=", "x", "|}"), ("{k=", "é", "'}"), ("{k=", "€", "\\}}"), ("{k=\"", "é", "\"b}"), ("{k='", "\\'", "'\"}\"}"), ("{k=\"", "\\\\", "\"'\"'}"), ("{k=\"", "x", "}"), ("{", ".a ", "=}"),
+    ("{", "a ", "a=}"), ("{", "a=b ", "_c}"), ("{.", "a", "é}"), ("{#", "a-", "}{"), ("{a", "b", "=}"), ("{_", "a", "}"), ("{:", "a-", "-}"), ("{:", "abcdefgh-", "abcdefghi}"),
+    ("{:a-", "12345678-", "}"), ("{", ":en ", ":en-}"), ("{", " ", "}"), ("{", " ", "\t}"), ("{", "\r", "=}"), ("{|", "x", "}"), ("{a=", "x", ""), ("{= ", "a ", "}"), ("{é", "'x'", "}"),
+    ("{a=\"b\"c", "\"}\"", "}"), ("{a=\"", " ", "\" b= }"), ("{.a .", "b.", "}"),
+];
+
+/// Tokens with one among them that is none.
+fn faulty_block(rng: &mut Rng) -> String {
+    let mut list = tokens(rng);
+    let at = rng.below(list.len() + 1);
+    list.insert(at, rng.pick(FAULTS).to_string());
+    let (before, behind) = (rng.pick(&["", "", "", " ", "\r"]), rng.pick(&["", "", "", " ", "  "]));
+    format!("{{{before}{}{behind}}}", list.join(rng.pick(&[" ", " ", " ", "  ", "\r"])))
+}
+
+/// A long block that goes wrong.
+fn long_faulty(rng: &mut Rng) -> Vec<u8> {
+    let size = if rng.percent(40) { long_size(rng) } else { rng.between(100, 30_000) };
+    let (head, filler, tail) = LONG_FAULTS[rng.below(LONG_FAULTS.len())];
+    let mut text = filled(size, head, filler, tail).into_bytes();
+    damage(rng, &mut text, 8);
+    text.truncate(65_600);
+    text
+}
+
+/// The place of a 5 at a brace, and of what is no name, key, bare name or tag.
+fn place(rng: &mut Rng, out: &mut Out) {
+    let mode = rng.pick(&["strict", "loose"]);
+    match rng.weighted(&[5_200, 2_000, 1_000, 1_790, 10]) {
+        0 => {
+            let (text, place) = block_in_text(rng, faulty_block);
+            out.request(&format!("place {place} {mode}"), &text, "");
+        }
+        1 => {
+            let (text, place) = block_in_text(rng, block);
+            out.request(&format!("place {place} {mode}"), &text, "");
+        }
+        2 => {
+            // Characters of the syntax as they come.
+            let mut text = b"{".to_vec();
+            for _ in 0..rng.below(24) {
+                text.extend_from_slice(rng.pick(PLACE_CHARACTERS));
+            }
+            text.push(b'}');
+            out.request(&format!("place 0 {mode}"), &text, "");
+        }
+        3 => {
+            let kind = rng.pick(&["name", "key", "bare", "tag", "tag"]);
+            let mut text = if kind == "tag" { tag(rng) } else { name(rng) }.into_bytes();
+            if rng.once_in(400) {
+                text = rng.pick(&["a", "a-", "abcdefgh-", "_", "1"]).repeat(rng.between(10, 6_000)).into_bytes();
+            }
+            damage(rng, &mut text, 2);
+            text.truncate(65_600);
+            out.request(&format!("leaf place_of {kind}"), &text, "");
+        }
+        _ => out.request(&format!("place 0 {mode}"), &long_faulty(rng), ""),
+    }
+}
+
+// ---- Strict language tags ----
+
+/// The registered tags that RFC 5646 lists, irregular ones first.
+const REGISTERED: [&str; 26] = [
+    "en-GB-oed", "i-ami", "i-bnn", "i-default", "i-enochian", "i-hak", "i-klingon", "i-lux", "i-mingo", "i-navajo", "i-pwn", "i-tao", "i-tay", "i-tsu", "sgn-BE-FR",
+    "sgn-BE-NL", "sgn-CH-DE", "art-lojban", "cel-gaulish", "no-bok", "no-nyn", "zh-guoyu", "zh-hakka", "zh-min", "zh-min-nan", "zh-xiang",
+];
+/// Tags of the RFC's own examples, as far as they are known, and some that go wrong.
+const KNOWN_TAGS: &[&str] = &[
+    "de", "fr", "zh-Hant", "sr-Cyrl", "zh-cmn-Hans-CN", "cmn-Hans-CN", "zh-yue-HK", "sr-Latn-RS", "sl-rozaj", "sl-rozaj-biske", "de-CH-1901", "sl-IT-nedis",
+    "hy-Latn-IT-arevela", "es-419", "de-CH-x-phonebk", "az-Arab-x-AZE-derbend", "x-whatever", "qaa-Qaaa-QM-x-southern", "en-US-u-islamcal", "zh-CN-a-myext-x-private",
+    "en-a-myext-b-another", "de-1996-1996", "en-a-bb-a-cc", "ar-a-aaa-b-bbb-a-ccc", "abcd", "en-abc-def-ghi", "de-419-DE", "a-DE", "en-a", "en-x", "x", "x-", "i", "i-en", "1", "en-",
+    "-en", "en--GB", "de_DE", "deutsch-DE-1", "en-abc-def-ghi-jkl", "en-GB-oed-x-a", "abcdefghi", "en-1ab", "en-a1b2", "en-x-123456789", "en-u-a", "é", "", "en-GB\0",
+];
+/// Subtags by length and kind: letters, digits, a letter first, a digit first; then such as mean something, and none at all.
+const KINDS: &[&[u8]] = &[
+    b"a", b"Bc", b"abc", b"Abcd", b"abcde", b"abcDEF", b"abcdefg", b"abcdefgh", b"abcdefghi", b"1", b"12", b"123", b"1234", b"12345", b"123456", b"1234567", b"12345678",
+    b"123456789", b"a1", b"ab1", b"a123", b"abcd1", b"a1b2c3", b"abcdef7", b"a1234567", b"abcdefgh9", b"1a", b"12a", b"1abc", b"1abcd", b"123abc", b"1abcdef", b"1234567a",
+    b"12345678a", b"x", b"X", b"i", b"I", b"", b"\xC3\xA9", b"_", b"a_b", b"en", b"GB", b"oed", b"sgn", b"BE", b"zh", b"min", b"nan",
+];
+/// Those that a tag is mostly made of.
+const FEW_KINDS: &[&[u8]] = &[b"a", b"1", b"x", b"i", b"aa", b"aaa", b"aaaa", b"aaaaa", b"aaaaaaaa", b"aaaaaaaaa", b"111", b"1aaa", b"a1"];
+
+/// The registered tags in small, large and mixed letters: as they are, with private use behind them, and with each byte
+/// changed, dropped and doubled.
+fn registered_changed() -> &'static [Vec<u8>] {
+    static LIST: OnceLock<Vec<Vec<u8>>> = OnceLock::new();
+    LIST.get_or_init(|| {
+        let mut list = Vec::new();
+        for tag in REGISTERED {
+            let small = tag.to_ascii_lowercase().into_bytes();
+            let mixed = small.iter().enumerate().map(|(n, b)| if n % 2 == 0 { b.to_ascii_uppercase() } else { *b }).collect();
+            for tag in [small.clone(), small.to_ascii_uppercase(), mixed] {
+                list.extend([tag.clone(), [&tag[..], b"-x-a"].concat()]);
+                for at in 0..tag.len() {
+                    let (before, behind) = (&tag[..at], &tag[at + 1..]);
+                    list.extend([&b"q"[..], b"7", b"-", b"", &[tag[at]; 2]].map(|byte| [before, byte, behind].concat()));
+                }
+            }
+        }
+        list
+    })
+}
+
+/// A tag: of subtags of all kinds, mostly such as may stand there; a known or registered one, or one that is nearly so.
+fn strict_tag(rng: &mut Rng) -> Vec<u8> {
+    let mut tag = match rng.weighted(&[45, 15, 15, 25]) {
+        0 => {
+            // In their order, each there or not.
+            let mut parts: Vec<&[u8]> = vec![KINDS[rng.between(1, 7)]];
+            for (chance, kinds) in [(25, &[2][..]), (10, &[2]), (30, &[3]), (40, &[1, 11, 1]), (30, &[4, 7, 22, 28, 27]), (15, &[4, 31])] {
+                if rng.percent(chance) {
+                    parts.push(KINDS[kinds[rng.below(kinds.len())]]);
+                }
+            }
+            for _ in 0..rng.weighted(&[60, 30, 10]) {
+                parts.push([&b"a"[..], b"u", b"1", b"Z"][rng.below(4)]);
+                for _ in 0..rng.weighted(&[8, 60, 32]) {
+                    parts.push(KINDS[rng.between(1, 7)]);
+                }
+            }
+            if rng.once_in(4) {
+                parts.push([&b"x"[..], b"X"][rng.below(2)]);
+                for _ in 0..rng.weighted(&[10, 60, 30]) {
+                    parts.push(KINDS[rng.below(8)]);
+                }
+            }
+            parts.join(&b'-')
+        }
+        1 => (0..rng.between(1, 6)).map(|_| KINDS[rng.below(KINDS.len())]).collect::<Vec<_>>().join(&b'-'),
+        2 => rng.pick(&REGISTERED).as_bytes().to_vec(),
+        _ => rng.pick(KNOWN_TAGS).as_bytes().to_vec(),
+    };
+    for byte in &mut tag {
+        if rng.once_in(10) {
+            *byte = byte.to_ascii_uppercase();
+        }
+    }
+    damage(rng, &mut tag, 6);
+    if rng.once_in(3000) {
+        // As long as a request carries it, or nearly.
+        let front = rng.pick(&["x", "en-x", "en-a-bb", "en", "i", "en-u"]);
+        let part = rng.pick(&["-1", "-abcdefgh", "-abcde", "-1abc", "-a-bb", "-bb"]);
+        let most = [64_990, 5_000][rng.below(2)];
+        tag = format!("{front}{}", part.repeat(rng.between(most / 20, most) / part.len())).into_bytes();
+        damage(rng, &mut tag, 3);
+        tag.truncate(65_500);
+    }
+    tag
+}
+
+/// A token that sets `lang`, or one that only looks like it: behind a colon, plain, or in quotes with escapes.
+fn lang_token(rng: &mut Rng) -> String {
+    let tag = String::from_utf8_lossy(&strict_tag(rng)).into_owned();
+    let plain = |text: &str| !text.is_empty() && !text.contains(['}', '|', '"', '\'', '\\', ' ', '\t', '\r', '\n']);
+    match rng.weighted(&[30, 20, 30, 12, 8]) {
+        0 if plain(&tag) => format!(":{tag}"),
+        1 if plain(&tag) => format!("lang={tag}"),
+        0..=2 => {
+            let quote = rng.pick(&["\"", "'"]);
+            let mut out = format!("lang={quote}");
+            for ch in tag.chars() {
+                // Before a hyphen the backslash is dropped, before a letter or a digit it stays.
+                if "\"'\\".contains(ch) || ch == '-' && rng.percent(30) || rng.once_in(60) {
+                    out.push('\\');
+                }
+                out.push(ch);
+            }
+            out + quote
+        }
+        3 => rng.pick(&[":", "lang", "lang=\"\"", ":en", ":1", ":i", "lang=' '", "lang=\" en\"", "lang='e\\n'", "lang=é", ":x-1", ":i-ami", "lang=\"en\\-GB\""]).to_string(),
+        _ => rng.pick(&["LANG=1", "Lang", "lang-=1", "_lang=1", "langs=1", ".lang", "#lang", "class=lang", "id=lang", "k=':1'"]).to_string(),
+    }
+}
+
+/// A block with tags among its tokens; now and then as many keys or classes as stand around their limits, or a token that
+/// is none.
+fn lang_block(rng: &mut Rng) -> String {
+    let mut list = match rng.weighted(&[70, 20, 10]) {
+        0 => (0..rng.below(3)).map(|_| token(rng)).collect(),
+        1 => Vec::new(),
+        _ => crowd(rng),
+    };
+    for _ in 0..rng.weighted(&[4, 66, 30]) {
+        let at = [list.len(), rng.below(list.len() + 1)][rng.below(2)];
+        list.insert(at, lang_token(rng));
+    }
+    if rng.once_in(12) {
+        list.insert(rng.below(list.len() + 1), rng.pick(FAULTS).to_string());
+    }
+    format!("{{{}}}", list.join(rng.pick(&[" ", " ", " ", "  ", "\r"])))
+}
+
+/// Tags by themselves, and readings at a brace with strict tags.
+fn lang(rng: &mut Rng, out: &mut Out) {
+    if rng.percent(40) {
+        return out.request("language_tag_strict", &strict_tag(rng), "");
+    }
+    let words = rng.pick(&["read_attrs_at_lang", "place_lang"]);
+    let mode = rng.pick(&["strict", "strict", "loose"]);
+    let (mut text, place) = block_in_text(rng, lang_block);
+    text.truncate(65_600);
+    out.request(&format!("{words} {place} {mode}"), &text, "");
+}
+
+// ---- At a brace, for two readers ----
+
+/// The four requests at a brace that both readers are asked.
+const READINGS: [&str; 4] = ["read_attrs_at", "place", "read_attrs_at_lang", "place_lang"];
+
+/// 31 to 66 classes, keys or both, in one spelling each or mixed, with tags and ids among them.
+fn crowded_tokens(rng: &mut Rng) -> Vec<String> {
+    let (classes, keys) = (rng.between(31, 66), rng.between(31, 66));
+    let class_form = rng.pick(&[".c@", "class=c@", "class='c@'", "class", ".a", "class=\"c@ d\"", "class=\"\\\"@\""]);
+    let key_form = rng.pick(&["k@", "k@=v", "_@='\"'", "k@=\"\\\"\"", "k@=é"]);
+    let spelled = |form: &str, count: usize| -> Vec<String> { (0..count).map(|n| form.replace('@', &n.to_string())).collect() };
+    let mut list = match rng.below(5) {
+        0 => spelled(class_form, classes),
+        1 => spelled(key_form, keys),
+        2 => [spelled(class_form, classes), spelled(key_form, keys)].concat(),
+        3 => [spelled(key_form, keys), spelled(class_form, classes)].concat(),
+        // In turn, and keys that are met again.
+        _ => {
+            let distinct = rng.between(1, keys);
+            (0..classes.max(keys)).flat_map(|n| [class_form.replace('@', &n.to_string()), key_form.replace('@', &(n % distinct).to_string())]).collect()
+        }
+    };
+    for _ in 0..rng.weighted(&[30, 40, 30]) {
+        let at = [0, list.len(), rng.below(list.len() + 1)][rng.below(3)];
+        list.insert(at, if rng.percent(60) { lang_token(rng) } else { rng.pick(&[":en", ":1", "lang", "#i", "id=''", "k0=2", "k64", ".c64"]).to_string() });
+    }
+    list
+}
+
+/// A block whose tokens are good or not, with what ends a reading early or late: a token that is none, a byte that isn't
+/// UTF-8, a quote left open, no close, a backslash before it, a line end.
+fn reading_block(rng: &mut Rng) -> Vec<u8> {
+    let mut list = match rng.weighted(&[45, 20, 20, 15]) {
+        0 => tokens(rng),
+        1 => few_names(rng),
+        2 => {
+            let mut list = tokens(rng);
+            list.push(lang_token(rng));
+            list
+        }
+        _ => crowded_tokens(rng),
+    };
+    if rng.once_in(3) {
+        // At the front, at the end, or anywhere.
+        let at = [0, list.len(), rng.below(list.len() + 1)][rng.below(3)];
+        list.insert(at, rng.pick(FAULTS).to_string());
+    }
+    let mut text = format!("{{{}", list.join(rng.pick(&[" ", " ", " ", "  ", "\r"]))).into_bytes();
+    if rng.once_in(8) {
+        let at = [1, text.len(), rng.between(1, text.len())][rng.below(3)];
+        let wrong: &[&[u8]] = &[b"\xFF", b"\xC3", b"\x80", b"\n", b"\t", b"\0", b"\"", b"'", b"\\", b"=", b"|", b"}", b"\xE2\x82", b" a=\"", b" a='", b"\\}", b"\"}\""];
+        drop(text.splice(at..at, rng.pick(wrong).iter().copied()));
+    }
+    let end: &[&[u8]] = &[b"}", b"}", b"}", b"}", b"}", b"}", b"}", b" }", b"", b"\\}", b"\"}", b"'}", b"\n}", b"\xFF}", b"\xFF", b"}}", b"} =\xFF}"];
+    text.extend_from_slice(rng.pick(end));
+    text
+}
+
+/// Readings at a brace, in all ways in which they are asked.
+fn once(rng: &mut Rng, out: &mut Out) {
+    let (words, mode) = (rng.pick(&READINGS), rng.pick(&["strict", "loose"]));
+    match rng.weighted(&[7_000, 1_500, 1_480, 20]) {
+        0 => {
+            let fronts: &[&[u8]] = &[b"", b"", b"", b"", b"", b"", b"x", b"\xFF\n", b"{a}", b"{\"", b"\\"];
+            let mut text = rng.pick(fronts).to_vec();
+            let place = text.len();
+            text.extend(reading_block(rng));
+            let place = number(rng, place, 97);
+            out.request(&format!("{words} {place} {mode}"), &text, "");
+        }
+        1 => {
+            let (text, place) = block_in_text(rng, lang_block);
+            out.request(&format!("{words} {place} {mode}"), &text, "");
+        }
+        2 => {
+            let mut text = b"{".to_vec();
+            for _ in 0..rng.below(30) {
+                text.extend_from_slice(if rng.once_in(20) { b"\xFF" } else { rng.pick(PLACE_CHARACTERS) });
+            }
+            text.extend_from_slice(if rng.percent(70) { b"}" } else { b"" });
+            out.request(&format!("{words} 0 {mode}"), &text, "");
+        }
+        _ => {
+            let mut text = if rng.percent(50) { long_faulty(rng) } else { long_line(rng).into_bytes() };
+            if rng.once_in(3) {
+                // Filled up with tokens and blanks to a size around the limit, with a reading at its front.
+                let size = long_size(rng);
+                let mut front = reading_block(rng);
+                let end = front.len();
+                front.resize(size.max(end), b' ');
+                if rng.percent(60) {
+                    front[end - 1] = b' ';
+                    *front.last_mut().expect("a byte") = b'}';
+                }
+                text = front;
+            }
+            damage(rng, &mut text, 6);
+            text.truncate(65_600);
+            out.request(&format!("{words} 0 {mode}"), &text, "");
+        }
+    }
 }
 
 // ---- Loose lists ----
@@ -2377,6 +2758,13 @@ const BRACE_FORMS: &[(&str, &[u8], &[u8])] = &[
     ("is_valid_attr_payload", b"", b""),
     ("valid_wrapped_attr_continuation", b"", b""),
 ];
+/// The sixteen bytes of the syntax, and twenty characters with two and three bytes among them.
+const SYNTAX_BYTES: &[&[u8]] = &[b"a", b"1", b"_", b"-", b".", b"#", b":", b"=", b"\"", b"'", b"\\", b" ", b"\t", b"\n", b"}", b"|"];
+const PLACE_CHARACTERS: &[&[u8]] = &[
+    b"a", b"1", b"_", b"-", b".", b"#", b":", b"=", b"\"", b"'", b"\\", b" ", b"\t", b"\r", b"\n", b"}", b"{", b"|", "é".as_bytes(), "€".as_bytes(),
+];
+const PLACE_FORMS: &[(&str, &[u8], &[u8])] = &[("place 0 strict", b"{", b"}"), ("place 0 loose", b"{", b"}")];
+const TAG_FORMS: &[(&str, &[u8], &[u8])] = &[("language_tag_strict", b"", b"")];
 const LINE_FORMS: &[(&str, &[u8], &[u8])] = &[
     ("parse_standalone_attrs 1", b"{", b""),
     ("parse_standalone_attrs_block 1", b"{", b""),
@@ -2618,8 +3006,35 @@ fn sections(family: &str) -> &'static [Section] {
                 ("leaf is_language_tag", b"", b""),
             ],
         }],
+        "place" => &[Section { atoms: SYNTAX_BYTES, forms: PLACE_FORMS }],
+        "place-characters" => &[Section { atoms: PLACE_CHARACTERS, forms: PLACE_FORMS }],
+        "place-tags" => &[Section { atoms: &[b"a", b"1", b"-", b"_"], forms: &[("leaf place_of tag", b"", b""), ("place 0 strict", b"{:", b"}")] }],
+        "place-bytes" => &[Section {
+            atoms: &EACH_BYTE,
+            forms: &[("leaf place_of name", b"", b""), ("leaf place_of key", b"", b""), ("leaf place_of bare", b"", b""), ("leaf place_of tag", b"", b"")],
+        }],
+        "once" => &[Section {
+            atoms: &[b"a", b"1", b".", b"#", b":", b"-", b"=", b"\"", b"'", b"\\", b" ", b"}", b"\n", b"\xFF"],
+            forms: &[
+                ("place 0 strict", b"{", b"}"),
+                ("place 0 loose", b"{", b"}"),
+                ("place 0 strict", b"{", b""),
+                ("place 0 loose", b"{", b""),
+                ("place_lang 0 strict", b"{", b"}"),
+                ("place_lang 0 loose", b"{", b"}"),
+                ("place_lang 0 strict", b"{", b""),
+                ("place_lang 0 loose", b"{", b""),
+            ],
+        }],
+        "lang" => &[Section {
+            atoms: &[b":", b"lang=", b"lang=\"", b"\"", b"\\-", b"-", b"en", b"1", b"x", b" ", b"lang", b".a "],
+            forms: &[("read_attrs_at_lang 0 strict", b"{", b"}"), ("read_attrs_at_lang 0 loose", b"{", b"}"), ("place_lang 0 strict", b"{", b"}")],
+        }],
+        "lang-letters" => &[Section { atoms: &[b"a", b"A", b"1", b"-", b"x"], forms: TAG_FORMS }],
+        "lang-kinds" => &[Section { atoms: KINDS, forms: TAG_FORMS }],
+        "lang-subtags" => &[Section { atoms: FEW_KINDS, forms: TAG_FORMS }],
         "payload" => &[Section {
-            atoms: &[b"a", b"1", b"_", b"-", b".", b"#", b":", b"=", b"\"", b"'", b"\\", b" ", b"\t", b"\n", b"}", b"|"],
+            atoms: SYNTAX_BYTES,
             forms: &[("read_attrs_at 0 strict", b"{", b"}"), ("read_attrs_at 0 loose", b"{", b"}")],
         }],
         "text" => &[Section { atoms: &[b"{", b"}", b"a", b"\"", b"\\", b"\n", b" ", b"\t"], forms: TEXT_FORMS }],
@@ -2803,7 +3218,7 @@ fn sections(family: &str) -> &'static [Section] {
             },
             Section { atoms: MEND_ATOMS, forms: &[("index_build", b"", b""), ("index_build", b"{#y\n", b"")] },
         ],
-        "report" => &[
+        "report" | "reports" => &[
             Section {
                 atoms: SHEET_BYTES,
                 forms: &[("report", b"", b""), ("runs", b"", b""), (FULL_FEED, b"{", b"}\n{b}"), ("runs", b"{", b"}\n{b}")],
@@ -2863,7 +3278,7 @@ const BEFORE_A_BYTE: [&[u8]; 7] = [b"{", b"{ ", b"{#", b"{.", b"{.a", b"{a", b"{
 /// quick test begins with each of the 256 bytes wherever one decides, merges over two texts with texts by size. Repeated
 /// classes begin with canonical texts around the limit, then come the lists that are cut in two. Reports begin with
 /// canonical texts around the limit and with as many classes and keys as stand around theirs. Mends are all of this kind,
-/// and loose lists begin with the pairs of blocks. Columns begin with as many as stand around their limit, by each key and
+/// and loose lists begin with the pairs of blocks. Strict tags begin with the registered ones and such as are nearly they. Columns begin with as many as stand around their limit, by each key and
 /// by all three, then come pairs of lists under two of the keys.
 fn extra(family: &str, length: usize) -> u64 {
     match family {
@@ -2873,6 +3288,7 @@ fn extra(family: &str, length: usize) -> u64 {
         "repeats" => (EDGES.len() * EDGE_SIZES) as u64 + CUT_FORMS.len() as u64 * pairs(SPELLINGS.len(), 1, length),
         "loose" => LOOSE_PAIRS.len() as u64 * pairs(LOOSE_ATOMS.len(), 1, length),
         "columns" => (COLUMN_COUNTS.len() * 4 * COLUMN_QUOTES.len() * 2) as u64 + 3 * 4 * column_lists(length).pow(2),
+        "lang" => 2 * registered_changed().len() as u64,
         "mends" => *mend_starts(length).last().expect("a start"),
         "report" => ((REPORT_EDGES.len() * EDGE_SIZES + AROUND.len() * AROUND.len() * 2) * REPORT_WORDS.len()) as u64,
         _ => 0,
@@ -2892,6 +3308,14 @@ fn exhaustive_extra(family: &str, length: usize, mut number: u64, out: &mut Out)
     }
     if family == "report" {
         return exhaustive_report(number as usize, out);
+    }
+    if family == "lang" {
+        // The tag by itself, and in a block.
+        let tag = &registered_changed()[number as usize / 2];
+        return match number % 2 {
+            0 => out.request("language_tag_strict", tag, ""),
+            _ => out.request("read_attrs_at_lang 0 strict", &[b"{lang=\"", &tag[..], b"\"}"].concat(), ""),
+        };
     }
     if family == "mends" {
         return exhaustive_mend(length, number, out);
@@ -3062,6 +3486,9 @@ fn exhaustive(family: &str, length: usize, mut number: u64, out: &mut Out) {
         let forms = section.forms.len() as u64;
         let (words, before, behind) = section.forms[(number % forms) as usize];
         let list = nth_string(section.atoms, number / forms);
+        if family == "lang-kinds" || family == "lang-subtags" {
+            return out.request(words, &list.join(&b'-'), "");
+        }
         if family == "index" {
             // What is looked up stands behind the index.
             let (words, id) = words.split_once(' ').map_or((words, String::new()), |(words, id)| (words, format!(" {id}")));
@@ -3085,8 +3512,8 @@ fn main() -> io::Result<()> {
     let words: Vec<String> = std::env::args().skip(1).collect();
     let words: Vec<&str> = words.iter().map(String::as_str).collect();
     let number_of = |word: &str| word.parse::<u64>().ok();
-    let known = |name: &str| FAMILIES.contains(&name);
-    let listed = |name: &str| known(name) || ["payload", "text", "refused-text", "bytes"].contains(&name);
+    let known = |name: &str| FAMILIES.contains(&name) || LATER.contains(&name);
+    let listed = |name: &str| known(name) || LISTED.contains(&name);
     let mut to = BufWriter::with_capacity(1 << 20, io::stdout().lock());
     let mut out = Out { line: Vec::new() };
     let mut write = |out: &mut Out| {

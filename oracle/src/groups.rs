@@ -18,9 +18,13 @@ mod document;
 #[allow(dead_code)]
 mod index;
 #[allow(dead_code)]
+mod langtags;
+#[allow(dead_code)]
 mod layer;
 #[allow(dead_code)]
 mod parse;
+#[allow(dead_code)]
+mod places;
 #[allow(dead_code)]
 mod requests;
 #[allow(dead_code)]

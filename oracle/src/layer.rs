@@ -60,7 +60,7 @@ fn from_line<'b, 'a>(lines: &'b [&'a str], line: usize) -> Option<&'b [&'a str]>
 
 /// 6 and 7, in this order, for a set that was read or merged. Every class listed counts, a repeated one too. There is no
 /// 8, and none is called for.
-fn within_limits(attrs: Attrs) -> Result<Attrs, Number> {
+pub fn within_limits(attrs: Attrs) -> Result<Attrs, Number> {
     assert_eq!(attrs.order.len(), slot_count(&attrs), "slots name what is there, once each");
     assert!(attrs.order.len() <= attrs.key_values.len() + 2, "slots are at most two more than keys");
     if attrs.classes.len() > CLASS_LIMIT {
@@ -95,6 +95,12 @@ pub fn payload_at(bytes: &[u8], place: usize) -> Result<(usize, usize), Number> 
 
 /// The reading at a brace and the place after its close.
 pub fn read_attrs_at(bytes: &[u8], place: usize, loose: bool) -> Result<(Attrs, usize), Number> {
+    let (attrs, next) = reading_at(bytes, place, loose)?;
+    Ok((within_limits(attrs)?, next))
+}
+
+/// The same before the limits count.
+pub fn reading_at(bytes: &[u8], place: usize, loose: bool) -> Result<(Attrs, usize), Number> {
     let last_close = bytes.iter().rposition(|&b| b == b'}');
     let payload = payload_at(bytes, place);
     if payload == Err(1) {
@@ -126,8 +132,7 @@ pub fn read_attrs_at(bytes: &[u8], place: usize, loose: bool) -> Result<(Attrs, 
         let again = if loose { door::read_attrs_at_loose } else { door::read_attrs_at };
         assert_eq!(again(bytes, place, Some(bytes.len())), original, "the third argument changes nothing");
     }
-    let (attrs, next) = original.ok_or(5)?;
-    Ok((within_limits(attrs)?, next))
+    original.ok_or(5)
 }
 
 /// The original's reading of a payload, held against document 01's grammar.

@@ -4,8 +4,10 @@ use crate::ast::Attrs;
 use crate::columns::{self, Column, Width};
 use crate::document::Value;
 use crate::index::{self, Lent, Record};
+use crate::langtags;
 use crate::layer::{self, Consumed, Entry, MergeRefusal, Number, Refused, Trace, Traced};
 use crate::parse::attrs::door;
+use crate::places::{self, Whole};
 use crate::rows::{Name, Rows, Slot};
 use crate::standins::*;
 use crate::totals::{self, Totals};
@@ -108,6 +110,17 @@ fn put_canon(text: Result<Vec<u8>, Number>, out: &mut Vec<u8>) {
             put_hex(&text, out);
         }
         Err(number) => put!(out, " canon refused {number}"),
+    }
+}
+
+/// `ok next N SET`, of a reading at a brace of this text.
+fn put_reading(read: Result<(Attrs, usize), Number>, text: &[u8], out: &mut Vec<u8>) {
+    match read {
+        Ok((attrs, next)) => {
+            put!(out, "ok next {next}");
+            put_canon(layer::canonical_over(&attrs, text), out);
+        }
+        Err(number) => put_refused(number, out),
     }
 }
 
@@ -252,16 +265,16 @@ fn answer_known(request: &[u8], out: &mut Vec<u8>) -> Option<()> {
     }
     let cap = lent(&mut fields, b"cap=", layer::TEXT_LIMIT)?;
     match (fields[0], &fields[1..]) {
-        (b"read_attrs_at", [place, mode, text]) => {
+        (verb @ (b"read_attrs_at" | b"place" | b"read_attrs_at_lang" | b"place_lang"), [place, mode, text]) => {
             let (place, loose, text) = (number(place)?, is_loose(mode)?, hex(text)?);
-            match layer::read_attrs_at(&text, place, loose) {
-                Ok((attrs, next)) => {
-                    put!(out, "ok next {next}");
-                    put_canon(layer::canonical_over(&attrs, &text), out);
-                }
-                Err(number) => put_refused(number, out),
+            let read = if verb.ends_with(b"_lang") { langtags::read_attrs_at } else { layer::read_attrs_at }(&text, place, loose);
+            let unread = read == Err(5);
+            put_reading(read, &text, out);
+            if unread && verb.starts_with(b"place") {
+                put!(out, " at {}", places::at_brace(&text, place, loose));
             }
         }
+        (b"language_tag_strict", [text]) => put_yes(langtags::allowed(&hex(text)?), out),
         (b"rows", [place, mode, text]) => {
             let (place, loose, text) = (number(place)?, is_loose(mode)?, hex(text)?);
             match layer::rows(&text, place, loose) {
@@ -437,6 +450,19 @@ fn answer_leaf(fields: &[&[u8]], out: &mut Vec<u8>) -> Option<()> {
         [b"is_css_identifier", text] => put_yes(on_text(&hex(text)?, door::is_css_identifier), out),
         [b"is_boolean_attr_name", text] => put_yes(on_text(&hex(text)?, door::is_boolean_attr_name), out),
         [b"is_language_tag", text] => put_yes(on_text(&hex(text)?, door::is_language_tag), out),
+        [b"place_of", kind, text] => {
+            let whole = match *kind {
+                b"name" => Whole::Name,
+                b"key" => Whole::Key,
+                b"bare" => Whole::Bare,
+                b"tag" => Whole::Tag,
+                _ => return None,
+            };
+            match places::stops(whole, &hex(text)?) {
+                Some(place) => put!(out, "{place}"),
+                None => out.extend_from_slice(b"whole"),
+            }
+        }
         [b"trim_ascii", text] => {
             let text = hex(text)?;
             let (from, to) = trim_range(&text);

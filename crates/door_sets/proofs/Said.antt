@@ -16,18 +16,21 @@ use Rattle.set_merge.specs.Merge.{mergeOf}
 use Rattle.text_checks.specs.Outcomes.{orElse}
 use Rattle.door_shared.specs.Tells.{refusedStep}
 use Rattle.door_shared.proofs.Laws.{Came, Says, set-said}
-use Rattle.door_sets.specs.Sets.{modeOf, checkBy, placeBehind, braceSaid, lineSaid, mergeSaid}
+use Rattle.door_sets.specs.Sets.{modeOf, checkBy, placeBehind, braceBy, braceSaid, lineSaid, mergeSaid}
 
 pub loose-is : (n : ℕ) → (n ≡ 0 → ⊥) → Loose ≡ modeOf n
 loose-is zero h = absurd (h refl)
 loose-is (suc n) h = refl
 
 module _ (t buf told : List ℕ) where
-  pub brace-said : (i : ℕ) {m n : Mode} {x : Read} {b c : Outcome} {h r : ℕ} {o v : List ℕ}
-      → m ≡ n → x ≡ readAttrsAt m t i → b ≡ checkBy (x .answer) → c ≡ orElse b (checkOf t) → h ≡ placeBehind (x .answer)
-      → Came buf told c (one t) (x .set) (λ k. h ∷ k ∷ []) r o v → Says buf told (braceSaid n t i buf) r o v
+  pub read-said : (x : Read) {b c : Outcome} {h r : ℕ} {o v : List ℕ} → b ≡ checkBy (x .answer) → c ≡ orElse b (checkOf t) → h ≡ placeBehind (x .answer)
+      → Came buf told c (one t) (x .set) (λ k. h ∷ k ∷ []) r o v → Says buf told (braceBy t buf x) r o v
+  read-said x g d y k = rw (← y) (set-said buf told (d ∙ ap (λ j. orElse j (checkOf t)) g) refl k)
+
+  -- what is handed out of a reading is what is handed out of what it is equal to
+  pub brace-said : (i : ℕ) {m n : Mode} {x : Read} {r : ℕ} {o v : List ℕ} → m ≡ n → x ≡ readAttrsAt m t i → Says buf told (braceBy t buf x) r o v → Says buf told (braceSaid n t i buf) r o v
   unfolding braceSaid
-  brace-said i e f g d y k = rw (← (f ∙ ap (λ j. readAttrsAt j t i) e), ← y) (set-said buf told (d ∙ ap (λ j. orElse j (checkOf t)) g) refl k)
+  brace-said i e f k = rw (← (f ∙ ap (λ j. readAttrsAt j t i) e)) k
 
   pub line-said : (n : ℕ) {x : Filled} {r : ℕ} {o v : List ℕ} → x ≡ parseStandalone t n → Came buf told (x .outcome) (one t) (x .set) (λ k. k ∷ []) r o v → Says buf told (lineSaid t n buf) r o v
   unfolding lineSaid

@@ -4,6 +4,7 @@ use mathlib.Core.List.{List, [], _∷_}
 use Rattle.base_bytes.specs.declared.Mode.{Mode}
 use Rattle.base_bytes.specs.declared.Mode.the-variants.{Strict, Loose}
 use Rattle.text_checks.specs.Check.{checkOf}
+use Rattle.base_refusals.specs.Numbers.{Paper, passedPaper}
 use Rattle.base_refusals.specs.declared.Outcome.{Outcome}
 use Rattle.base_refusals.specs.declared.Outcome.the-variants.{Passed, Refused}
 use Rattle.set_table.specs.Types.{one}
@@ -21,6 +22,11 @@ use Rattle.door_shared.specs.Tells.{Said, refusedStep, setSaid}
 abbrev pub modeOf : ℕ → Mode
 modeOf zero = Strict
 modeOf (suc n) = Loose
+
+-- on paper: that number, 1 for any other
+abbrev pub modePaper : Mode → Paper
+modePaper Strict = passedPaper (0 ∷ [])
+modePaper Loose = passedPaper (1 ∷ [])
 
 -- why no set was read, and the place behind what was
 abbrev pub checkBy : answers.Answer → Outcome

@@ -2,15 +2,17 @@
 use base_bytes::Mode;
 use base_refusals::Outcome;
 use read_brace::Answer;
+use read_brace::Read;
 ghost use mathlib.Core.Path.{_≡_};
 ghost use Rattle.text_checks.specs.Check.{checkOf};
 ghost use Rattle.text_checks.specs.Outcomes.{orElse};
 ghost use Rattle.door_shared.specs.Tells.{toldIn};
-ghost use Rattle.door_sets.specs.Sets.{modeOf, checkBy, placeBehind, braceSaid, lineSaid, mergeSaid};
+ghost use Rattle.door_sets.specs.Sets.{modeOf, modePaper, checkBy, placeBehind, braceBy, braceSaid, lineSaid, mergeSaid};
 
 // 0 is strict, any other number loose.
-fn mode_of(loose: u8) -> Mode
+pub fn mode_of(loose: u8) -> Mode
     ensures { λ r. ⌜ r ≡ modeOf loose ⌝ }
+    ensures { λ r. ⌜ modePaper r ≡ modePaper (modeOf loose) ⌝ }
 {
     if loose == 0 {
         return Mode::Strict;
@@ -48,6 +50,20 @@ fn or_text(c: Outcome, text: &[u8]) -> Outcome
     }
 }
 
+// Hands out what was read at a brace. Tells the place behind it and the length of its canonical text.
+pub fn hand_read(text: &[u8], read: Read, out: &mut [u8], told: &mut [usize]) -> u8
+    ensures { λ r. ⌜ r ≡ braceBy (now (text .entry)) (now (out .entry)) read .number ⌝ }
+    ensures { λ r. ⌜ now (out .exit) ≡ braceBy (now (text .entry)) (now (out .entry)) read .out ⌝ }
+    ensures { λ r. ⌜ now (told .exit) ≡ toldIn (now (told .entry)) (braceBy (now (text .entry)) (now (out .entry)) read .told) ⌝ }
+{
+    let answer = read.answer;
+    let c = or_text(check_by(answer), text);
+    let w = door_shared::write_out(c, text, b"", read.set, out);
+    door_shared::tell(told, 0, next_of(answer));
+    door_shared::tell(told, 1, door_shared::wrote_len(w));
+    door_shared::wrote_number(w)
+}
+
 // Reads the block at a brace; `loose` is 0 for an inline block. Tells the place behind it and the length of its canonical text.
 #[no_mangle]
 pub extern "C" fn bridlesnow_read_attrs_at(
@@ -62,12 +78,7 @@ pub extern "C" fn bridlesnow_read_attrs_at(
     ensures { λ r. ⌜ now (told .exit) ≡ toldIn (now (told .entry)) (braceSaid (modeOf loose) (now (text .entry)) place (now (out .entry)) .told) ⌝ }
 {
     let read = read_brace::read_attrs_at_with(text, place, mode_of(loose));
-    let answer = read.answer;
-    let c = or_text(check_by(answer), text);
-    let w = door_shared::write_out(c, text, b"", read.set, out);
-    door_shared::tell(told, 0, next_of(answer));
-    door_shared::tell(told, 1, door_shared::wrote_len(w));
-    door_shared::wrote_number(w)
+    hand_read(text, read, out, told)
 }
 
 // Reads one line of blocks. Tells the length of its canonical text.

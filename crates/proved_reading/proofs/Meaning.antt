@@ -55,13 +55,13 @@ use Rattle.proved_grammar.proofs.Places.{Standing, standing}
 
 -- ======== the parts
 
-opens : (t : List ℕ) (i : ℕ) → braceAt t i ≡ true → BraceAt t i
+pub opens : (t : List ℕ) (i : ℕ) → braceAt t i ≡ true → BraceAt t i
 unfolding braceAt
 opens t i e =
     let z = both (ltb i (length t)) (eqb (getD t i 0) 123) e in
     record { there = ltb-true i (length t) (z .0); brace = eqb-true (getD t i 0) 123 (z .1) }
 
-opened : {t : List ℕ} {i : ℕ} → BraceAt t i → braceAt t i ≡ true
+pub opened : {t : List ℕ} {i : ℕ} → BraceAt t i → braceAt t i ≡ true
 unfolding braceAt
 opened {t} {i} o = rw (lt-ltb i (length t) (o .there), eq-eqb (getD t i 0) 123 (o .brace))
 
@@ -70,10 +70,10 @@ unfolding findClose
 never-closes t i h e c = no-close (drop (suc i) t) (suc i) h c
 
 module _ {t : List ℕ} {i e : ℕ} (b : BlockAt t i e) where
-  inside-is : payloadOf t i e ≡ b .closes .inside
+  pub inside-is : payloadOf t i e ≡ b .closes .inside
   inside-is = slice-part (suc i) e t ∙ payload-is t (suc i) (b .closes)
 
-  close-is : findClose t (suc i) ≡ At e
+  pub close-is : findClose t (suc i) ≡ At e
   unfolding findClose
   close-is = close-complete (b .closes)
 

@@ -164,7 +164,7 @@ fn number_at(line: &[u8], k: usize) -> Said {
 }
 
 // The length of the join buffer: what a field behind the others says, or that of the longest text. No leaf has such a field.
-fn cap_of(line: &[u8], word: usize, count: usize) -> Said {
+pub(crate) fn cap_of(line: &[u8], word: usize, count: usize) -> Said {
     let n = fields::count(line, b' ');
     if n == count {
         return fields::good(base_refusals::MAX_TEXT);

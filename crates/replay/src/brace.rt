@@ -4,6 +4,7 @@ use crate::reply;
 use crate::reply::Reply;
 use base_bytes::Mode;
 use read_brace::Answer;
+use read_brace::Read;
 
 // A payload, or a place in a text, by the number of the word in the list of `ask`.
 pub(crate) fn answer(word: usize, place: usize, text: &[u8]) -> Reply {
@@ -19,14 +20,22 @@ pub(crate) fn answer(word: usize, place: usize, text: &[u8]) -> Reply {
 // A place and the number of a mode.
 pub(crate) fn answer_read(text: &[u8], place: usize, mode: usize, canon: &mut [u8]) -> Reply {
     match mode {
-        0 => read(text, place, Mode::Strict, canon),
-        1 => read(text, place, Mode::Loose, canon),
+        0 => told(
+            read_brace::read_attrs_at_with(text, place, Mode::Strict),
+            text,
+            canon,
+        ),
+        1 => told(
+            read_brace::read_attrs_at_with(text, place, Mode::Loose),
+            text,
+            canon,
+        ),
         _ => reply::alone(reply::ERROR),
     }
 }
 
-fn read(text: &[u8], place: usize, mode: Mode, canon: &mut [u8]) -> Reply {
-    let read = read_brace::read_attrs_at_with(text, place, mode);
+// What was read at a brace.
+pub(crate) fn told(read: Read, text: &[u8], canon: &mut [u8]) -> Reply {
     let answer = read.answer;
     match answer {
         Answer::Refused(r) => reply::refused(reply::REFUSED, r),

@@ -17,6 +17,7 @@ mod reply;
 mod reports;
 mod rows;
 mod sheets_at;
+mod tags;
 mod two_texts;
 
 use crate::ask::Ask;
@@ -87,6 +88,10 @@ fn answer_sheets(
         let to = reports::answer(word, line, a, join, output, at);
         by_line::clear(join);
         return to;
+    }
+    let tag = tags::word_of(line);
+    if tag < tags::NONE {
+        return tags::answer(tag, line, a, b, output, at);
     }
     answer_one(line, a, b, join, output, at)
 }

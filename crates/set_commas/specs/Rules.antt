@@ -1,4 +1,4 @@
--- The rules that the pieces and the ranges follow. No promise cites them: that they are met, and by nothing else, is proved in proofs/Splits and Pieces.
+-- The rules that the pieces and the ranges follow. No promise cites them: that they are met is proved in proofs/Splits and Pieces, and of `Split` that nothing else meets it.
 use mathlib.Core.Path.{_≡_}
 use Prim.Native.Nat.{ℕ, suc, _+_, _<_, _≤_}
 use mathlib.Core.Bool.{Bool, true, cond, not}

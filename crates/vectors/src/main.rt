@@ -1,8 +1,9 @@
-// Runs the worked examples of RFC 3629, of CommonMark 0.31.2 and of document 01 against the leaf functions.
+// Runs the worked examples of RFC 3629, of RFC 5646, of CommonMark 0.31.2 and of document 01 against the leaf functions.
 mod commonmark;
 mod lines_and_names;
 mod refused;
 mod rfc3629;
+mod rfc5646;
 
 // How many examples hold, and how many fail.
 pub(crate) struct Tally {
@@ -42,7 +43,8 @@ fn main() {
     let encoded = rfc3629::run(start);
     let marked = commonmark::run(encoded);
     let named = lines_and_names::run(marked);
-    let t = refused::run(named);
+    let tagged = rfc5646::run(named);
+    let t = refused::run(tagged);
     io::print_decimal(libc::STDOUT_FILENO, t.hold);
     io::write_all(libc::STDOUT_FILENO, b" examples hold, ");
     io::print_decimal(libc::STDOUT_FILENO, t.fail);

@@ -1,4 +1,3 @@
-use Rattle.door_shared.proofs.Laws.{came, told-2}
 use Rattle.door_sets.proofs.Said as laws
 use borrow.Author.Needs.{needs}
 use Rattle.door_sets.proofs.bridlesnow_read_attrs_at.Statement.{statement}
@@ -10,32 +9,8 @@ mode-of-requires c κs = search needs
 read-attrs-at-with-requires : tie.Need-read-attrs-at-with-requires
 read-attrs-at-with-requires c κs = search needs
 
-check-by-requires : tie.Need-check-by-requires
-check-by-requires c κs = search needs
-
-or-text-requires : tie.Need-or-text-requires
-or-text-requires c κs = search needs
-
-slice-aggregate-write-out : tie.Need-slice-aggregate-write-out
-slice-aggregate-write-out c = search needs
-
-write-out-requires : tie.Need-write-out-requires
-write-out-requires c κs = search needs
-
-next-of-requires : tie.Need-next-of-requires
-next-of-requires c κs = search needs
-
-tell-requires : tie.Need-tell-requires
-tell-requires c κs = search needs
-
-wrote-len-requires : tie.Need-wrote-len-requires
-wrote-len-requires c κs = search needs
-
-tell-requires-2 : tie.Need-tell-requires-2
-tell-requires-2 c κs = search needs
-
-wrote-number-requires : tie.Need-wrote-number-requires
-wrote-number-requires c κs = search needs
+hand-read-requires : tie.Need-hand-read-requires
+hand-read-requires c κs = search needs
 
 same-length : tie.Need-same-length
 same-length c = search needs
@@ -45,26 +20,10 @@ same-length-2 c = search needs
 
 returns : tie.Need-returns
 returns c =
-    let at4 = c .before .before .before .before in let at8 = at4 .before .before .before .before in let at9 = at8 .before in let at13 = at9 .before .before .before .before in
-    let at16 = at13 .before .before .before in let at17 = at16 .before in let at18 = at17 .before in let at19 = at18 .before in
-    laws.brace-said _ _ _ _ (at19 .mode-of .ensures) (at18 .read-attrs-at-with .ensures .0) (at17 .check-by .ensures) (at16 .or-text .ensures) (at9 .next-of .ensures)
-    (came (at13 .write-out .ensures) (at4 .wrote-len .ensures) (told-2 _ _ _ (at8 .tell .ensures) (c .before .before .before .tell2 .ensures)) (c .wrote-number .ensures))
+    let at4 = c .before .before .before .before in let at7 = at4 .before .before .before in let start = at7 .before .before .before .before .before in
+    laws.brace-said (start .args .text .now) _ _ (start .args .place) (at7 .before .mode-of .ensures .0) (at7 .read-attrs-at-with .ensures .0) (at4 .hand-read .ensures)
 
 pub bridlesnow-read-attrs-at-spec : {M : Type 1} → statement M
 bridlesnow-read-attrs-at-spec =
     tie.close
-    (tie.spec
-    mode-of-requires
-    read-attrs-at-with-requires
-    check-by-requires
-    or-text-requires
-    slice-aggregate-write-out
-    write-out-requires
-    next-of-requires
-    tell-requires
-    wrote-len-requires
-    tell-requires-2
-    wrote-number-requires
-    same-length
-    same-length-2
-    returns)
+    (tie.spec mode-of-requires read-attrs-at-with-requires hand-read-requires same-length same-length-2 returns)

@@ -1,0 +1,2 @@
+-- The laws that the proofs of door_tags cite.
+pub mod Said

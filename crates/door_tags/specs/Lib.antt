@@ -1,0 +1,2 @@
+-- The definitions that the contracts of door_tags cite.
+pub mod Tags

@@ -1,0 +1,2 @@
+-- What is proved of well-formed language tags. Statements are in specs/.
+pub mod WellFormedTags

@@ -1,0 +1,1 @@
+// Theorems about well-formed language tags.

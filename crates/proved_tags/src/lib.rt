@@ -1,0 +1,1 @@
+// Theorems about reading with the language tag looked at.

@@ -1,0 +1,40 @@
+use mathlib.Core.Path.{sym, _∙_}
+use borrow.Author.Tests.{not-true, not-false}
+use Rattle.read_tags.specs.Tagged.{langOf}
+use Rattle.read_tags.proofs.Langs.{all-one}
+use borrow.Author.Needs.{needs}
+use Rattle.read_tags.proofs.plain_passes.Statement.{statement}
+use Rattle.read_tags.proofs.plain_passes.Tie as tie
+
+is-lang-requires : tie.Need-is-lang-requires
+is-lang-requires c κs = search needs
+
+returns : tie.Need-returns
+unfolding langOf
+returns c = rw (sym (c .before .is-lang .ensures) ∙ not-true _ (c .if1 .taken))
+
+add-bytes-of : tie.Need-add-bytes-of
+add-bytes-of c = search needs
+
+bytes-of-requires : tie.Need-bytes-of-requires
+bytes-of-requires c κs = search needs
+
+is-allowed-tag-requires : tie.Need-is-allowed-tag-requires
+is-allowed-tag-requires c κs = search needs
+
+returns-2 : tie.Need-returns-2
+unfolding langOf
+returns-2 c =
+    let at2 = c .before .before in
+    rw (sym (at2 .before .is-lang .ensures) ∙ not-false _ (at2 .if1 .left), all-one, ← c .before .bytes-of .ensures) (c .is-allowed-tag .ensures)
+
+pub plain-passes-spec : {M : Type 1} → statement M
+plain-passes-spec =
+    tie.close
+    (tie.spec
+    is-lang-requires
+    returns
+    add-bytes-of
+    bytes-of-requires
+    is-allowed-tag-requires
+    returns-2)
