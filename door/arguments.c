@@ -80,6 +80,15 @@ int main(void)
     EXPECT(bridlesnow_standalone_attrs_block_len(wrapped, 6, 1, join, 5, told, 4) == 0);
     EXPECT(told[0] == 2 && told[1] == 6 && told[2] == 5 && told[3] == 5 && memcmp(join, "{a b}\7", 6) == 0);
 
+    /* Behind a refusal by place: the place that was asked for, where it is one of the text, and else 0. */
+    size_t by_place[5] = {9, 9, 9, 9, 9};
+    EXPECT(bridlesnow_read_block_at(block, 4, SIZE_MAX, NULL, 0, NULL, 0, by_place, 5) == 3);
+    EXPECT(by_place[0] == 0 && by_place[1] == 0 && by_place[2] == 0 && by_place[3] == 0 && by_place[4] == 0);
+    EXPECT(bridlesnow_read_block_at(block, 4, 4, NULL, 0, NULL, 0, by_place, 5) == 3 && by_place[1] == 0);
+    EXPECT(bridlesnow_read_block_at(block, 4, 3, NULL, 0, NULL, 0, by_place, 5) == 3 && by_place[1] == 3);
+    static uint8_t too_long[65536];
+    EXPECT(bridlesnow_read_block_at(too_long, 65536, 7, NULL, 0, NULL, 0, by_place, 5) == 1 && by_place[1] == 0);
+
     /* Two blocks, each with its own buffer: what is told of both, and what stands in each buffer afterwards. */
     static const uint8_t sheet[] = "{.a}\n{b\n c}\n{d\n e}\nno\n{f\n";
     uint8_t other_join[8], merged[24];

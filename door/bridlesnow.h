@@ -168,7 +168,7 @@ uint8_t bridlesnow_wrapped_attrs_run_at(const uint8_t *text, size_t text_len, si
 
 /* The same for a block whose first line begins at byte `at`: for going through a text that bridlesnow_check_text took once. It looks at no byte
  * outside its lines, so only 1 and no 2 is given. A place within a line is taken as the beginning of one; over bytes that aren't UTF-8 `out` isn't
- * UTF-8 either. Tells as above. */
+ * UTF-8 either. Tells as above: behind a refusal but 6, 7 and 10 the place is `at` itself, or 0 where `at` is at or past the text's end or 1 is given. */
 uint8_t bridlesnow_read_block_at(const uint8_t *text, size_t text_len, size_t at,
                                  uint8_t *join, size_t join_len,
                                  uint8_t *out, size_t out_len, size_t *told, size_t told_len);

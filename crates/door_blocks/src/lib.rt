@@ -1,14 +1,17 @@
 // What C and Rust call to read a block of one or more lines: the number of its refusal or 0, and its set as canonical text.
 use read_blocks::Block;
 ghost use mathlib.Core.Path.{_≡_};
+ghost use mathlib.Core.Bool.{_&&_, not};
+ghost use lib.Dec.{ltb};
 ghost use lib.ListN.{length};
 ghost use lib.Seq.{slice};
 ghost use Rattle.set_table.specs.Types.{two};
-ghost use Rattle.read_blocks.specs.Blocks.{found, sized, joinHolds};
+ghost use Rattle.read_blocks.specs.Blocks.{found, sized, joinHolds, blockOf};
 ghost use Rattle.text_line_start.specs.Starts.{placeOf};
 ghost use Rattle.read_blocks.specs.ByLine.{blockFound, wrappedFound};
 ghost use Rattle.door_shared.specs.Tells.{toldIn};
-ghost use Rattle.door_blocks.specs.Blocks.{blockSaidBy, blockSaid};
+ghost use Rattle.base_refusals.specs.Numbers.{tooLong};
+ghost use Rattle.door_blocks.specs.Blocks.{isPlaceIn, placeIn, nowhere, blockSaidBy, blockSaid};
 
 // Writes and tells what a block reads, whose set is over the text and the bytes that were joined.
 fn say_block<'a>(
@@ -71,6 +74,37 @@ pub extern "C" fn bridlesnow_wrapped_attrs_run_at(
     say_block(text, block, join, out, told)
 }
 
+// Whether a place is one of a text that isn't too long.
+fn is_place(text: &[u8], at: usize) -> bool
+    ensures { λ r. ⌜ r ≡ isPlaceIn (now (text .entry)) at ⌝ }
+{
+    if base_refusals::MAX_TEXT < text.len() {
+        return false;
+    }
+    at < text.len()
+}
+
+// A block that is refused, told without the place at which it was asked for.
+fn told_nowhere(block: Block) -> Block
+    ensures { λ r. ⌜ r ≡ nowhere block ⌝ }
+{
+    let mut b = block;
+    b.next = 0;
+    b
+}
+
+// What is read at a place, which is told as 0 where it is none of the text.
+fn read_in<'a>(text: &'a [u8], at: usize, join: &mut [u8]) -> Block
+    ensures { λ r. ⌜ r ≡ blockOf (now (text .entry)) (placeIn (now (text .entry)) at) (sized (now (text .entry)) (found (now (text .entry)) at 0 (length (now (join .entry))))) ⌝ }
+    ensures { λ r. ⌜ now (join .exit) ≡ joinHolds (now (join .entry)) (sized (now (text .entry)) (found (now (text .entry)) at 0 (length (now (join .entry))))) ⌝ }
+{
+    let block = read_blocks::read_at(text, at, join);
+    if is_place(text, at) {
+        return block;
+    }
+    told_nowhere(block)
+}
+
 // Reads the block whose first line begins at the place `at` of a text that was checked before. Tells as a block by its line does.
 #[no_mangle]
 pub extern "C" fn bridlesnow_read_block_at(
@@ -80,11 +114,11 @@ pub extern "C" fn bridlesnow_read_block_at(
     out: &mut [u8],
     told: &mut [usize],
 ) -> u8
-    ensures { λ r. ⌜ r ≡ blockSaid (now (text .entry)) at (sized (now (text .entry)) (found (now (text .entry)) at 0 (length (now (join .entry))))) (now (out .entry)) .number ⌝ }
+    ensures { λ r. ⌜ r ≡ blockSaid (now (text .entry)) (placeIn (now (text .entry)) at) (sized (now (text .entry)) (found (now (text .entry)) at 0 (length (now (join .entry))))) (now (out .entry)) .number ⌝ }
     ensures { λ r. ⌜ now (join .exit) ≡ joinHolds (now (join .entry)) (sized (now (text .entry)) (found (now (text .entry)) at 0 (length (now (join .entry))))) ⌝ }
-    ensures { λ r. ⌜ now (out .exit) ≡ blockSaid (now (text .entry)) at (sized (now (text .entry)) (found (now (text .entry)) at 0 (length (now (join .entry))))) (now (out .entry)) .out ⌝ }
-    ensures { λ r. ⌜ now (told .exit) ≡ toldIn (now (told .entry)) (blockSaid (now (text .entry)) at (sized (now (text .entry)) (found (now (text .entry)) at 0 (length (now (join .entry))))) (now (out .entry)) .told) ⌝ }
+    ensures { λ r. ⌜ now (out .exit) ≡ blockSaid (now (text .entry)) (placeIn (now (text .entry)) at) (sized (now (text .entry)) (found (now (text .entry)) at 0 (length (now (join .entry))))) (now (out .entry)) .out ⌝ }
+    ensures { λ r. ⌜ now (told .exit) ≡ toldIn (now (told .entry)) (blockSaid (now (text .entry)) (placeIn (now (text .entry)) at) (sized (now (text .entry)) (found (now (text .entry)) at 0 (length (now (join .entry))))) (now (out .entry)) .told) ⌝ }
 {
-    let block = read_blocks::read_at(text, at, join);
+    let block = read_in(text, at, join);
     say_block(text, block, join, out, told)
 }
