@@ -66,6 +66,20 @@ int main(void)
     EXPECT(told[0] == 4 && told[1] == 0 && out[0] == 7);
     EXPECT(bridlesnow_read_attrs_at(block, 4, 0, 0, out, 11, told, 2) == 0);
     EXPECT(told[0] == 4 && told[1] == 11 && memcmp(out, "{class=\"a\"}\7", 12) == 0);
+    /* Where a payload went wrong, as the third number: 0 for anything but 5, and untouched where there is room for two. */
+    EXPECT(bridlesnow_read_attrs_at((const uint8_t *)"x{a=}", 5, 1, 0, out, 16, told, 3) == 5);
+    EXPECT(told[0] == 0 && told[1] == 0 && told[2] == 2);
+    EXPECT(bridlesnow_read_attrs_at((const uint8_t *)"{}", 2, 0, 0, NULL, 0, told, 5) == 5 && told[2] == 0);
+    EXPECT(bridlesnow_read_attrs_at((const uint8_t *)"{:abcdefghi}", 12, 0, 255, NULL, 0, told, 3) == 5 && told[2] == 9);
+    told[2] = 99;
+    EXPECT(bridlesnow_read_attrs_at((const uint8_t *)"{a=}", 4, 0, 0, NULL, 0, told, 2) == 5 && told[0] == 0 && told[1] == 0 && told[2] == 99);
+    EXPECT(bridlesnow_read_attrs_at(block, 4, 0, 0, out, 16, told, 3) == 0 && told[0] == 4 && told[1] == 11 && told[2] == 0);
+    told[2] = 99;
+    EXPECT(bridlesnow_read_attrs_at(block, 3, 0, 0, out, 16, told, 3) == 4 && told[2] == 0);
+    told[2] = 99;
+    EXPECT(bridlesnow_read_attrs_at(block, 4, 0, 0, out, 10, told, 3) == 10 && told[0] == 4 && told[2] == 0);
+    EXPECT(bridlesnow_read_attrs_at_tags((const uint8_t *)"{:1 =}", 6, 0, 0, 1, out, 16, told, 3) == 5 && told[0] == 0 && told[2] == 3);
+    EXPECT(bridlesnow_read_attrs_at_tags((const uint8_t *)"{:1}", 4, 0, 0, 1, out, 16, told, 3) == 13 && told[2] == 0);
     /* A tag that isn't well-formed: refused where it is looked at, and the memory as it was. */
     memset(out, 7, sizeof out);
     EXPECT(bridlesnow_read_attrs_at_tags((const uint8_t *)"{:1}", 4, 0, 0, 1, out, 16, told, 2) == 13);

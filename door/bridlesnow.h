@@ -133,7 +133,8 @@ bool bridlesnow_valid_wrapped_attr_continuation(const uint8_t *line, size_t line
 /* Reads the block whose brace stands at byte `place`. `loose` is 0 for an inline block, where only spaces part attributes; else a CR does so too. An LF before
  * the close is 4 in either.
  * Order of refusals: 1, 3, 4, 2 (of the payload), 5, 6, 7, then 2 (of the whole text) and 10.
- * Tells: the place behind the block, 0 where it isn't read; the length of the canonical text. */
+ * Tells: the place behind the block, 0 where it isn't read; the length of the canonical text; for 5 where the payload went wrong, else 0: how many bytes of it,
+ * counted from behind the brace and up to the end of a character, can still be continued to a payload that has a reading. {a=} tells 2, {} 0. */
 uint8_t bridlesnow_read_attrs_at(const uint8_t *text, size_t text_len, size_t place, uint8_t loose,
                                  uint8_t *out, size_t out_len, size_t *told, size_t told_len);
 

@@ -57,7 +57,7 @@ extern "C" {
     fn read_brace__read_attrs_at_with(answer: *mut u8, text: *const Slice, place: usize, mode: *const u8);
 }
 
-/// The set of a block at a brace as the reader hands it out: the answer's number stands first, 1 where a set was read.
+/// The set of a block at a brace as the reader hands it out: the answer's number stands first, 2 where a set was read.
 #[repr(C, align(16))]
 pub struct Set([u8; 2048]);
 
@@ -66,7 +66,7 @@ impl Set {
         Set([0; 2048])
     }
     pub fn was_read(&self) -> bool {
-        self.0[0] == 1
+        self.0[0] == 2
     }
 }
 

@@ -354,6 +354,29 @@ pub struct Column<'a> {
     pub width: Option<&'a [u8]>,
 }
 
+/// Why a block at a brace isn't read, and where.
+#[derive(Clone, Copy, Debug, PartialEq, Eq)]
+pub struct Unread {
+    pub refusal: Refusal,
+    /// For 5 how many bytes of the payload, up to the end of a character, can still be continued to one that has a reading; counted from behind the brace.
+    pub place: Option<usize>,
+}
+
+impl Unread {
+    fn of(refusal: Refusal, place: usize) -> Self {
+        Unread { refusal, place: (refusal == Refusal(5)).then_some(place) }
+    }
+}
+
+impl fmt::Display for Unread {
+    fn fmt(&self, f: &mut fmt::Formatter<'_>) -> fmt::Result {
+        self.refusal.fmt(f)?;
+        self.place.map_or(Ok(()), |place| write!(f, " behind byte {place} of the payload"))
+    }
+}
+
+impl std::error::Error for Unread {}
+
 /// Why a sheet has no table, and where.
 #[derive(Clone, Copy, Debug, PartialEq, Eq)]
 pub struct NoTable {
@@ -400,27 +423,33 @@ impl Reader {
     }
 
     /// The block whose brace stands at `place`: the place behind it and its canonical text.
-    pub fn read_attrs_at(&mut self, text: &[u8], place: usize, mode: Mode) -> Result<(usize, &str), Refusal> {
-        let mut told = [0usize; 2];
-        granted(unsafe {
+    pub fn read_attrs_at(&mut self, text: &[u8], place: usize, mode: Mode) -> Result<(usize, &str), Unread> {
+        let mut told = [0usize; 3];
+        let number = unsafe {
             raw::bridlesnow_read_attrs_at(
                 text.as_ptr(), text.len(), place, u8::from(mode == Mode::Loose),
                 self.out.as_mut_ptr(), self.out.len(), told.as_mut_ptr(), told.len(),
             )
-        })?;
-        Ok((told[0], self.canonical(told[1])?))
+        };
+        self.at_brace(number, told)
+    }
+
+    fn at_brace(&self, number: u8, told: [usize; 3]) -> Result<(usize, &str), Unread> {
+        let [next, len, place] = told;
+        let canonical = granted(number).and_then(|()| self.canonical(len)).map_err(|refusal| Unread::of(refusal, place))?;
+        Ok((next, canonical))
     }
 
     /// The same, with `lang` empty or a well-formed language tag: 13 where it is neither. With `Tags::Any` it is `read_attrs_at`.
-    pub fn read_attrs_at_tags(&mut self, text: &[u8], place: usize, mode: Mode, tags: Tags) -> Result<(usize, &str), Refusal> {
-        let mut told = [0usize; 2];
-        granted(unsafe {
+    pub fn read_attrs_at_tags(&mut self, text: &[u8], place: usize, mode: Mode, tags: Tags) -> Result<(usize, &str), Unread> {
+        let mut told = [0usize; 3];
+        let number = unsafe {
             raw::bridlesnow_read_attrs_at_tags(
                 text.as_ptr(), text.len(), place, u8::from(mode == Mode::Loose), u8::from(tags == Tags::WellFormed),
                 self.out.as_mut_ptr(), self.out.len(), told.as_mut_ptr(), told.len(),
             )
-        })?;
-        Ok((told[0], self.canonical(told[1])?))
+        };
+        self.at_brace(number, told)
     }
 
     /// One line of blocks.
@@ -693,11 +722,16 @@ mod tests {
     use super::*;
     use std::ptr::{null, null_mut};
 
-    fn at_brace(text: &str) -> Result<(usize, String), u8> {
-        Reader::new()
-            .read_attrs_at(text.as_bytes(), 0, Mode::Strict)
-            .map(|(next, canonical)| (next, canonical.to_string()))
-            .map_err(|refusal| refusal.0)
+    fn at_brace(text: &str) -> Result<(usize, String), Unread> {
+        Reader::new().read_attrs_at(text.as_bytes(), 0, Mode::Strict).map(|(next, canonical)| (next, canonical.to_string()))
+    }
+
+    /// A refusal at a brace that has no place, and 5, which has one.
+    fn refused<T>(number: u8) -> Result<T, Unread> {
+        Err(Unread { refusal: Refusal(number), place: None })
+    }
+    fn wrong_at<T>(place: usize) -> Result<T, Unread> {
+        Err(Unread { refusal: Refusal(5), place: Some(place) })
     }
 
     /// The twelve cases of docs/SCOPE.md.
@@ -706,41 +740,63 @@ mod tests {
         let read = |next: usize, canonical: &str| Ok((next, canonical.to_string()));
         assert_eq!(at_brace("{:}"), read(3, "{lang=\"\"}"));
         assert_eq!(at_brace("{class=\"\"}"), read(10, "{class=\"\"}"));
-        assert_eq!(at_brace("{_a}"), Err(5));
+        assert_eq!(at_brace("{_a}"), wrong_at(2));
         assert_eq!(at_brace("{:abcdefgh}"), read(11, "{lang=\"abcdefgh\"}"));
-        assert_eq!(at_brace("{:abcdefghi}"), Err(5));
-        assert_eq!(at_brace("{a=}"), Err(5));
-        assert_eq!(at_brace("{}"), Err(5));
-        assert_eq!(at_brace("{a=\"1\"b}"), Err(5));
+        assert_eq!(at_brace("{:abcdefghi}"), wrong_at(9));
+        assert_eq!(at_brace("{a=}"), wrong_at(2));
+        assert_eq!(at_brace("{}"), wrong_at(0));
+        assert_eq!(at_brace("{a=\"1\"b}"), wrong_at(5));
         assert_eq!(at_brace("{a=\"}\"}"), read(7, "{a=\"}\"}"));
         assert_eq!(at_brace("{k=1 k=2}"), read(9, "{k=\"2\"}"));
-        assert_eq!(at_brace("{a"), Err(4));
+        assert_eq!(at_brace("{a"), refused(4));
         assert_eq!(at_brace("{.a #x k=1 .b}"), read(14, "{class=\"a\" class=\"b\" id=\"x\" k=\"1\"}"));
     }
 
     #[test]
     fn numbers_at_a_brace() {
         let mut reader = Reader::new();
-        assert_eq!(reader.read_attrs_at(&vec![b'{'; MAX + 1], 0, Mode::Strict), Err(Refusal(1)));
-        assert_eq!(reader.read_attrs_at(b"a{.b}", 0, Mode::Strict), Err(Refusal(3)));
-        assert_eq!(reader.read_attrs_at(b"a{.b}", usize::MAX, Mode::Strict), Err(Refusal(3)));
+        assert_eq!(reader.read_attrs_at(&vec![b'{'; MAX + 1], 0, Mode::Strict), refused(1));
+        assert_eq!(reader.read_attrs_at(b"a{.b}", 0, Mode::Strict), refused(3));
+        assert_eq!(reader.read_attrs_at(b"a{.b}", usize::MAX, Mode::Strict), refused(3));
         assert_eq!(reader.read_attrs_at(b"a{.b}c", 1, Mode::Strict), Ok((5, "{class=\"b\"}")));
-        assert_eq!(reader.read_attrs_at(b"{k=\xff}", 0, Mode::Strict), Err(Refusal(2)));
+        assert_eq!(reader.read_attrs_at(b"{k=\xff}", 0, Mode::Strict), refused(2));
         // The block is read, and the writer then refuses the text for what stands behind the block.
-        assert_eq!(reader.read_attrs_at(b"{.a}\xff", 0, Mode::Strict), Err(Refusal(2)));
-        assert_eq!(reader.read_attrs_at(b"{.a\r.b}", 0, Mode::Strict), Err(Refusal(5)));
+        assert_eq!(reader.read_attrs_at(b"{.a}\xff", 0, Mode::Strict), refused(2));
+        assert_eq!(reader.read_attrs_at(b"{.a\r.b}", 0, Mode::Strict), wrong_at(2));
         assert_eq!(reader.read_attrs_at(b"{.a\r.b}", 0, Mode::Loose), Ok((7, "{class=\"a\" class=\"b\"}")));
         let many = |word: &str, n: usize| (0..n).map(|i| format!(" {word}{i}")).collect::<String>();
         assert!(reader.read_attrs_at(format!("{{{}}}", many(".c", 64)).as_bytes(), 0, Mode::Strict).is_ok());
-        assert_eq!(reader.read_attrs_at(format!("{{{}}}", many(".c", 65)).as_bytes(), 0, Mode::Strict), Err(Refusal(6)));
+        assert_eq!(reader.read_attrs_at(format!("{{{}}}", many(".c", 65)).as_bytes(), 0, Mode::Strict), refused(6));
         assert!(reader.read_attrs_at(format!("{{{}}}", many("k", 64)).as_bytes(), 0, Mode::Strict).is_ok());
-        assert_eq!(reader.read_attrs_at(format!("{{{}}}", many("k", 65)).as_bytes(), 0, Mode::Strict), Err(Refusal(7)));
+        assert_eq!(reader.read_attrs_at(format!("{{{}}}", many("k", 65)).as_bytes(), 0, Mode::Strict), refused(7));
+    }
+
+    /// Counted from behind the brace, in bytes; limits don't count; in the mode that is asked for.
+    #[test]
+    fn places_at_a_brace() {
+        let mut reader = Reader::new();
+        for (text, place) in [
+            ("{ }", 1), ("{_a b}", 2), ("{_}", 1), ("{:a-}", 3), ("{:a--b}", 3), ("{:-}", 1), ("{#-}", 1), ("{a=b\"c\"}", 3), ("{a= b}", 2), ("{a\\}}", 1),
+            ("{\\\"}", 0), ("{\"}\"}", 0), ("{é}", 0), ("{:aé}", 2), ("{a=é\\ }", 4), ("{a\t}", 1), ("{a=\"\t\" =}", 6),
+        ] {
+            assert_eq!(at_brace(text), wrong_at(place), "{text}");
+        }
+        assert_eq!(reader.read_attrs_at(b"x{a=}", 1, Mode::Strict), wrong_at(2));
+        assert_eq!(reader.read_attrs_at(b"{a\r=}", 0, Mode::Strict), wrong_at(1));
+        assert_eq!(reader.read_attrs_at(b"{a\r=}", 0, Mode::Loose), wrong_at(2));
+        assert_eq!(reader.read_attrs_at(format!("{{{}=}}", ".a ".repeat(65)).as_bytes(), 0, Mode::Strict), wrong_at(195));
+        assert_eq!(reader.read_attrs_at(format!("{{{}=}}", "a".repeat(65_532)).as_bytes(), 0, Mode::Strict), wrong_at(65_533));
+        assert_eq!(reader.read_attrs_at_tags(b"{:1 =}", 0, Mode::Strict, Tags::WellFormed), wrong_at(3));
+        assert_eq!(reader.read_attrs_at_tags(b"{:1}", 0, Mode::Strict, Tags::WellFormed), refused(13));
+        let said = |unread: Unread| unread.to_string();
+        assert_eq!(at_brace("{a=}").map_err(said), Err("no reading behind byte 2 of the payload".to_string()));
+        assert_eq!(at_brace("{a").map_err(said), Err("no close".to_string()));
     }
 
     #[test]
     fn tags_at_a_brace() {
         let mut reader = Reader::new();
-        let mut number = |text: &str, tags: Tags| reader.read_attrs_at_tags(text.as_bytes(), 0, Mode::Strict, tags).map_or_else(|refusal| refusal.0, |_| 0);
+        let mut number = |text: &str, tags: Tags| reader.read_attrs_at_tags(text.as_bytes(), 0, Mode::Strict, tags).map_or_else(|unread| unread.refusal.0, |_| 0);
         // The value that counts is the last one, unescaped, wherever it is said.
         for good in ["{:en}", "{:1 :en}", "{lang=1 :en-GB-oed}", "{:I-AMI}", r#"{lang="en\-GB"}"#, "{:}", "{lang}", r#"{lang=""}"#, "{:1 lang}", "{LANG=1}", "{.a k=1}", "{:x-1-1}"] {
             assert_eq!((number(good, Tags::WellFormed), number(good, Tags::Any)), (0, 0), "{good}");
@@ -755,7 +811,7 @@ mod tests {
         assert_eq!((number(&many(".c", " :1"), Tags::WellFormed), number(&many(".c", " :en"), Tags::WellFormed)), (13, 6));
         // A long tag.
         assert_eq!(number(&format!("{{:x{}}}", "-1".repeat(32000)), Tags::WellFormed), 0);
-        assert_eq!(reader.read_attrs_at_tags(b"{k=\xff :1}", 0, Mode::Strict, Tags::WellFormed), Err(Refusal(2)));
+        assert_eq!(reader.read_attrs_at_tags(b"{k=\xff :1}", 0, Mode::Strict, Tags::WellFormed), refused(2));
         assert_eq!(reader.read_attrs_at_tags(b"a{:de-DE}", 1, Mode::Loose, Tags::WellFormed), Ok((9, "{lang=\"de-DE\"}")));
     }
 
@@ -1218,7 +1274,7 @@ mod tests {
         assert_eq!(Reader::with_room(17, 22).parse_standalone_attrs_block(text, 1), Err((Refusal(10), lines)));
         let lines = Lines { count: 0, next: 0, lookahead: 5, joined: 5 };
         assert_eq!(Reader::with_room(16, 23).parse_standalone_attrs_block(text, 1), Err((Refusal(9), lines)));
-        assert_eq!(Reader::with_room(0, 0).read_attrs_at(b"{.a}", 0, Mode::Strict), Err(Refusal(10)));
+        assert_eq!(Reader::with_room(0, 0).read_attrs_at(b"{.a}", 0, Mode::Strict), refused(10));
     }
 
     /// What only a caller from C can pass: no memory at all, and memory for fewer numbers than there are.

@@ -6,8 +6,8 @@
 //!     generate groups KIND SEED FROM COUNT          triples of lines for the merger of groups, of a KIND of its own
 //!
 //! FAMILIES are names parted by commas: leaves, brace, lines, refused, merge, sheet, rows, quick, merge2, repeats,
-//! variants, report, reports, index, mends, loose, columns, place, lang, once; `all` stands for those of them that both
-//! sides answer. The family `errors`, which is in no `all`, damages the request lines themselves.
+//! variants, report, reports, index, mends, loose, columns, place, lang, once; `all` stands for all of them but `once`.
+//! The family `errors`, which is in no `all`, damages the request lines themselves.
 //! Each request is made from the seed and its own number, so any part of the list can be made again. A request that
 //! carries the index of a text has it from the oracle's own modules.
 
@@ -32,12 +32,12 @@ use index::{INDEX_LIMIT, ROWS_LIMIT};
 use std::io::{self, BufWriter, Write};
 use std::sync::{Mutex, OnceLock};
 
-const FAMILIES: [&str; 17] = [
+const FAMILIES: [&str; 19] = [
     "leaves", "brace", "lines", "refused", "merge", "sheet", "rows", "quick", "merge2", "repeats", "variants", "report", "index",
-    "mends", "loose", "columns", "reports",
+    "mends", "loose", "columns", "reports", "place", "lang",
 ];
-/// Families of requests that the oracle alone answers as yet, all or some of them: only when named.
-const LATER: [&str; 3] = ["place", "lang", "once"];
+/// Families of requests that are for two readers, of which there is one as yet: only when named.
+const LATER: [&str; 1] = ["once"];
 /// Kinds of strings of which there are only lists of all.
 const LISTED: [&str; 10] = [
     "payload", "text", "refused-text", "bytes", "place-characters", "place-tags", "place-bytes", "lang-letters", "lang-kinds", "lang-subtags",

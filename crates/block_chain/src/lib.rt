@@ -29,7 +29,7 @@ fn block_close(s: &[u8], i: usize) -> Place
     match block_close::find_close(s, i + 1) {
         Place::Nothing => Place::Nothing,
         Place::At(e) => {
-            if block_tokens::payload_ok(&s[i + 1..e], Mode::Loose) {
+            if text_names::is_whole(block_tokens::payload_test(&s[i + 1..e], Mode::Loose)) {
                 return Place::At(e);
             }
             Place::Nothing

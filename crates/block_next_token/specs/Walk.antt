@@ -1,5 +1,5 @@
 -- "a walker that holds the text and its place gives the next token": one step, and what stands ahead.
-use mathlib.Core.Bool.{cond}
+use mathlib.Core.Bool.{Bool, true, false, cond}
 use mathlib.Core.List.{List, [], _∷_}
 use Prim.Native.Nat.{ℕ, _+_}
 use lib.Dec.{leb}
@@ -10,10 +10,9 @@ use Rattle.base_refusals.specs.Numbers.{Paper, passedPaper}
 use Rattle.base_bytes.specs.declared.Mode.{Mode}
 use Rattle.base_bytes.specs.Bytes.{isBlank}
 use Rattle.block_grammar.specs.Grammar.{Placed, Reading}
-use Rattle.block_grammar.specs.Computed.{tokenOf}
 use Rattle.block_grammar.specs.declared.Place.{Place}
 use Rattle.block_grammar.specs.declared.Place.the-variants.{Nothing, At}
-use Rattle.block_tokens.specs.Shown.{shownItem, shown, tokenEnd, tokenPaper}
+use Rattle.block_tokens.specs.Shown.{shownItem, tokenAt, tokenEnd, tokenPaper}
 use Rattle.block_tokens.specs.declared.Token.{Token}
 use Rattle.block_next_token.specs.declared.Ahead.{Ahead}
 use Rattle.block_next_token.specs.declared.Ahead.the-variants.{End, Found}
@@ -29,12 +28,22 @@ abbrev pub goneTo : ℕ → Place → ℕ
 goneTo a Nothing = a
 goneTo a (At e) = e
 
+-- the bytes are no token
+abbrev pub isBad : Token → Bool
+isBad (Token.Bad n) = true
+isBad (Token.Tag f e) = false
+isBad (Token.Id f e) = false
+isBad (Token.Class f e) = false
+isBad (Token.Plain f k e) = false
+isBad (Token.Quoted f k e) = false
+isBad (Token.Bare f e) = false
+
 abbrev pub stepOver : ℕ → Token → Step
 stepOver a t = record { ahead = Found t; at = goneTo a (tokenEnd t) }
 
 -- a is behind the blanks: the end stands there, or a token
 abbrev pub stepFrom : Mode → List ℕ → ℕ → Step
-stepFrom m s a = cond (leb (length s) a) (record { ahead = End; at = a }) (stepOver a (shown a (tokenOf m (drop a s))))
+stepFrom m s a = cond (leb (length s) a) (record { ahead = End; at = a }) (stepOver a (tokenAt m s a))
 
 unfoldable pub stepAt : Mode → List ℕ → ℕ → Step
 stepAt m s at = stepFrom m s (at + run (isBlank m) (drop at s))

@@ -12,7 +12,7 @@ pub struct Walker<'a> {
     pub mode: Mode,
 }
 
-// What stands ahead of a walker: the text's end, or a token, which is `Bad` where the bytes are none.
+// What stands ahead of a walker: the text's end, or a token, which is `Bad` where the bytes are none, with the place at which they stop being one.
 pub enum Ahead {
     End,
     Found(Token),
@@ -35,7 +35,7 @@ fn place_behind(token: Token, a: usize) -> usize
     ensures { λ r. ⌜ r ≡ goneTo a (tokenEnd token) ⌝ }
 {
     match token {
-        Token::Bad => a,
+        Token::Bad(_) => a,
         Token::Tag(_, e) => e,
         Token::Id(_, e) => e,
         Token::Class(_, e) => e,
@@ -129,7 +129,7 @@ pub fn token_count(text: &[u8], mode: Mode) -> Count
         match ahead {
             Ahead::End => break 'tokens Count::Tokens(n),
             Ahead::Found(token) => match token {
-                Token::Bad => break 'tokens Count::Bad,
+                Token::Bad(_) => break 'tokens Count::Bad,
                 _ => {
                     n += 1;
                     i = step.at;

@@ -16,7 +16,7 @@ fn is_payload(s: &[u8], mode: Mode) -> bool
     if !text_checks::is_text(s) {
         return false;
     }
-    block_tokens::payload_ok(s, mode)
+    text_names::is_whole(block_tokens::payload_test(s, mode))
 }
 
 // Whether the bytes are a payload of an inline block.
@@ -72,7 +72,7 @@ pub fn continues_run(l: &[u8]) -> bool
         return true;
     }
     let from = behind_last(l);
-    block_tokens::payload_ok(&l[from..], Mode::Loose)
+    text_names::is_whole(block_tokens::payload_test(&l[from..], Mode::Loose))
 }
 
 // Whether a line may continue a wrapped run.

@@ -1,6 +1,7 @@
 -- For callers of `blank_end` and `token_at`: what the ranges of a token say, and how the reader goes on behind it.
 -- Assumes nothing.
 use mathlib.Core.Path.{_≡_, refl, ap, sym, _∙_}
+use mathlib.Core.Bool.{true, false}
 use mathlib.Core.List.{List, [], _∷_, _++_, append-assoc, append-nil}
 use Prim.Native.Nat.{ℕ, suc, _+_, _-_, _<_, _≤_}
 use native.Mathlib.Nat.{zero-add}
@@ -8,6 +9,7 @@ use native.Mathlib.Omega.{arith}
 use lib.ListN.{length, getD, drop, length-append}
 use lib.Seq.{slice, getD-drop, getD-append-add}
 use Rattle.base_lists.specs.Lists.{run}
+use Rattle.base_lists.proofs.More.{contra}
 use Rattle.base_lists.proofs.Parts.{slice-add}
 use Rattle.base_bytes.specs.declared.Mode.{Mode}
 use Rattle.base_bytes.specs.Bytes.{isBlank}
@@ -19,13 +21,16 @@ use Rattle.block_grammar.proofs.Tokens.{token-sound}
 use Rattle.block_grammar.proofs.Payload.{token-front}
 use Rattle.block_grammar.proofs.Places.{part}
 use Rattle.block_grammar.proofs.Loop as loop
+use Rattle.block_places.specs.Computed.{tokenPlace}
 use Rattle.block_tokens.specs.declared.Token.{Token}
 use Rattle.block_tokens.specs.declared.Token.the-variants.{Bad, Tag, Id, Class, Plain, Quoted, Bare}
-use Rattle.block_tokens.specs.Shown.{shownItem, shown, tokenEnd}
+use Rattle.block_tokens.specs.Shown.{shownItem, shown, tokenAt, tokenEnd}
+use Rattle.block_tokens.specs.declared.Behind.the-variants.{Next}
+use Rattle.block_tokens.specs.Inner.{behindOf}
 
 -- ---- the item of a token, by the bytes of its ranges
 abbrev pub itemOf : List ℕ → Token → First
-itemOf s Bad = First.none
+itemOf s (Bad n) = First.none
 itemOf s (Tag f e) = First.token (Item.tag (slice f e s))
 itemOf s (Id f e) = First.token (Item.id (slice f e s))
 itemOf s (Class f e) = First.token (Item.class (slice f e s))
@@ -35,7 +40,7 @@ itemOf s (Bare f e) = First.token (Item.bare (slice f e s))
 
 -- the ranges' order, for a token whose first byte stands at a
 abbrev pub Spans : ℕ → Token → Type 0
-Spans a Bad = Unit {0}
+Spans a (Bad n) = Unit {0}
 Spans a (Tag f e) = (f ≡ a + 1) × (f ≤ e)
 Spans a (Id f e) = (f ≡ a + 1) × (f ≤ e)
 Spans a (Class f e) = (f ≡ a + 1) × (f ≤ e)
@@ -60,6 +65,19 @@ item-behind a (Item.class n) = ap (λ x. At x) (omega arith)
 item-behind a (Item.plain k v) = ap (λ x. At x) (omega (arith, length-append k (61 ∷ v)))
 item-behind a (Item.quoted k q v) = ap (λ x. At x) (omega (arith, length-append k (61 ∷ (q ∷ (v ++ (q ∷ [])))), length-append v (q ∷ [])))
 item-behind a (Item.bare n) = refl
+
+-- so a loop goes on behind it
+pub item-next : (a : ℕ) (j : Item) → behindOf (shownItem a j) ≡ Next (a + length (text j))
+item-next a j = go (shownItem a j) (item-behind a j)
+  where
+    go : (t : Token) {n : ℕ} → tokenEnd t ≡ At n → behindOf t ≡ Next n
+    go (Bad k) e = contra true refl (cc)
+    go (Tag f e) q = cc
+    go (Id f e) q = cc
+    go (Class f e) q = cc
+    go (Plain f k e) q = cc
+    go (Quoted f k e) q = cc
+    go (Bare f e) q = cc
 
 -- the bytes of b, which stand in s behind those of p, which stand at a
 range : (s p b c : List ℕ) (a f e : ℕ) → drop a s ≡ p ++ (b ++ c) → f ≡ a + length p → e ≡ f + length b → slice f e s ≡ b
@@ -87,19 +105,19 @@ item-ranges s a (Item.bare n) c h = rw (range s [] n c a a (a + length n) h (ome
 
 -- ---- what `token_at` hands out loses nothing
 module _ (m : Mode) (s : List ℕ) (a : ℕ) where
-  pub ranges : {t : Token} → t ≡ shown a (tokenOf m (drop a s)) → tokenOf m (drop a s) ≡ itemOf s t
+  pub ranges : {t : Token} → t ≡ tokenAt m s a → tokenOf m (drop a s) ≡ itemOf s t
   unfolding shown
   ranges {t} e = go (tokenOf m (drop a s)) refl e
     where
-      go : (x : First) → tokenOf m (drop a s) ≡ x → t ≡ shown a x → x ≡ itemOf s t
+      go : (x : First) → tokenOf m (drop a s) ≡ x → t ≡ shown a (a + tokenPlace (drop a s)) x → x ≡ itemOf s t
       go First.none p e = rw e
       go (First.token j) p e = let f = token-sound m (drop a s) j p in rw e (sym (item-ranges s a j (f .rest) (sym (f .whole))))
 
-  pub spans : {t : Token} → t ≡ shown a (tokenOf m (drop a s)) → Spans a t
+  pub spans : {t : Token} → t ≡ tokenAt m s a → Spans a t
   unfolding shown
   spans e = rw e (go (tokenOf m (drop a s)))
     where
-      go : (x : First) → Spans a (shown a x)
+      go : (x : First) → Spans a (shown a (a + tokenPlace (drop a s)) x)
       go First.none = tt
       go (First.token j) = item-spans a j
 
@@ -136,11 +154,17 @@ module _ (m : Mode) (s : List ℕ) {i a : ℕ} (fits : i ≤ length s) (is : a �
   pub between : (i ≤ a) × (a ≤ length s)
   between = loop.between add Reading.refused given here is
 
+  pub no-blank : a < length s → isBlank m (getD s a 0) ≡ false
+  no-blank h = loop.solid add Reading.refused given here is h
+
   pub at-end : a ≡ length s → readFrom m (drop i s) 0 i ≡ Reading.items []
   at-end h = sym (loop.end add Reading.refused given (loop.blanks add Reading.refused given here is) (omega arith))
 
-  pub refused : a < length s → Bad ≡ shown a (tokenOf m (drop a s)) → readFrom m (drop i s) 0 i ≡ Reading.refused
-  refused h e = sym (loop.none add Reading.refused given (loop.blanks add Reading.refused given here is) h (loop.solid add Reading.refused given here is h) (ranges m s a e))
+  pub none-refused : a < length s → tokenOf m (drop a s) ≡ First.none → readFrom m (drop i s) 0 i ≡ Reading.refused
+  none-refused h e = sym (loop.none add Reading.refused given (loop.blanks add Reading.refused given here is) h (no-blank h) e)
+
+  pub refused : {n : ℕ} → a < length s → Bad n ≡ tokenAt m s a → readFrom m (drop i s) 0 i ≡ Reading.refused
+  refused h e = none-refused h (ranges m s a e)
 
   pub token-stepped : {j : Item} {e : ℕ} → tokenOf m (drop a s) ≡ First.token j → At e ≡ tokenEnd (shownItem a j) → Stepped m s i a j e
   token-stepped {j} {e} x q =
@@ -157,25 +181,25 @@ module _ (m : Mode) (s : List ℕ) {i a : ℕ} (fits : i ≤ length s) (is : a �
       }
 
   -- j and e are found from the token t, as `itemOf` and `tokenEnd` compute at it: `stepped m s fits is q refl refl`
-  pub stepped : {t : Token} {j : Item} {e : ℕ} → t ≡ shown a (tokenOf m (drop a s)) → itemOf s t ≡ First.token j → At e ≡ tokenEnd t → Stepped m s i a j e
+  pub stepped : {t : Token} {j : Item} {e : ℕ} → t ≡ tokenAt m s a → itemOf s t ≡ First.token j → At e ≡ tokenEnd t → Stepped m s i a j e
   unfolding shown
   stepped q p b = let x = ranges m s a q ∙ p in token-stepped x (rw x at (b ∙ ap tokenEnd q))
 
   -- the same for each kind of token
-  pub tag-step : {f e : ℕ} → Tag f e ≡ shown a (tokenOf m (drop a s)) → Stepped m s i a (Item.tag (slice f e s)) e
+  pub tag-step : {f e : ℕ} → Tag f e ≡ tokenAt m s a → Stepped m s i a (Item.tag (slice f e s)) e
   tag-step q = stepped q refl refl
 
-  pub id-step : {f e : ℕ} → Id f e ≡ shown a (tokenOf m (drop a s)) → Stepped m s i a (Item.id (slice f e s)) e
+  pub id-step : {f e : ℕ} → Id f e ≡ tokenAt m s a → Stepped m s i a (Item.id (slice f e s)) e
   id-step q = stepped q refl refl
 
-  pub class-step : {f e : ℕ} → Class f e ≡ shown a (tokenOf m (drop a s)) → Stepped m s i a (Item.class (slice f e s)) e
+  pub class-step : {f e : ℕ} → Class f e ≡ tokenAt m s a → Stepped m s i a (Item.class (slice f e s)) e
   class-step q = stepped q refl refl
 
-  pub plain-step : {f k e : ℕ} → Plain f k e ≡ shown a (tokenOf m (drop a s)) → Stepped m s i a (Item.plain (slice f k s) (slice (k + 1) e s)) e
+  pub plain-step : {f k e : ℕ} → Plain f k e ≡ tokenAt m s a → Stepped m s i a (Item.plain (slice f k s) (slice (k + 1) e s)) e
   plain-step q = stepped q refl refl
 
-  pub quoted-step : {f k e : ℕ} → Quoted f k e ≡ shown a (tokenOf m (drop a s)) → Stepped m s i a (Item.quoted (slice f k s) (getD s (k + 1) 0) (slice (k + 2) (e - 1) s)) e
+  pub quoted-step : {f k e : ℕ} → Quoted f k e ≡ tokenAt m s a → Stepped m s i a (Item.quoted (slice f k s) (getD s (k + 1) 0) (slice (k + 2) (e - 1) s)) e
   quoted-step q = stepped q refl refl
 
-  pub bare-step : {f e : ℕ} → Bare f e ≡ shown a (tokenOf m (drop a s)) → Stepped m s i a (Item.bare (slice f e s)) e
+  pub bare-step : {f e : ℕ} → Bare f e ≡ tokenAt m s a → Stepped m s i a (Item.bare (slice f e s)) e
   bare-step q = stepped q refl refl

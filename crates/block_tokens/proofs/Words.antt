@@ -4,50 +4,56 @@ use mathlib.Core.Path.{_≡_, refl, sym, _∙_, ap}
 use mathlib.Core.Bool.{Bool, true, false, _&&_, cond}
 use mathlib.Core.List.{List, [], _∷_}
 use Prim.Native.Nat.{ℕ, suc, _+_, _-_, _<_, _≤_}
+use native.Mathlib.Nat.{add-zero, add-suc, suc-add}
 use native.Mathlib.Omega.{arith}
 use native.Mathlib.Numerals.{add-one}
 use lib.Dec.{eqb, ltb, leb}
 use lib.ListN.{length, getD, take, drop, drop-of-length-le, length-drop, length-take}
 use lib.Seq.{drop-cons, drop-drop, length-take-le}
 use borrow.Author.Tests.{ne-eqb, lt-ltb, le-ltb, leb-true, leb-false, ltb-true, ltb-false}
-use Rattle.base_lists.specs.Lists.{headed, run, firstIs}
+use Rattle.base_lists.specs.Lists.{headed, run, firstIs, isIn}
+use Rattle.base_lists.proofs.Runs as runs
 use Rattle.base_lists.proofs.Scan.{run-le, run-all, first-none}
 use Rattle.base_lists.proofs.More.{contra}
 use Rattle.base_bytes.specs.declared.Mode.{Mode}
-use Rattle.base_bytes.specs.Bytes.{isLetter, isNamePart, isKeyStart, isQuote, isPlain}
+use Rattle.base_bytes.specs.Bytes.{isLetter, isAlnum, isNameStart, isNamePart, isKeyStart, isQuote, isPlain}
 use Rattle.base_letters.specs.Classes.{frontRun}
 use Rattle.base_letters.proofs.Fronts as fronts
-use Rattle.text_names.specs.Names.{isKey, isBareName}
+use Rattle.text_names.specs.Names.{isName, isKey, isBareName}
+use Rattle.text_names.specs.Computed.{isLanguage, tagPasses}
+use Rattle.text_names.proofs.Told.{whole-language}
 use Rattle.block_grammar.specs.Grammar.{Item, isValue}
 use Rattle.block_grammar.specs.Computed.{First, Shut, ends, finish, frontToken, shutOf, quotedToken, plainToken, valueToken, afterName, nameToken, tokenOf}
-use Rattle.block_grammar.proofs.Bytes.{key-part, letter-key}
+use Rattle.block_grammar.proofs.Bytes.{start-part, key-part, letter-key}
 use Rattle.block_grammar.specs.declared.Place.the-variants.{Nothing}
+use Rattle.block_places.specs.Computed.{Spot, Turn, solidTurn, turnOf, walkPasses, tokenPlace}
+use Rattle.block_places.proofs.Ways as ways
 use Rattle.block_tokens.specs.declared.Token.{Token}
-use Rattle.block_tokens.specs.declared.Token.the-variants.{Bad, Plain, Quoted, Bare}
-use Rattle.block_tokens.specs.Shown.{shownItem, shown}
-use Rattle.block_tokens.specs.Inner.{tagToken, idToken, classToken, quotedFrom, part, startsEq, shutAt}
+use Rattle.block_tokens.specs.declared.Token.the-variants.{Bad, Tag, Plain, Quoted, Bare}
+use Rattle.block_tokens.specs.Shown.{shownItem, shown, tokenAt}
+use Rattle.block_tokens.specs.Inner.{tagToken, idToken, classToken, quotedFrom, part, startsEq, shutAt, spotPlace, wordPlace}
 use Rattle.block_tokens.proofs.Quotes.{Closed}
 
-shown-finish : (i : ℕ) (m : Mode) (good : Bool) (it : Item) (rest : List ℕ) → shown i (finish m good it rest) ≡ cond (good && ends m rest) (shownItem i it) Bad
+shown-finish : (i n : ℕ) (m : Mode) (good : Bool) (it : Item) (rest : List ℕ) → shown i n (finish m good it rest) ≡ cond (good && ends m rest) (shownItem i it) (Bad n)
 unfolding finish shown
-shown-finish i m good it rest = go (good && ends m rest)
+shown-finish i n m good it rest = go (good && ends m rest)
   where
-    go : (x : Bool) → shown i (cond x (First.token it) First.none) ≡ cond x (shownItem i it) Bad
+    go : (x : Bool) → shown i n (cond x (First.token it) First.none) ≡ cond x (shownItem i it) (Bad n)
     go true = refl
     go false = refl
 
 part-length : (a e : ℕ) (s : List ℕ) → a ≤ e → e ≤ length s → a + length (part a e s) ≡ e
 part-length a e s h l = omega (arith, length-take (e - a) (drop a s), length-drop a s)
 
--- a token whose last part is the run from a to e
-pub word : (i : ℕ) (m : Mode) (f : ℕ → Bool) (test : List ℕ → Bool) (item : List ℕ → Item) (s : List ℕ) {a e : ℕ} → e ≡ a + run f (drop a s) → a ≤ length s
-    → {good : Bool} → good ≡ test (part a e s) → {t r : Token} → ((n : List ℕ) → a + length n ≡ e → shownItem i (item n) ≡ t) → r ≡ cond (good && ends m (drop e s)) t Bad
-    → r ≡ shown i (frontToken m (run f (drop a s)) test item (drop a s))
-word i m f test item s {a} {e} is h good shows q =
+-- a token whose last part is the run from a to e; it goes wrong at w
+pub word : (i w : ℕ) (m : Mode) (f : ℕ → Bool) (test : List ℕ → Bool) (item : List ℕ → Item) (s : List ℕ) {a e : ℕ} → e ≡ a + run f (drop a s) → a ≤ length s
+    → {good : Bool} → good ≡ test (part a e s) → {t r : Token} → ((n : List ℕ) → a + length n ≡ e → shownItem i (item n) ≡ t) → r ≡ cond (good && ends m (drop e s)) t (Bad w)
+    → r ≡ shown i w (frontToken m (run f (drop a s)) test item (drop a s))
+word i w m f test item s {a} {e} is h good shows q =
     let z : run f (drop a s) ≡ e - a = omega arith in
     let y : a + (e - a) ≡ e = omega (arith, is) in
     let l : e ≤ length s = omega (arith, run-le f (drop a s), length-drop a s) in
-    rw (z, shown-finish i m (test (part a e s)) (item (part a e s)) (drop (e - a) (drop a s)), drop-drop (e - a) a s, y, ← good, shows (part a e s) (part-length a e s (omega arith) l)) q
+    rw (z, shown-finish i w m (test (part a e s)) (item (part a e s)) (drop (e - a) (drop a s)), drop-drop (e - a) a s, y, ← good, shows (part a e s) (part-length a e s (omega arith) l)) q
 
 run-headed : (f g : ℕ → Bool) → ((b : ℕ) → f b ≡ true → g b ≡ true) → (s : List ℕ) → firstIs f s ≡ headed f g (take (run g s) s)
 unfolding run headed
@@ -73,23 +79,31 @@ module _ (f g : ℕ → Bool) (of : (b : ℕ) → f b ≡ true → g b ≡ true)
   pub headed-run : (a : ℕ) → e ≡ a + run g (drop a s) → {r : Bool} → r ≡ firstIs f (drop a s) → r ≡ headed f g (part a e s)
   headed-run a is q = let z : e - a ≡ run g (drop a s) = omega arith in rw z (q ∙ run-headed f g of (drop a s))
 
-  pub headed-word : (i : ℕ) (m : Mode) (item : List ℕ → Item) {a : ℕ} → e ≡ a + run g (drop a s) → a ≤ length s → {good : Bool} → good ≡ firstIs f (drop a s)
-      → {t r : Token} → ((n : List ℕ) → a + length n ≡ e → shownItem i (item n) ≡ t) → r ≡ cond (good && ends m (drop e s)) t Bad
-      → r ≡ shown i (frontToken m (run g (drop a s)) (headed f g) item (drop a s))
-  headed-word i m item {a} is h good shows q = word i m g (headed f g) item s is h (headed-run a is good) shows q
+  pub headed-word : (i w : ℕ) (m : Mode) (item : List ℕ → Item) {a : ℕ} → e ≡ a + run g (drop a s) → a ≤ length s → {good : Bool} → good ≡ firstIs f (drop a s)
+      → {t r : Token} → ((n : List ℕ) → a + length n ≡ e → shownItem i (item n) ≡ t) → r ≡ cond (good && ends m (drop e s)) t (Bad w)
+      → r ≡ shown i w (frontToken m (run g (drop a s)) (headed f g) item (drop a s))
+  headed-word i w m item {a} is h good shows q = word i w m g (headed f g) item s is h (headed-run a is good) shows q
 
 -- the same by the end that is found with the first byte asked
 module _ (f g : ℕ → Bool) (of : (b : ℕ) → f b ≡ true → g b ≡ true) (s : List ℕ) {a e : ℕ} (is : e ≡ a + frontRun f g (drop a s)) (h : a ≤ length s) where
-  pub headed-front : (i : ℕ) (m : Mode) (item : List ℕ → Item) (tok : ℕ → Token) → ((n : List ℕ) → shownItem i (item n) ≡ tok (a + length n)) → {r : Token} → r ≡ cond (ltb a e && ends m (drop e s)) (tok e) Bad
-      → r ≡ shown i (frontToken m (run g (drop a s)) (headed f g) item (drop a s))
+  pub headed-front : (i : ℕ) (m : Mode) (item : List ℕ → Item) (tok : ℕ → Token) → ((n : List ℕ) → shownItem i (item n) ≡ tok (a + length n)) → {r : Token} → r ≡ cond (ltb a e && ends m (drop e s)) (tok e) (Bad e)
+      → r ≡ shown i e (frontToken m (run g (drop a s)) (headed f g) item (drop a s))
   headed-front i m item tok shows {r} q = go (ltb a e) refl q
     where
-      go : (x : Bool) → ltb a e ≡ x → r ≡ cond (x && ends m (drop e s)) (tok e) Bad → r ≡ shown i (frontToken m (run g (drop a s)) (headed f g) item (drop a s))
+      go : (x : Bool) → ltb a e ≡ x → r ≡ cond (x && ends m (drop e s)) (tok e) (Bad e) → r ≡ shown i e (frontToken m (run g (drop a s)) (headed f g) item (drop a s))
       go true p q =
           let b = fronts.begun f g of s is (λ z. omega (arith, ltb-true a e p, z)) in
-          headed-word f g of s i m item (b .1) h (sym (b .0)) (λ n k. shows n ∙ ap tok k) q
+          headed-word f g of s i e m item (b .1) h (sym (b .0)) (λ n k. shows n ∙ ap tok k) q
       go false p q =
-          headed-word f g of s i m item {a = a} refl h {good = false} (sym (fronts.nothing f g of s is (omega (arith, ltb-false a e p, is)))) {t = tok (a + run g (drop a s))} (λ n k. shows n ∙ ap tok k) q
+          headed-word f g of s i e m item {a = a} refl h {good = false} (sym (fronts.nothing f g of s is (omega (arith, ltb-false a e p, is)))) {t = tok (a + run g (drop a s))} (λ n k. shows n ∙ ap tok k) q
+
+-- behind `#` or `.`
+pub sigil-front : (s : List ℕ) {a e : ℕ} → e ≡ a + frontRun isNameStart isNamePart (drop a s) → a ≤ length s → (i : ℕ) (m : Mode) (item : List ℕ → Item) (tok : ℕ → Token) → ((n : List ℕ) → shownItem i (item n) ≡ tok (a + length n)) → {r : Token} → r ≡ cond (ltb a e && ends m (drop e s)) (tok e) (Bad e)
+    → r ≡ shown i (spotPlace Spot.sigil a s) (frontToken m (run isNamePart (drop a s)) isName item (drop a s))
+unfolding isName
+sigil-front s {a} {e} is h i m item tok shows q =
+    let z : spotPlace Spot.sigil a s ≡ e = ap (λ x. a + x) (ways.sigil-way (drop a s)) ∙ sym is in
+    rw z (headed-front isNameStart isNamePart start-part s is h i m item tok shows q)
 
 -- ---- the value behind `=` at k
 run-value : (v : ℕ) (s : List ℕ) → ltb v (v + run isPlain s) ≡ isValue (take (run isPlain s) s)
@@ -105,18 +119,27 @@ run-value v (b ∷ s) = go (isPlain b) refl
 pub some-value : (s : List ℕ) (v : ℕ) {e : ℕ} → e ≡ v + run isPlain (drop v s) → ltb v e ≡ isValue (part v e s)
 some-value s v {e} is = let z : e - v ≡ run isPlain (drop v s) = omega arith in rw (z, is) (run-value v (drop v s))
 
+pub plain-word : (i : ℕ) (m : Mode) (item : List ℕ → Item) (s : List ℕ) {a e : ℕ} → e ≡ a + run isPlain (drop a s) → a ≤ length s → {t r : Token} → ((n : List ℕ) → a + length n ≡ e → shownItem i (item n) ≡ t) → r ≡ cond (ltb a e && ends m (drop e s)) t (Bad e)
+    → r ≡ shown i (a + run isPlain (drop a s)) (frontToken m (run isPlain (drop a s)) isValue item (drop a s))
+plain-word i m item s {a} is h shows q = rw (← is) (word i _ m isPlain isValue item s is h (some-value s a is) shows q)
+
 module _ (m : Mode) (i k : ℕ) (s : List ℕ) where
-  pub value-none : k + 1 ≡ length s → Bad ≡ shown i (valueToken m (part i k s) (drop (k + 1) s))
-  unfolding valueToken shown
-  value-none e = rw (drop-of-length-le s {i = k + 1} (omega arith))
+  pub value-none : k + 1 ≡ length s → Bad (k + 1) ≡ shown i (spotPlace Spot.due (k + 1) s) (valueToken m (part i k s) (drop (k + 1) s))
+  unfolding valueToken shown walkPasses
+  value-none e = rw (drop-of-length-le s {i = k + 1} (omega arith), add-zero)
 
-  pub value-quoted : k + 1 < length s → isQuote (getD s (k + 1) 0) ≡ true → {r : Token} → r ≡ shown i (quotedFrom m (part i k s) (getD s (k + 1) 0) (drop (k + 2) s)) → r ≡ shown i (valueToken m (part i k s) (drop (k + 1) s))
+  pub value-quoted : k + 1 < length s → isQuote (getD s (k + 1) 0) ≡ true → {r : Token} → r ≡ shown i (spotPlace (Spot.quoted (getD s (k + 1) 0) false) (k + 2) s) (quotedFrom m (part i k s) (getD s (k + 1) 0) (drop (k + 2) s)) → r ≡ shown i (spotPlace Spot.due (k + 1) s) (valueToken m (part i k s) (drop (k + 1) s))
   unfolding valueToken
-  value-quoted e q h = let z : k + 2 ≡ suc (k + 1) = omega arith in rw (drop-cons s (k + 1) 0 e, q, ← z) h
+  value-quoted e q h =
+      let z : k + 2 ≡ suc (k + 1) = omega arith in
+      let y : spotPlace Spot.due (k + 1) s ≡ spotPlace (Spot.quoted (getD s (k + 1) 0) false) (k + 2) s = rw (drop-cons s (k + 1) 0 e, ways.due-quote (getD s (k + 1) 0) (drop (suc (k + 1)) s) q, z, add-suc, suc-add) in
+      rw (y, drop-cons s (k + 1) 0 e, q, ← z) h
 
-  pub value-plain : k + 1 < length s → isQuote (getD s (k + 1) 0) ≡ false → {r : Token} → r ≡ shown i (plainToken m (part i k s) (drop (k + 1) s)) → r ≡ shown i (valueToken m (part i k s) (drop (k + 1) s))
+  pub value-plain : k + 1 < length s → isQuote (getD s (k + 1) 0) ≡ false → {r : Token} → r ≡ shown i (k + 1 + run isPlain (drop (k + 1) s)) (plainToken m (part i k s) (drop (k + 1) s)) → r ≡ shown i (spotPlace Spot.due (k + 1) s) (valueToken m (part i k s) (drop (k + 1) s))
   unfolding valueToken
-  value-plain e q h = h ∙ (rw (drop-cons s (k + 1) 0 e, q))
+  value-plain e q h =
+      let y : k + 1 + run isPlain (drop (k + 1) s) ≡ spotPlace Spot.due (k + 1) s = ap (λ x. k + 1 + x) (rw (drop-cons s (k + 1) 0 e) (sym (ways.due-plain (getD s (k + 1) 0) (drop (suc (k + 1)) s) q))) in
+      h ∙ (ap (λ x. shown i x (plainToken m (part i k s) (drop (k + 1) s))) y ∙ ap (λ x. shown i (spotPlace Spot.due (k + 1) s) x) (rw (drop-cons s (k + 1) 0 e, q)))
 
   -- a key's bytes end where it ends
   pub key-shown : (v : List ℕ) {e : ℕ} → i ≤ k → k ≤ length s → k + 1 + length v ≡ e → shownItem i (Item.plain (part i k s) v) ≡ Plain i k e
@@ -124,21 +147,41 @@ module _ (m : Mode) (i k : ℕ) (s : List ℕ) where
   key-shown v h l e = rw (part-length i k s h l, e)
 
   -- ---- in quotes
-  pub quoted-none : (q : ℕ) → Nothing ≡ shutAt (k + 2) (shutOf q (drop (k + 2) s) false) → Bad ≡ shown i (quotedFrom m (part i k s) q (drop (k + 2) s))
+  pub quoted-none : (q : ℕ) → k + 2 ≤ length s → Nothing ≡ shutAt (k + 2) (shutOf q (drop (k + 2) s) false) → Bad (length s) ≡ shown i (spotPlace (Spot.quoted q false) (k + 2) s) (quotedFrom m (part i k s) q (drop (k + 2) s))
   unfolding shown
-  quoted-none q e = go (shutOf q (drop (k + 2) s) false) e
+  quoted-none q l e = rw (ways.quote-way q (drop (k + 2) s) false) (go (shutOf q (drop (k + 2) s) false) e)
     where
-      go : (c : Shut) → Nothing ≡ shutAt (k + 2) c → Bad ≡ shown i (quotedToken m (part i k s) q (drop (k + 2) s) c)
-      go Shut.never e = refl
+      go : (c : Shut) → Nothing ≡ shutAt (k + 2) c → Bad (length s) ≡ shown i (k + 2 + ways.shutPlace (drop (k + 2) s) c) (quotedToken m (part i k s) q (drop (k + 2) s) c)
+      go Shut.never e = ap (λ x. Bad x) (omega (arith, length-drop (k + 2) s))
       go (Shut.after n) e = contra true refl (cc)
 
-  pub quoted-some : (q : ℕ) {e : ℕ} {r : Token} → i ≤ k → k + 2 ≤ length s → Closed q s (k + 2) e → r ≡ cond (ends m (drop (e + 1) s)) (Quoted i k (e + 1)) Bad → r ≡ shown i (quotedFrom m (part i k s) q (drop (k + 2) s))
+  pub quoted-some : (q : ℕ) {e : ℕ} {r : Token} → i ≤ k → k + 2 ≤ length s → Closed q s (k + 2) e → r ≡ cond (ends m (drop (e + 1) s)) (Quoted i k (e + 1)) (Bad (e + 1)) → r ≡ shown i (spotPlace (Spot.quoted q false) (k + 2) s) (quotedFrom m (part i k s) q (drop (k + 2) s))
   unfolding shownItem
   quoted-some q {e} h l c p =
       let n = c .count in
       let y : k + 2 + suc n ≡ e + 1 = omega (arith, c .place) in
       let z : k + 3 + n ≡ e + 1 = omega (arith, c .place) in
-      rw (c .found, shown-finish i m true (Item.quoted (part i k s) q (take n (drop (k + 2) s))) (drop (suc n) (drop (k + 2) s)), drop-drop (suc n) (k + 2) s, y, part-length i k s h (omega arith), length-take-le n (drop (k + 2) s) (omega (arith, c .place, c .within, length-drop (k + 2) s)), z) p
+      rw (ways.quote-way q (drop (k + 2) s) false, c .found, shown-finish i (k + 2 + suc n) m true (Item.quoted (part i k s) q (take n (drop (k + 2) s))) (drop (suc n) (drop (k + 2) s)), drop-drop (suc n) (k + 2) s, y, part-length i k s h (omega arith), length-take-le n (drop (k + 2) s) (omega (arith, c .place, c .within, length-drop (k + 2) s)), z) p
+
+-- ---- behind `:`: what is whole is passed whole, and what isn't, no further than in the run of name bytes
+module _ (m : Mode) (i : ℕ) (s : List ℕ) {e : ℕ} (is : e ≡ i + 1 + run isNamePart (drop (i + 1) s)) (h : i + 1 ≤ length s) where
+  tag-place : i + 1 + tagPasses isAlnum (part (i + 1) e s) 0 ≡ spotPlace (Spot.tag 0 true) (i + 1) s
+  tag-place =
+      let z : e - (i + 1) ≡ run isNamePart (drop (i + 1) s) = omega arith in
+      ap (λ x. i + 1 + x) (rw (z, ways.tag-way (drop (i + 1) s) 0 true) (ways.tag-front (drop (i + 1) s) 0))
+
+  pub tag-whole : isLanguage (part (i + 1) e s) ≡ true → {r : Token} → r ≡ cond (ends m (drop e s)) (Tag (i + 1) e) (Bad e) → r ≡ shown i (spotPlace (Spot.tag 0 true) (i + 1) s) (tagToken m (drop (i + 1) s))
+  unfolding isLanguage shownItem
+  tag-whole g q =
+      let l = runs.inside isNamePart s is h in
+      let z : e ≡ spotPlace (Spot.tag 0 true) (i + 1) s = sym (part-length (i + 1) e s (l .0) (l .1)) ∙ (ap (λ x. i + 1 + x) (sym (whole-language isAlnum (part (i + 1) e s) g)) ∙ tag-place) in
+      rw (← z) (word i e m isNamePart isLanguage (λ n. Item.tag n) s is h {good = true} (sym g) {t = Tag (i + 1) e} (λ n k. rw k) q)
+
+  pub tag-stops : isLanguage (part (i + 1) e s) ≡ false → {n : ℕ} → n ≡ tagPasses isAlnum (part (i + 1) e s) 0 → Bad (i + 1 + n) ≡ shown i (spotPlace (Spot.tag 0 true) (i + 1) s) (tagToken m (drop (i + 1) s))
+  unfolding isLanguage shownItem
+  tag-stops g {n} q =
+      let z : i + 1 + n ≡ spotPlace (Spot.tag 0 true) (i + 1) s = ap (λ x. i + 1 + x) q ∙ tag-place in
+      rw (← z) (word i (i + 1 + n) m isNamePart isLanguage (λ n. Item.tag n) s is h {good = false} (sym g) {t = Tag (i + 1) (i + 1 + (e - (i + 1)))} (λ v k. (let x : length v ≡ e - (i + 1) = omega arith in rw x)) refl)
 
 -- ---- behind a name
 pub starts-within : (s : List ℕ) (i : ℕ) → startsEq (drop i s) ≡ true → i < length s
@@ -158,6 +201,15 @@ unfolding afterName
 after-equals m k [] e = contra false e refl
 after-equals m k (b ∷ t) e = rw e
 
+no-word : (t : List ℕ) → firstIs isKeyStart t ≡ false → wordPlace t ≡ 0
+no-word [] k = refl
+no-word (b ∷ t) k = rw k
+
+some-word : (t : List ℕ) → firstIs isKeyStart t ≡ true → wordPlace t ≡ run isNamePart t + ways.afterWord (drop (run isNamePart t) t)
+unfolding run
+some-word [] k = contra false k refl
+some-word (b ∷ t) k = rw (k, key-part b k, ways.word-way t (isLetter b), suc-add)
+
 module _ (m : Mode) (i : ℕ) (s : List ℕ) {e : ℕ} (is : e ≡ i + run isNamePart (drop i s)) where
   rest : drop (run isNamePart (drop i s)) (drop i s) ≡ drop e s
   rest = rw (drop-drop (run isNamePart (drop i s)) i s, ← is)
@@ -169,44 +221,61 @@ module _ (m : Mode) (i : ℕ) (s : List ℕ) {e : ℕ} (is : e ≡ i + run isNam
   unfolding isKey
   is-key = sym (headed-run isKeyStart isNamePart key-part s i is refl)
 
-  pub name-bare : startsEq (drop e s) ≡ false → {r : Token} → r ≡ shown i (frontToken m (run isNamePart (drop i s)) isBareName (λ n. Item.bare n) (drop i s)) → r ≡ shown i (nameToken m (drop i s))
-  name-bare h q = q ∙ (rw (after-bare m (take (run isNamePart (drop i s)) (drop i s)) (drop (run isNamePart (drop i s)) (drop i s)) (rw rest h)))
+  -- the place, where a key begins
+  word-place : firstIs isKeyStart (drop i s) ≡ true → i + wordPlace (drop i s) ≡ e + ways.afterWord (drop e s)
+  word-place k = rw (some-word (drop i s) k, rest) (omega (arith, is))
 
-  pub name-bad : startsEq (drop e s) ≡ true → firstIs isKeyStart (drop i s) ≡ false → Bad ≡ shown i (nameToken m (drop i s))
+  name-bare : (w : ℕ) → startsEq (drop e s) ≡ false → {r : Token} → r ≡ shown i w (frontToken m (run isNamePart (drop i s)) isBareName (λ n. Item.bare n) (drop i s)) → r ≡ shown i w (nameToken m (drop i s))
+  name-bare w h q = q ∙ ap (λ x. shown i w x) (rw (after-bare m (take (run isNamePart (drop i s)) (drop i s)) (drop (run isNamePart (drop i s)) (drop i s)) (rw rest h)))
+
+  bare-place : startsEq (drop e s) ≡ false → firstIs isKeyStart (drop i s) ≡ true → e ≡ i + wordPlace (drop i s)
+  bare-place h k = sym (word-place k ∙ (rw (ways.after-none (drop e s) h, add-zero)))
+
+  pub name-word : startsEq (drop e s) ≡ false → firstIs isKeyStart (drop i s) ≡ true → {r : Token} → r ≡ shown i e (frontToken m (run isNamePart (drop i s)) isBareName (λ n. Item.bare n) (drop i s)) → r ≡ shown i (i + wordPlace (drop i s)) (nameToken m (drop i s))
+  name-word h k q = name-bare e h q ∙ ap (λ x. shown i x (nameToken m (drop i s))) (bare-place h k)
+
+  name-bad : startsEq (drop e s) ≡ true → firstIs isKeyStart (drop i s) ≡ false → (w : ℕ) → Bad w ≡ shown i w (nameToken m (drop i s))
   unfolding shown
-  name-bad h k = rw (front, rest, after-equals m (part i e s) (drop e s) h, is-key, k)
+  name-bad h k w = rw (front, rest, after-equals m (part i e s) (drop e s) h, is-key, k)
 
   -- neither a key nor a bare name begins so
-  pub name-none : firstIs isKeyStart (drop i s) ≡ false → i ≤ length s → Bad ≡ shown i (nameToken m (drop i s))
+  pub name-none : firstIs isKeyStart (drop i s) ≡ false → i ≤ length s → Bad i ≡ shown i (i + wordPlace (drop i s)) (nameToken m (drop i s))
   unfolding isBareName shownItem
-  name-none k h = go (startsEq (drop e s)) refl
+  name-none k h = let z : i + wordPlace (drop i s) ≡ i = ap (λ x. i + x) (no-word (drop i s) k) ∙ add-zero i in rw z (go (startsEq (drop e s)) refl)
     where
-      go : (x : Bool) → startsEq (drop e s) ≡ x → Bad ≡ shown i (nameToken m (drop i s))
-      go true p = name-bad p k
-      go false p = name-bare p (headed-word isLetter isNamePart (λ b h. key-part b (letter-key b h)) s i m (λ n. Item.bare n) is h {good = false} (sym (first-not isLetter isKeyStart letter-key (drop i s) k)) {t = Bare i e} (λ n k. rw k) refl)
+      go : (x : Bool) → startsEq (drop e s) ≡ x → Bad i ≡ shown i i (nameToken m (drop i s))
+      go true p = name-bad p k i
+      go false p = name-bare i p (headed-word isLetter isNamePart (λ b h. key-part b (letter-key b h)) s i i m (λ n. Item.bare n) is h {good = false} (sym (first-not isLetter isKeyStart letter-key (drop i s) k)) {t = Bare i e} (λ n k. rw k) refl)
 
-  pub name-key : startsEq (drop e s) ≡ true → firstIs isKeyStart (drop i s) ≡ true → {r : Token} → r ≡ shown i (valueToken m (part i e s) (drop (e + 1) s)) → r ≡ shown i (nameToken m (drop i s))
-  name-key h k q = rw (front, rest, after-equals m (part i e s) (drop e s) h, is-key, k, drop-drop 1 e s) q
+  pub name-key : startsEq (drop e s) ≡ true → firstIs isKeyStart (drop i s) ≡ true → {r : Token} → r ≡ shown i (spotPlace Spot.due (e + 1) s) (valueToken m (part i e s) (drop (e + 1) s)) → r ≡ shown i (i + wordPlace (drop i s)) (nameToken m (drop i s))
+  name-key h k q =
+      let z : i + wordPlace (drop i s) ≡ spotPlace Spot.due (e + 1) s = word-place k ∙ (rw (ways.after-some (drop e s) h, drop-drop 1 e s) (omega arith)) in
+      rw (z, front, rest, after-equals m (part i e s) (drop e s) h, is-key, k, drop-drop 1 e s) q
 
 -- ---- by the first byte
 module _ (m : Mode) (s : List ℕ) (i : ℕ) where
-  pub past-end : length s ≤ i → Bad ≡ shown i (tokenOf m (drop i s))
-  unfolding tokenOf shown
-  past-end h = rw (drop-of-length-le s h)
+  pub past-end : length s ≤ i → Bad i ≡ tokenAt m s i
+  unfolding tokenOf shown tokenPlace walkPasses
+  past-end h = rw (drop-of-length-le s h, add-zero)
 
   module _ (l : i < length s) where
-    pub at-colon : getD s i 0 ≡ 58 → shown i (tagToken m (drop (i + 1) s)) ≡ shown i (tokenOf m (drop i s))
-    unfolding tokenOf
-    at-colon e = rw (drop-cons s i 0 l, e, add-one i)
+    -- the place, by where the first byte leads
+    led : (v : Spot) → solidTurn (Spot.edge false) (getD s i 0) ≡ Turn.go v → spotPlace v (i + 1) s ≡ i + tokenPlace (drop i s)
+    unfolding tokenPlace walkPasses turnOf
+    led v e = rw (drop-cons s i 0 l, e, add-one i, add-suc, suc-add)
 
-    pub at-hash : getD s i 0 ≡ 35 → shown i (idToken m (drop (i + 1) s)) ≡ shown i (tokenOf m (drop i s))
+    pub at-colon : getD s i 0 ≡ 58 → shown i (spotPlace (Spot.tag 0 true) (i + 1) s) (tagToken m (drop (i + 1) s)) ≡ tokenAt m s i
     unfolding tokenOf
-    at-hash e = rw (drop-cons s i 0 l, e, add-one i)
+    at-colon e = rw (led (Spot.tag 0 true) (rw e), drop-cons s i 0 l, e, add-one i)
 
-    pub at-dot : getD s i 0 ≡ 46 → shown i (classToken m (drop (i + 1) s)) ≡ shown i (tokenOf m (drop i s))
-    unfolding tokenOf
-    at-dot e = rw (drop-cons s i 0 l, e, add-one i)
+    pub at-hash : getD s i 0 ≡ 35 → shown i (spotPlace Spot.sigil (i + 1) s) (idToken m (drop (i + 1) s)) ≡ tokenAt m s i
+    unfolding tokenOf isIn
+    at-hash e = rw (led Spot.sigil (rw e), drop-cons s i 0 l, e, add-one i)
 
-    pub at-other : (getD s i 0 ≡ 58 → ⊥) → (getD s i 0 ≡ 35 → ⊥) → (getD s i 0 ≡ 46 → ⊥) → shown i (nameToken m (drop i s)) ≡ shown i (tokenOf m (drop i s))
-    unfolding tokenOf
+    pub at-dot : getD s i 0 ≡ 46 → shown i (spotPlace Spot.sigil (i + 1) s) (classToken m (drop (i + 1) s)) ≡ tokenAt m s i
+    unfolding tokenOf isIn
+    at-dot e = rw (led Spot.sigil (rw e), drop-cons s i 0 l, e, add-one i)
+
+    pub at-other : (getD s i 0 ≡ 58 → ⊥) → (getD s i 0 ≡ 35 → ⊥) → (getD s i 0 ≡ 46 → ⊥) → shown i (i + wordPlace (drop i s)) (nameToken m (drop i s)) ≡ tokenAt m s i
+    unfolding tokenOf tokenPlace walkPasses turnOf isIn
     at-other p q r = rw (drop-cons s i 0 l, ne-eqb (getD s i 0) 58 p, ne-eqb (getD s i 0) 35 q, ne-eqb (getD s i 0) 46 r)

@@ -1,20 +1,24 @@
-// The token at a place of a text, by ranges of it.
+// The token at a place of a text, by ranges of it, and whether bytes are a payload; where they are none, how far they can be continued to one.
 ghost use mathlib.Core.Path.{_≡_};
-ghost use mathlib.Core.Bool.{false, cond, _&&_};
+ghost use mathlib.Core.Bool.{true, false, cond, _&&_};
 ghost use Prim.Native.Nat.{_+_, _-_, _<_, _≤_};
 ghost use lib.ListN.{length, getD, drop};
 ghost use Rattle.base_lists.specs.Lists.{run};
 ghost use Rattle.base_bytes.specs.Bytes.{isPlain, isBlank};
 ghost use Rattle.base_letters.specs.Classes.{TellsBytes};
-ghost use Rattle.block_grammar.specs.Computed.{ends, shutOf, nameToken, valueToken, tokenOf, readPayload};
-ghost use Rattle.block_tokens.specs.Shown.{accepted, shown, tokenEnd, tokenPaper};
-ghost use Rattle.block_tokens.specs.Inner.{startsEq, tagToken, idToken, classToken, quotedFrom, part, shutAt};
+ghost use Rattle.text_names.specs.Tested.{testedPaper};
+ghost use Rattle.block_grammar.specs.Computed.{ends, shutOf, nameToken, valueToken};
+ghost use Rattle.block_places.specs.Computed.{Spot};
+ghost use Rattle.block_tokens.specs.Shown.{shown, tokenAt, tokenPaper, payloadTested};
+ghost use Rattle.block_tokens.specs.Inner.{startsEq, tagToken, idToken, classToken, quotedFrom, part, shutAt, spotPlace, wordPlace, behindOf};
 use base_bytes::Mode;
 use block_grammar::Place;
+use text_names::Tested;
 
-// A tag, an id or a class by the range of its name; a key by its range, with the place behind its value; a bare name.
+// No token, with the place of the byte that no token can have there, or of the end; a tag, an id or a class by the range of its name;
+// a key by its range, with the place behind its value; a bare name.
 pub enum Token {
-    Bad,
+    Bad(usize),
     Tag(usize, usize),
     Id(usize, usize),
     Class(usize, usize),
@@ -61,18 +65,18 @@ fn plain_end(s: &[u8], i: usize) -> usize
     k
 }
 
-// The token t, if it is good and a token may end before e.
+// The token t, if it is good and a token may end before e; else it goes wrong there.
 fn finish(s: &[u8], e: usize, mode: Mode, good: bool, t: Token) -> Token
-    ensures { λ r. ⌜ r ≡ cond (good && ends mode (drop e (now (s .entry)))) t Token.Bad ⌝ }
+    ensures { λ r. ⌜ r ≡ cond (good && ends mode (drop e (now (s .entry)))) t (Token.Bad e) ⌝ }
 {
     if !good {
-        return Token::Bad;
+        return Token::Bad(e);
     }
     if s.len() <= e {
         return t;
     }
     if !base_bytes::is_blank(mode, s[e]) {
-        return Token::Bad;
+        return Token::Bad(e);
     }
     t
 }
@@ -80,18 +84,20 @@ fn finish(s: &[u8], e: usize, mode: Mode, good: bool, t: Token) -> Token
 // What stands behind the `:` at i. This and the next three are lent the table of classes.
 fn tag_token(table: &[u64; 16], s: &[u8], i: usize, mode: Mode) -> Token
     requires { ⌜ i < length (now s) ⌝ }
-    ensures { λ r. ⌜ (TellsBytes (now (table .entry)) → r ≡ shown i (tagToken mode (drop (i + 1) (now (s .entry))))) ⌝ }
+    ensures { λ r. ⌜ (TellsBytes (now (table .entry)) → r ≡ shown i (spotPlace (Spot.tag 0 true) (i + 1) (now (s .entry))) (tagToken mode (drop (i + 1) (now (s .entry))))) ⌝ }
 {
     let a = i + 1;
     let e = base_letters::run_end(table, base_letters::NAME_PART, s, a);
-    let good = text_names::language_by(table, &s[a..e]);
-    finish(s, e, mode, good, Token::Tag(a, e))
+    match text_names::language_by(table, &s[a..e]) {
+        Tested::Whole => finish(s, e, mode, true, Token::Tag(a, e)),
+        Tested::Stops(n) => Token::Bad(a + n),
+    }
 }
 
 // What stands behind the `#` at i.
 fn id_token(table: &[u64; 16], s: &[u8], i: usize, mode: Mode) -> Token
     requires { ⌜ i < length (now s) ⌝ }
-    ensures { λ r. ⌜ (TellsBytes (now (table .entry)) → r ≡ shown i (idToken mode (drop (i + 1) (now (s .entry))))) ⌝ }
+    ensures { λ r. ⌜ (TellsBytes (now (table .entry)) → r ≡ shown i (spotPlace Spot.sigil (i + 1) (now (s .entry))) (idToken mode (drop (i + 1) (now (s .entry))))) ⌝ }
 {
     let a = i + 1;
     let e = base_letters::front_end(table, base_letters::NAME_START, s, a);
@@ -101,7 +107,7 @@ fn id_token(table: &[u64; 16], s: &[u8], i: usize, mode: Mode) -> Token
 // What stands behind the `.` at i.
 fn class_token(table: &[u64; 16], s: &[u8], i: usize, mode: Mode) -> Token
     requires { ⌜ i < length (now s) ⌝ }
-    ensures { λ r. ⌜ (TellsBytes (now (table .entry)) → r ≡ shown i (classToken mode (drop (i + 1) (now (s .entry))))) ⌝ }
+    ensures { λ r. ⌜ (TellsBytes (now (table .entry)) → r ≡ shown i (spotPlace Spot.sigil (i + 1) (now (s .entry))) (classToken mode (drop (i + 1) (now (s .entry))))) ⌝ }
 {
     let a = i + 1;
     let e = base_letters::front_end(table, base_letters::NAME_START, s, a);
@@ -132,10 +138,10 @@ fn quote_end(s: &[u8], i: usize, q: u8) -> Place
 // The value in quotes behind the key from i to k, whose `=` stands at k.
 fn quoted_token(s: &[u8], i: usize, k: usize, mode: Mode) -> Token
     requires { ⌜ (i ≤ k) × (k + 1 < length (now s)) ⌝ }
-    ensures { λ r. ⌜ r ≡ shown i (quotedFrom mode (part i k (now (s .entry))) (getD (now (s .entry)) (k + 1) 0) (drop (k + 2) (now (s .entry)))) ⌝ }
+    ensures { λ r. ⌜ r ≡ shown i (spotPlace (Spot.quoted (getD (now (s .entry)) (k + 1) 0) false) (k + 2) (now (s .entry))) (quotedFrom mode (part i k (now (s .entry))) (getD (now (s .entry)) (k + 1) 0) (drop (k + 2) (now (s .entry)))) ⌝ }
 {
     match quote_end(s, k + 2, s[k + 1]) {
-        Place::Nothing => Token::Bad,
+        Place::Nothing => Token::Bad(s.len()),
         Place::At(e) => finish(s, e + 1, mode, true, Token::Quoted(i, k, e + 1)),
     }
 }
@@ -143,11 +149,11 @@ fn quoted_token(s: &[u8], i: usize, k: usize, mode: Mode) -> Token
 // The value behind the key from i to k, whose `=` stands at k.
 fn value_token(s: &[u8], i: usize, k: usize, mode: Mode) -> Token
     requires { ⌜ (i ≤ k) × (k < length (now s)) ⌝ }
-    ensures { λ r. ⌜ r ≡ shown i (valueToken mode (part i k (now (s .entry))) (drop (k + 1) (now (s .entry)))) ⌝ }
+    ensures { λ r. ⌜ r ≡ shown i (spotPlace Spot.due (k + 1) (now (s .entry))) (valueToken mode (part i k (now (s .entry))) (drop (k + 1) (now (s .entry)))) ⌝ }
 {
     let v = k + 1;
     if v == s.len() {
-        return Token::Bad;
+        return Token::Bad(v);
     }
     if base_bytes::is_quote(s[v]) {
         return quoted_token(s, i, k, mode);
@@ -169,11 +175,11 @@ fn has_equals(s: &[u8], i: usize) -> bool
 // A key with its value, or a bare name, from i on.
 fn name_token(table: &[u64; 16], s: &[u8], i: usize, mode: Mode) -> Token
     requires { ⌜ i ≤ length (now s) ⌝ }
-    ensures { λ r. ⌜ (TellsBytes (now (table .entry)) → r ≡ shown i (nameToken mode (drop i (now (s .entry))))) ⌝ }
+    ensures { λ r. ⌜ (TellsBytes (now (table .entry)) → r ≡ shown i (i + wordPlace (drop i (now (s .entry)))) (nameToken mode (drop i (now (s .entry))))) ⌝ }
 {
     let e = base_letters::front_end(table, base_letters::KEY_START, s, i);
     if e == i {
-        return Token::Bad;
+        return Token::Bad(i);
     }
     if has_equals(s, e) {
         return value_token(s, i, e, mode);
@@ -184,10 +190,10 @@ fn name_token(table: &[u64; 16], s: &[u8], i: usize, mode: Mode) -> Token
 
 // The token at i, for a caller that reads many and lends the table of classes.
 pub fn token_by(table: &[u64; 16], s: &[u8], i: usize, mode: Mode) -> Token
-    ensures { λ r. ⌜ (TellsBytes (now (table .entry)) → (r ≡ shown i (tokenOf mode (drop i (now (s .entry))))) × (tokenPaper r ≡ tokenPaper (shown i (tokenOf mode (drop i (now (s .entry))))))) ⌝ }
+    ensures { λ r. ⌜ (TellsBytes (now (table .entry)) → (r ≡ tokenAt mode (now (s .entry)) i) × (tokenPaper r ≡ tokenPaper (tokenAt mode (now (s .entry)) i))) ⌝ }
 {
     if s.len() <= i {
-        return Token::Bad;
+        return Token::Bad(i);
     }
     match s[i] {
         b':' => tag_token(table, s, i, mode),
@@ -199,31 +205,38 @@ pub fn token_by(table: &[u64; 16], s: &[u8], i: usize, mode: Mode) -> Token
 
 // The token at i.
 pub fn token_at(s: &[u8], i: usize, mode: Mode) -> Token
-    ensures { λ r. ⌜ r ≡ shown i (tokenOf mode (drop i (now (s .entry)))) ⌝ }
-    ensures { λ r. ⌜ tokenPaper r ≡ tokenPaper (shown i (tokenOf mode (drop i (now (s .entry))))) ⌝ }
+    ensures { λ r. ⌜ r ≡ tokenAt mode (now (s .entry)) i ⌝ }
+    ensures { λ r. ⌜ tokenPaper r ≡ tokenPaper (tokenAt mode (now (s .entry)) i) ⌝ }
 {
     let table = base_letters::CLASS;
     token_by(&table, s, i, mode)
 }
 
-// The place behind a token.
-fn behind_token(t: Token) -> Place
-    ensures { λ r. ⌜ r ≡ tokenEnd t ⌝ }
+// What a loop over tokens does at one: it stops, or goes on behind it.
+enum Behind {
+    Wrong(usize),
+    Next(usize),
+}
+
+// The place behind a token, or where it goes wrong.
+fn behind_token(t: Token) -> Behind
+    ensures { λ r. ⌜ r ≡ behindOf t ⌝ }
 {
     match t {
-        Token::Bad => Place::Nothing,
-        Token::Tag(_, e) => Place::At(e),
-        Token::Id(_, e) => Place::At(e),
-        Token::Class(_, e) => Place::At(e),
-        Token::Plain(_, _, e) => Place::At(e),
-        Token::Quoted(_, _, e) => Place::At(e),
-        Token::Bare(_, e) => Place::At(e),
+        Token::Bad(n) => Behind::Wrong(n),
+        Token::Tag(_, e) => Behind::Next(e),
+        Token::Id(_, e) => Behind::Next(e),
+        Token::Class(_, e) => Behind::Next(e),
+        Token::Plain(_, _, e) => Behind::Next(e),
+        Token::Quoted(_, _, e) => Behind::Next(e),
+        Token::Bare(_, e) => Behind::Next(e),
     }
 }
 
-// Whether s is a payload.
-pub fn payload_ok(s: &[u8], mode: Mode) -> bool
-    ensures { λ r. ⌜ r ≡ accepted (readPayload mode 0 (now (s .entry))) ⌝ }
+// Whether s is a payload, and else how far it can be continued to one.
+pub fn payload_test(s: &[u8], mode: Mode) -> Tested
+    ensures { λ r. ⌜ r ≡ payloadTested mode (now (s .entry)) ⌝ }
+    ensures { λ r. ⌜ testedPaper r ≡ testedPaper (payloadTested mode (now (s .entry))) ⌝ }
 {
     let table = base_letters::CLASS;
     let mut some = false;
@@ -231,11 +244,11 @@ pub fn payload_ok(s: &[u8], mode: Mode) -> bool
     'tokens: loop {
         let a = blank_end(s, i, mode);
         if a == s.len() {
-            break 'tokens some;
+            break 'tokens text_names::whole_or_stops(some, a);
         }
         match behind_token(token_by(&table, s, a, mode)) {
-            Place::Nothing => break 'tokens false,
-            Place::At(e) => {
+            Behind::Wrong(n) => break 'tokens Tested::Stops(n),
+            Behind::Next(e) => {
                 some = true;
                 i = e;
                 continue 'tokens;

@@ -9,7 +9,7 @@ use Rattle.text_checks.specs.Check.{checkOf}
 use Rattle.base_refusals.specs.declared.Outcome.{Outcome}
 use Rattle.set_table.specs.Types.{one}
 use Rattle.set_table.specs.declared.Filled.{Filled}
-use Rattle.read_brace.specs.Brace.{readAttrsAt}
+use Rattle.read_brace.specs.Brace.{readAttrsAt, placeSaid}
 use Rattle.read_brace.specs.declared.Read.{Read}
 use Rattle.read_by_line.specs.Entries.{parseStandalone}
 use Rattle.set_merge.specs.Merge.{mergeOf}
@@ -23,9 +23,9 @@ loose-is zero h = absurd (h refl)
 loose-is (suc n) h = refl
 
 module _ (t buf told : List ℕ) where
-  pub read-said : (x : Read) {b c : Outcome} {h r : ℕ} {o v : List ℕ} → b ≡ checkBy (x .answer) → c ≡ orElse b (checkOf t) → h ≡ placeBehind (x .answer)
-      → Came buf told c (one t) (x .set) (λ k. h ∷ k ∷ []) r o v → Says buf told (braceBy t buf x) r o v
-  read-said x g d y k = rw (← y) (set-said buf told (d ∙ ap (λ j. orElse j (checkOf t)) g) refl k)
+  pub read-said : (x : Read) {b c : Outcome} {h p r : ℕ} {o v : List ℕ} → b ≡ checkBy (x .answer) → c ≡ orElse b (checkOf t) → h ≡ placeBehind (x .answer) → p ≡ placeSaid (x .answer)
+      → Came buf told c (one t) (x .set) (λ k. h ∷ k ∷ p ∷ []) r o v → Says buf told (braceBy t buf x) r o v
+  read-said x g d y z k = rw (← y, ← z) (set-said buf told (d ∙ ap (λ j. orElse j (checkOf t)) g) refl k)
 
   -- what is handed out of a reading is what is handed out of what it is equal to
   pub brace-said : (i : ℕ) {m n : Mode} {x : Read} {r : ℕ} {o v : List ℕ} → m ≡ n → x ≡ readAttrsAt m t i → Says buf told (braceBy t buf x) r o v → Says buf told (braceSaid n t i buf) r o v

@@ -5,11 +5,12 @@ use Rattle.base_bytes.specs.declared.Mode.{Mode}
 use Rattle.base_bytes.specs.declared.Mode.the-variants.{Strict, Loose}
 use Rattle.text_checks.specs.Check.{checkOf}
 use Rattle.base_refusals.specs.Numbers.{Paper, passedPaper}
+use Rattle.base_refusals.specs.declared.Refusal.the-variants.{NoReading}
 use Rattle.base_refusals.specs.declared.Outcome.{Outcome}
 use Rattle.base_refusals.specs.declared.Outcome.the-variants.{Passed, Refused}
 use Rattle.set_table.specs.Types.{one}
 use Rattle.set_table.specs.declared.Attrs.{Attrs}
-use Rattle.read_brace.specs.Brace.{readAttrsAt}
+use Rattle.read_brace.specs.Brace.{readAttrsAt, placeSaid}
 use Rattle.read_brace.specs.declared.Read.{Read}
 use Rattle.read_brace.specs.declared.Answer as answers
 use Rattle.read_brace.specs.declared.Answer.the-variants as answer
@@ -31,15 +32,17 @@ modePaper Loose = passedPaper (1 ∷ [])
 -- why no set was read, and the place behind what was
 abbrev pub checkBy : answers.Answer → Outcome
 checkBy (answer.Refused r) = Refused r
+checkBy (answer.Unread n) = Refused NoReading
 checkBy (answer.Next n) = Passed
 
 abbrev pub placeBehind : answers.Answer → ℕ
 placeBehind (answer.Refused r) = 0
+placeBehind (answer.Unread n) = 0
 placeBehind (answer.Next n) = n
 
--- "Order: at a brace 1, 3, 4, 2, 5, 6, 7", and then the writer's 2, of the whole text, and 10
+-- "Order: at a brace 1, 3, 4, 2, 5, 6, 7", and then the writer's 2, of the whole text, and 10; "Refusal 5 at a brace shall carry a place", which is told last
 abbrev pub braceBy : List ℕ → List ℕ → Read → Said
-braceBy t buf r = setSaid (orElse (checkBy (r .answer)) (checkOf t)) (one t) (r .set) buf (λ n. placeBehind (r .answer) ∷ n ∷ [])
+braceBy t buf r = setSaid (orElse (checkBy (r .answer)) (checkOf t)) (one t) (r .set) buf (λ n. placeBehind (r .answer) ∷ n ∷ placeSaid (r .answer) ∷ [])
 
 unfoldable pub braceSaid : Mode → List ℕ → ℕ → List ℕ → Said
 braceSaid m t i buf = braceBy t buf (readAttrsAt m t i)

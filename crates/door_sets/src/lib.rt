@@ -1,11 +1,13 @@
 // What C and Rust call to read or merge a set within a line: the number of its refusal or 0, and the set as canonical text. The sets are of one text, so the second is lent empty.
 use base_bytes::Mode;
 use base_refusals::Outcome;
+use base_refusals::Refusal;
 use read_brace::Answer;
 use read_brace::Read;
 ghost use mathlib.Core.Path.{_≡_};
 ghost use Rattle.text_checks.specs.Check.{checkOf};
 ghost use Rattle.text_checks.specs.Outcomes.{orElse};
+ghost use Rattle.read_brace.specs.Brace.{placeSaid};
 ghost use Rattle.door_shared.specs.Tells.{toldIn};
 ghost use Rattle.door_sets.specs.Sets.{modeOf, modePaper, checkBy, placeBehind, braceBy, braceSaid, lineSaid, mergeSaid};
 
@@ -26,6 +28,7 @@ fn check_by(a: Answer) -> Outcome
 {
     match a {
         Answer::Refused(r) => Outcome::Refused(r),
+        Answer::Unread(_) => Outcome::Refused(Refusal::NoReading),
         Answer::Next(_) => Outcome::Passed,
     }
 }
@@ -36,7 +39,19 @@ fn next_of(a: Answer) -> usize
 {
     match a {
         Answer::Refused(_) => 0,
+        Answer::Unread(_) => 0,
         Answer::Next(n) => n,
+    }
+}
+
+// The place at which a payload with no reading went wrong.
+fn place_of(a: Answer) -> usize
+    ensures { λ r. ⌜ r ≡ placeSaid a ⌝ }
+{
+    match a {
+        Answer::Refused(_) => 0,
+        Answer::Unread(n) => n,
+        Answer::Next(_) => 0,
     }
 }
 
@@ -50,7 +65,7 @@ fn or_text(c: Outcome, text: &[u8]) -> Outcome
     }
 }
 
-// Hands out what was read at a brace. Tells the place behind it and the length of its canonical text.
+// Hands out what was read at a brace. Tells the place behind it, the length of its canonical text, and where a payload with no reading went wrong.
 pub fn hand_read(text: &[u8], read: Read, out: &mut [u8], told: &mut [usize]) -> u8
     ensures { λ r. ⌜ r ≡ braceBy (now (text .entry)) (now (out .entry)) read .number ⌝ }
     ensures { λ r. ⌜ now (out .exit) ≡ braceBy (now (text .entry)) (now (out .entry)) read .out ⌝ }
@@ -61,10 +76,12 @@ pub fn hand_read(text: &[u8], read: Read, out: &mut [u8], told: &mut [usize]) ->
     let w = door_shared::write_out(c, text, b"", read.set, out);
     door_shared::tell(told, 0, next_of(answer));
     door_shared::tell(told, 1, door_shared::wrote_len(w));
+    door_shared::tell(told, 2, place_of(answer));
     door_shared::wrote_number(w)
 }
 
-// Reads the block at a brace; `loose` is 0 for an inline block. Tells the place behind it and the length of its canonical text.
+// Reads the block at a brace; `loose` is 0 for an inline block. Tells the place behind it, the length of its canonical text, and how many bytes of a
+// payload that is refused by 5 can still be continued to one that isn't.
 #[no_mangle]
 pub extern "C" fn bridlesnow_read_attrs_at(
     text: &[u8],

@@ -50,7 +50,7 @@ use Rattle.proved_sets.proofs.Zeroed.{rest-zero}
 use Rattle.proved_runs.proofs.Bounds as runs
 use Rattle.proved_runs.proofs.RefusedBounds as refused-runs
 use Rattle.proved_runs.proofs.EndingBounds.{sum-of-runs}
-use Rattle.proved_reading.proofs.Meaning.{brace-by-rules, third-dropped, tidy, refused-empty}
+use Rattle.proved_reading.proofs.Meaning.{brace-by-rules, third-dropped, tidy, refused-empty, five-has-place, place-on-boundary}
 use Rattle.proved_reading.proofs.HandedOut.{handed-out-ok, fill-out-ok}
 use Rattle.proved_reading.proofs.ChainsOut.{chain-out-ok}
 use Rattle.proved_reading.proofs.ByLines.{blocks-by-rules, line-by-rules, block-by-rules, run-by-rules}
@@ -69,7 +69,7 @@ use Rattle.proved_origins.proofs.Mirror.{mirrors-as-before}
 use Rattle.proved_origins.proofs.Steady.{empty-range, zero-range}
 use Rattle.proved_origins.proofs.Read.{read-first, read-joined}
 use Rattle.proved_demands.proofs.Eight.{reading-never-eight, merge-never-eight}
-use Rattle.proved_demands.specs.Demands.{Numbered, NoneIfRefused, NoSet, LeftAsStated, ByStandards, ByGrammar, LastCloseDropped, QuickTest, Lookahead, RowsZero, SetsWellFormed, TwoTexts, RepeatedClasses}
+use Rattle.proved_demands.specs.Demands.{Numbered, NoneIfRefused, NoSet, LeftAsStated, ByStandards, ByGrammar, LastCloseDropped, QuickTest, Lookahead, RowsZero, SetsWellFormed, WithPlace, TwoTexts, RepeatedClasses}
 use Rattle.proved_grammar.proofs.Plain.{kept-plain, plain-only}
 use Rattle.proved_grammar.proofs.Once.{once-changes, once-apart, joined-once, repeated-nothing}
 use Rattle.proved_sets.proofs.LineMeant.{line-lists}
@@ -105,7 +105,7 @@ next-empties t cap at = go (tooLong t) (ltb cap maxText) (onlyBlocks (triesAt t 
 pub no-set : NoSet
 no-set =
     record {
-      brace = λ m t i r e. refused-empty m t i e;
+      brace = refused-empty;
       line = line-empty;
       block = block-empty;
       run = λ t n base cap. block-empty t (placeOf t n) (wrappedFound t n base cap);
@@ -216,6 +216,11 @@ sets-well-formed =
       fill = fill-out-ok;
       next = next-set-ok;
     }
+
+-- ---- where the payload went wrong
+
+pub with-place : WithPlace
+with-place = record { always = five-has-place; boundary = place-on-boundary }
 
 -- ---- two texts
 

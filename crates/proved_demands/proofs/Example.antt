@@ -8,7 +8,7 @@ use Rattle.text_utf8.specs.Computed.{leadOf, afterOf, octetsFrom, isUtf8}
 use Rattle.base_refusals.specs.Numbers.{numberOf}
 use Rattle.text_checks.specs.Check.{checkOf}
 use Rattle.text_names.specs.Names.{isKey, isBareName, isName}
-use Rattle.text_names.specs.Computed.{isSize, tagFrom, isTag, isLanguage}
+use Rattle.text_names.specs.Computed.{isSize, tagFrom, isTag, languageBy, isLanguage}
 use Rattle.text_escapes.specs.Unescape.{unescapeFrom, unescape}
 use Rattle.text_lines.specs.Lines.{lines, eol, lineFrom, rangesFrom, ranges}
 use Rattle.text_lines.specs.Trim.{trimEnd, trimStart, trim, trimRange, isBlankLine}
@@ -42,7 +42,7 @@ use Rattle.proved_demands.specs.Cases.{ExampleReported}
 
 pub example : ExampleReported
 unfolding typed isIn all headed run same isBlank isPlain isQuote within isLetter isDigit isAlnum isNamePart isKeyStart isNameStart isSpace isPunct isTail isIndent leadOf
-    afterOf octetsFrom isUtf8 numberOf checkOf isKey isBareName isName isSize tagFrom isTag isLanguage unescapeFrom unescape lines eol lineFrom rangesFrom ranges trimEnd
+    afterOf octetsFrom isUtf8 numberOf checkOf isKey isBareName isName isSize tagFrom isTag languageBy isLanguage unescapeFrom unescape lines eol lineFrom rangesFrom ranges trimEnd
     trimStart trim trimRange isBlankLine tabStop columnAfter indentFrom capped ends finish shutOf valueToken afterName tokenOf text readFrom readPayload isValue scanStep
     closeFrom meaning.pieceRanges pairsOf pairs flatMap marked isMarked escape moreText pairsText canon endsInClose behindFrom behindLast continues turned passed seekStep
     seekFrom lastOpenBrace scanFrom openQuoteAtEnd heldStep holdFrom holdsOpen padded tableOf putRow hasKey withPut withPuts slotEntry meant rowsIn listedOf meaningOf meaning.isClass meaning.isAmong meaning.freshAfter meaning.onceIn meaning.classesOnce byName valued

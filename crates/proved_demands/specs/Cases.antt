@@ -1,8 +1,10 @@
--- The texts of document 01 whose answers are proved byte for byte: the twelve of 'Cases on both sides', and the example of 'The sheet program'.
+-- The texts whose answers are proved byte for byte: of document 01 the twelve of 'Cases on both sides' and the example of 'The sheet program', and those whose payload goes wrong at a place.
 use mathlib.Core.Path.{_≡_}
 use mathlib.Core.List.{List, [], _∷_, _++_, map}
 use Prim.Native.Nat.{ℕ}
 use Prim.Native.String.{String}
+use lib.ListN.{length}
+use Rattle.base_bytes.specs.Bytes.{openBrace, closeBrace}
 use Rattle.base_bytes.specs.declared.Mode.the-variants.{Strict}
 use Rattle.block_grammar.specs.Meaning.{Entry}
 use Rattle.set_canon.specs.Canon.{canon}
@@ -10,8 +12,9 @@ use Rattle.set_table.specs.Types.{one}
 use Rattle.set_table.specs.Rows.{meaningOf}
 use Rattle.read_brace.specs.Brace.{bracePaper, readAttrsAt}
 use Rattle.read_brace.specs.declared.Answer.{Answer}
-use Rattle.read_brace.specs.declared.Answer.the-variants.{Refused, Next}
+use Rattle.read_brace.specs.declared.Answer.the-variants.{Refused, Unread, Next}
 use Rattle.sheet_report.specs.Report.{report}
+use Rattle.proved_places.specs.Places.{placeCases}
 use Rattle.proved_demands.specs.Typed.{typed}
 
 -- ---- "Proved as one list under one claim (strict, at byte 0)"
@@ -60,10 +63,12 @@ theTwelve =
 -- what `read_attrs_at` answers at byte 0 of a text
 abbrev pub behindRead : Answer → ℕ
 behindRead (Refused r) = 0
+behindRead (Unread n) = 0
 behindRead (Next n) = n
 
 abbrev pub canonRead : Answer → List Entry → List ℕ
 canonRead (Refused r) m = []
+canonRead (Unread n) m = []
 canonRead (Next n) m = canon m
 
 abbrev pub answered : List ℕ → Listed
@@ -77,6 +82,17 @@ answered t =
 
 abbrev pub TwelveCases : Type 0
 TwelveCases = map (λ c. answered (c .given)) theTwelve ≡ theTwelve
+
+-- ---- "Refusal 5 at a brace shall carry a place: the length in bytes of the longest prefix of the payload" (document 02)
+
+-- the list of proved_places/specs/Places, each payload between braces behind a front
+abbrev pub PlacesBehind : List ℕ → Type 0
+PlacesBehind front = map (λ c. readAttrsAt Strict (front ++ (openBrace ∷ (c .bytes ++ (closeBrace ∷ [])))) (length front) .answer) placeCases ≡ map (λ c. Unread (c .place)) placeCases
+
+-- strict, at byte 0; and counted from behind the brace, wherever it stands
+pub record PlacesAtBraces : Type 0 where
+  pub first : PlacesBehind []
+  pub later : PlacesBehind (typed "x")
 
 -- ---- "Input:" and "Output:" of 'The sheet program'
 

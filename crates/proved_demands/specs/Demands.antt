@@ -4,7 +4,7 @@
 use mathlib.Core.Path.{_≡_}
 use mathlib.Core.Bool.{true, false, not}
 use mathlib.Core.List.{List, [], map}
-use Prim.Native.Nat.{ℕ, suc, _+_, _≤_}
+use Prim.Native.Nat.{ℕ, suc, _+_, _<_, _≤_}
 use lib.Dec.{eqb}
 use lib.ListN.{length, take, drop}
 use Rattle.base_lists.specs.Lists.{all, run, over}
@@ -46,7 +46,7 @@ use Rattle.set_lent.specs.Lent.{endOf}
 use Rattle.run_lines.specs.Runs.{asIs, runAt, sizes}
 use Rattle.run_refused.specs.Refused.{refusedRun}
 use Rattle.run_endings.specs.Endings.{endsIn}
-use Rattle.read_brace.specs.Brace.{readAttrsAt}
+use Rattle.read_brace.specs.Brace.{bracePaper, readAttrsAt}
 use Rattle.read_brace.specs.declared.Answer.the-variants as answer
 use Rattle.read_blocks.specs.Blocks.{Found, joinedIn, lookaheadOf, joinHolds, textsIn, blockOf}
 use Rattle.read_blocks.specs.ByLine.{blockFound, wrappedFound}
@@ -57,7 +57,7 @@ use Rattle.sheet_report.specs.Parts.{partOf, startOf}
 use Rattle.sheet_report.specs.declared.Told.the-variants as told
 use Rattle.proved_sets.specs.HandedOut.{Zeroed}
 use Rattle.proved_sets.specs.Merged.{MergeByRules, MergeGives}
-use Rattle.proved_reading.specs.AtBraces.{BraceByRules, ThirdDropped, BraceLists}
+use Rattle.proved_reading.specs.AtBraces.{BraceByRules, FiveHasPlace, PlaceOnBoundary, ThirdDropped, BraceLists}
 use Rattle.proved_reading.specs.HandedSets.{FillFormed}
 use Rattle.proved_reading.specs.Alone.{BlocksOverOne}
 use Rattle.proved_reading.specs.ByLines.{BlocksByRules, LineByRules, BlockByRules, RunByRules}
@@ -106,8 +106,8 @@ abbrev pub NoneIfRefused : Outcome → Attrs → Type 0
 NoneIfRefused o a = (r : Refusal) → o ≡ outcome.Refused r → a ≡ emptySet
 
 pub record NoSet : Type 0 where
-  -- `read_attrs_at`
-  pub brace : (m : Mode) (t : List ℕ) (i : ℕ) (r : Refusal) → readAttrsAt m t i .answer ≡ answer.Refused r → readAttrsAt m t i .set ≡ emptySet
+  -- `read_attrs_at`: with every number above 0, be there a place with it or not
+  pub brace : (m : Mode) (t : List ℕ) (i : ℕ) → 0 < bracePaper (readAttrsAt m t i .answer) .number → readAttrsAt m t i .set ≡ emptySet
   -- `parse_standalone_attrs`
   pub line : (t : List ℕ) (n : ℕ) → NoneIfRefused (parseStandalone t n .outcome) (parseStandalone t n .set)
   -- `parse_standalone_attrs_block`, and the same by place: whatever lines were found
@@ -207,6 +207,16 @@ pub record SetsWellFormed : Type 0 where
   pub fill : FillFormed
   -- `next_block`, of a whole sheet
   pub next : NextSetOk
+
+-- ======== Where the payload went wrong (document 02): "Refusal 5 at a brace shall carry a place"
+
+-- which place, the rule `unread` of `Given` says: "the length in bytes of the longest prefix of the payload .. that can still be continued to an acceptable payload in the same mode"
+-- (`brace` of `ByGrammar` above; the places of names, tags and tokens are stated in proved_places/specs)
+pub record WithPlace : Type 0 where
+  -- a 5 without one is never given
+  pub always : (m : Mode) (t : List ℕ) (i : ℕ) → FiveHasPlace m t i
+  -- ".., ending on a character boundary"
+  pub boundary : PlaceOnBoundary
 
 -- ======== Two texts (document 02): "Every range shall say which of two lent texts it belongs to"
 

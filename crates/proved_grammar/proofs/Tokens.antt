@@ -13,7 +13,7 @@ use Rattle.block_grammar.specs.Grammar.{Placed, Reading}
 use Rattle.block_grammar.specs.Computed.{also, oneOrMore, readPayload}
 use Rattle.block_tokens.specs.declared.Token.{Token}
 use Rattle.block_tokens.specs.declared.Token.the-variants.{Bad}
-use Rattle.block_next_token.specs.Walk.{stepAt, setDown, gone, shownPlaced}
+use Rattle.block_next_token.specs.Walk.{isBad, stepAt, setDown, gone, shownPlaced}
 use Rattle.proved_grammar.specs.Tokens.{Gives, OneListGiven, TokenGoesOn, GivesRead, readOn, TokensReadAs, WalkerGives, ReadIsGiven, GivenIsRead, RefusedSticks, StuckIsRefused, PayloadIsGiven}
 use Rattle.block_next_token.specs.declared.Ahead.the-variants.{Found}
 use Rattle.block_next_token.specs.declared.Step.{Step}
@@ -24,16 +24,16 @@ use Rattle.block_next_token.proofs.Steps as steps
 -- ---- a walker gives one list, and ends in one way
 pub one-list : {w : Walker} {ts us : List Token} {g h : Bool} → OneListGiven w ts us g h
 one-list (Gives.over e) (Gives.over f) = record { tokens = refl; ends = refl }
-one-list (Gives.over e) (Gives.stuck f) = contra true refl (ap isEnd (sym e ∙ f))
+one-list (Gives.over e) (Gives.stuck k f) = contra true refl (ap isEnd (sym e ∙ f))
 one-list (Gives.over e) (Gives.more f n q) = contra true refl (ap isEnd (sym e ∙ f))
-one-list (Gives.stuck e) (Gives.over f) = contra true refl (ap isEnd (sym f ∙ e))
-one-list (Gives.stuck e) (Gives.stuck f) = record { tokens = refl; ends = refl }
-one-list (Gives.stuck e) (Gives.more f n q) = absurd (n (ap (found Bad) (sym f ∙ e)))
+one-list (Gives.stuck j e) (Gives.over f) = contra true refl (ap isEnd (sym f ∙ e))
+one-list (Gives.stuck j e) (Gives.stuck k f) = record { tokens = refl; ends = refl }
+one-list (Gives.stuck j e) (Gives.more f n q) = contra true refl (sym (ap (λ z. isBad (found (Bad j) z)) (sym f ∙ e)) ∙ n)
 one-list (Gives.more e n p) (Gives.over f) = contra true refl (ap isEnd (sym f ∙ e))
-one-list (Gives.more e n p) (Gives.stuck f) = absurd (n (ap (found Bad) (sym e ∙ f)))
+one-list (Gives.more e n p) (Gives.stuck k f) = contra true refl (sym (ap (λ z. isBad (found (Bad k) z)) (sym e ∙ f)) ∙ n)
 one-list (Gives.more e n p) (Gives.more f o q) =
     let w = one-list p q in
-    record { tokens = cc (ap (found Bad) (sym e ∙ f), w .tokens); ends = w .ends }
+    record { tokens = cc (ap (found (Bad 0)) (sym e ∙ f), w .tokens); ends = w .ends }
 
 -- ---- with each token it goes on
 pub token-goes-on : TokenGoesOn
@@ -62,7 +62,7 @@ module _ (x : RefT (List ℕ)) (m : Mode) where
   step-given : (at : ℕ) (y : Step) → stepAt m (now x) at ≡ y → Says m (now x) at y
       → ((k : ℕ) → at < k → k ≤ length (now x) → GivesRead (walker k) (readOn x m k)) → GivesRead (walker at) (readOn x m at)
   step-given at y e (Says.none q) later = rw q (Gives.over (ap (λ (z : Step). z .ahead) e))
-  step-given at y e (Says.bad q) later = rw q (record { tokens = []; gives = Gives.stuck (ap (λ (z : Step). z .ahead) e) })
+  step-given at y e (Says.bad {n = n} q) later = rw q (record { tokens = []; gives = Gives.stuck n (ap (λ (z : Step). z .ahead) e) })
   step-given at y e (Says.one p k q ahead within) later = rw q (before at p k e (readOn x m k) (later k ahead within))
 
   given-from : (n at : ℕ) → at ≤ length (now x) → length (now x) < at + n → GivesRead (walker at) (readOn x m at)

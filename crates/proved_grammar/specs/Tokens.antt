@@ -11,15 +11,15 @@ use Rattle.block_grammar.specs.Grammar.{Placed, Reading}
 use Rattle.block_grammar.specs.Computed.{readFrom, readPayload}
 use Rattle.block_tokens.specs.declared.Token.{Token}
 use Rattle.block_tokens.specs.declared.Token.the-variants.{Bad}
-use Rattle.block_next_token.specs.Walk.{stepAt, setDown, aheadOf, gone, shownPlaced}
+use Rattle.block_next_token.specs.Walk.{isBad, stepAt, setDown, aheadOf, gone, shownPlaced}
 use Rattle.block_next_token.specs.declared.Ahead.the-variants.{End, Found}
 use Rattle.block_next_token.specs.declared.Walker.{Walker}
 
 -- the tokens that a walker gives as it goes on, call by call, and whether it then stands at the text's end or before bytes that are no token
 pub data Gives : Walker → List Token → Bool → Type 0 where
   over : {w : Walker} → aheadOf w ≡ End → Gives w [] true
-  stuck : {w : Walker} → aheadOf w ≡ Found Bad → Gives w [] false
-  more : {w : Walker} {t : Token} {ts : List Token} {whole : Bool} → aheadOf w ≡ Found t → (t ≡ Bad → ⊥) → Gives (gone w) ts whole → Gives w (t ∷ ts) whole
+  stuck : {w : Walker} (n : ℕ) → aheadOf w ≡ Found (Bad n) → Gives w [] false
+  more : {w : Walker} {t : Token} {ts : List Token} {whole : Bool} → aheadOf w ≡ Found t → isBad t ≡ false → Gives (gone w) ts whole → Gives w (t ∷ ts) whole
 
 -- the same tokens, and the same end: the text's, or before bytes that are no token
 pub record SameTokens (ts us : List Token) (g h : Bool) : Type 0 where
@@ -37,7 +37,7 @@ pub record GoesOn (m : Mode) (s : List ℕ) (at : ℕ) : Type 0 where
 
 -- with each token it goes on
 abbrev pub TokenGoesOn : Type 0
-TokenGoesOn = (m : Mode) (s : List ℕ) (at : ℕ) → at ≤ length s → (t : Token) → stepAt m s at .ahead ≡ Found t → (t ≡ Bad → ⊥) → GoesOn m s at
+TokenGoesOn = (m : Mode) (s : List ℕ) (at : ℕ) → at ≤ length s → (t : Token) → stepAt m s at .ahead ≡ Found t → isBad t ≡ false → GoesOn m s at
 
 -- it comes to bytes that are no token
 pub record StuckAt (w : Walker) : Type 0 where

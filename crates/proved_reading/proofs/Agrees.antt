@@ -17,6 +17,7 @@ use Rattle.proved_texts.specs.Utf8Rules.{WellFormed}
 use Rattle.proved_texts.proofs.Utf8Grammar as utf8
 use Rattle.proved_texts.proofs.Utf8Boundaries.{before-ascii, after-ascii, part-utf8}
 use Rattle.base_refusals.specs.Numbers.{maxText, numberOf}
+use Rattle.base_refusals.specs.declared.Refusal.the-variants.{NoReading}
 use Rattle.block_grammar.specs.Meaning.{Entry, classesOnce}
 use Rattle.proved_grammar.specs.Meaning.{meaning, listed}
 use Rattle.block_grammar.specs.ComputedClose.{findClose}
@@ -27,7 +28,7 @@ use Rattle.proved_sets.proofs.CanonAgain.{well-formed}
 use Rattle.set_table.specs.Types.{one, maxClasses, maxKeys}
 use Rattle.set_table.specs.Rows.{meaningOf, listedOf}
 use Rattle.read_brace.specs.declared.Answer.{Answer}
-use Rattle.read_brace.specs.declared.Answer.the-variants.{Refused, Next}
+use Rattle.read_brace.specs.declared.Answer.the-variants.{Refused, Unread, Next}
 use Rattle.read_brace.specs.declared.Read.{Read}
 use Rattle.read_brace.specs.Brace.{readAttrsAt}
 use Rattle.proved_reading.specs.Table.{BlockAt, Given}
@@ -43,6 +44,7 @@ use Rattle.proved_sets.proofs.CanonBack.{back}
 -- what was read, by the refusal's number, or by the set's meaning and the place behind the close
 abbrev seenAs : Answer → List Entry → rules.Answer
 seenAs (Refused r) s = rules.Answer.refused (numberOf r)
+seenAs (Unread n) s = rules.Answer.refused (numberOf NoReading)
 seenAs (Next n) s = rules.Answer.read s n
 
 abbrev seen : List ℕ → Read → rules.Answer
@@ -58,7 +60,8 @@ inside t i b = go (leb (length t) i) refl
 
 -- the answers that have nothing to do with sizes, limits and UTF-8: 3, 4, 5 and a set
 abbrev isShared : Answer → Bool
-isShared (Refused r) = isIn (3 ∷ 4 ∷ 5 ∷ []) (numberOf r)
+isShared (Refused r) = isIn (3 ∷ 4 ∷ []) (numberOf r)
+isShared (Unread n) = true
 isShared (Next n) = true
 
 -- what the items list, each class once
@@ -75,7 +78,7 @@ agrees m t i e = go (given m t i) e
     go (Given.none l n) q = ap onceBy (rules.only (AtBrace.none (λ b. n (record { there = inside t i b; brace = b }))))
     go (Given.unclosed l o n) q = ap onceBy (rules.only (AtBrace.unclosed (o .brace) n))
     go (Given.garbled b n) q = contra false q refl
-    go (Given.unread b w n) q = ap onceBy (rules.only (AtBrace.unread (b .opens .brace) (b .closes) n))
+    go (Given.unread b w n p) q = ap onceBy (rules.only (AtBrace.unread (b .opens .brace) (b .closes) n))
     go (Given.classes h l) q = contra false q refl
     go (Given.keys h l k) q = contra false q refl
     go (Given.read h l k) q = ap onceBy (rules.only (AtBrace.read (h .block .opens .brace) (h .block .closes) (h .payload)))

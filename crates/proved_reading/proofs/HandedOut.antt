@@ -21,6 +21,7 @@ use Rattle.block_grammar.specs.Computed.{readFrom, readPayload}
 use Rattle.block_grammar.specs.ComputedClose.{findClose}
 use Rattle.block_grammar.specs.declared.Place.{Place}
 use Rattle.block_grammar.specs.declared.Place.the-variants.{Nothing, At}
+use Rattle.block_places.specs.Computed.{payloadPlace}
 use Rattle.set_table.specs.Types.{Texts, one, emptySet, maxClasses, maxKeys}
 use Rattle.set_table.specs.Rows.{Rows, noRows, withPuts, tableOf}
 use Rattle.set_table.specs.Puts.{putsIn}
@@ -72,7 +73,7 @@ handed-out-ok m t i h = rw (h, empty-text) (go (ltb maxText (length t)) (braceAt
     closed Nothing o c = empty-ok (one t)
     closed (At e) o c = cut (isUtf8 (payloadOf t i e))
       where
-        cut : (b : Bool) → tableOk (one t) (cond b (finished (fills.filledOf m (one t) (suc i) (payloadOf t i e)) (suc e)) (refusingRead NotUtf8) .set) ≡ true
+        cut : (b : Bool) → tableOk (one t) (cond b (finished (fills.filledOf m (one t) (suc i) (payloadOf t i e)) (suc e) (payloadPlace m (payloadOf t i e))) (refusingRead NotUtf8) .set) ≡ true
         cut true = filled-ok (one t) (readPayload m (suc i) (payloadOf t i e)) (payload e o c)
         cut false = empty-ok (one t)
 

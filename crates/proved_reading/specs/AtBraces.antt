@@ -7,7 +7,8 @@ use lib.ListN.{length}
 use Rattle.base_bytes.specs.declared.Mode.{Mode}
 use Rattle.base_bytes.specs.declared.Mode.the-variants.{Strict}
 use Rattle.base_refusals.specs.Numbers.{maxText, tooLong}
-use Rattle.base_refusals.specs.declared.Refusal.the-variants.{TextTooLong, NothingThere}
+use Rattle.base_refusals.specs.declared.Refusal.the-variants.{TextTooLong, NothingThere, NoReading}
+use Rattle.text_utf8.specs.Utf8.{isBoundary}
 use Rattle.text_utf8.specs.Computed.{isUtf8}
 use Rattle.block_grammar.specs.Grammar.{Placed}
 use Rattle.block_grammar.specs.Meaning.{Entry}
@@ -17,11 +18,11 @@ use Rattle.proved_sets.specs.Formed.{wf}
 use Rattle.set_table.specs.Types.{one}
 use Rattle.set_table.specs.Rows.{listedOf, meaningOf}
 use Rattle.read_brace.specs.declared.Answer.{Answer}
-use Rattle.read_brace.specs.declared.Answer.the-variants.{Next}
+use Rattle.read_brace.specs.declared.Answer.the-variants.{Refused, Unread, Next}
 use Rattle.read_brace.specs.declared.Read.{Read}
 use Rattle.read_brace.specs.Brace.{bracePaper, refusingRead, braceAt, readTo, readAttrsAt}
 use Rattle.proved_grammar.specs.Close.{lastClose, searchWith}
-use Rattle.proved_reading.specs.Table.{Reads, Given}
+use Rattle.proved_reading.specs.Table.{BlockAt, Reads, Given}
 use Rattle.proved_sets.specs.Limits.{Exactly}
 
 -- what the set means that reading at i hands out
@@ -45,6 +46,15 @@ BraceByRules = (m : Mode) (t : List ℕ) (i : ℕ) → Exactly (Given m t i) (re
 -- "Order: at a brace .., 6, 7": no number above comes
 abbrev pub UpToSeven : Mode → List ℕ → ℕ → Type 0
 UpToSeven m t i = bracePaper (readAttrsAt m t i .answer) .number ≤ 7
+
+-- ---- "Refusal 5 at a brace shall carry a place": none is given without one
+
+abbrev pub FiveHasPlace : Mode → List ℕ → ℕ → Type 0
+FiveHasPlace m t i = readAttrsAt m t i .answer ≡ Refused NoReading → ⊥
+
+-- ".., ending on a character boundary": it is one of the payload, so among the prefixes that end on one it is the longest too
+abbrev pub PlaceOnBoundary : Type 0
+PlaceOnBoundary = (m : Mode) (t : List ℕ) (i e n : ℕ) (b : BlockAt t i e) → readAttrsAt m t i .answer ≡ Unread n → isBoundary (b .closes .inside) n ≡ true
 
 -- ---- "Reading back is `read_attrs_at` at byte 0"
 

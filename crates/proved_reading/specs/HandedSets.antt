@@ -1,5 +1,5 @@
 -- The sets that reading hands out: at a brace, of a line, of a block and of a run.
-use Prim.Native.Nat.{ℕ, _≤_}
+use Prim.Native.Nat.{ℕ, _<_, _≤_}
 use mathlib.Core.Path.{_≡_}
 use mathlib.Core.Bool.{true}
 use mathlib.Core.List.{List}
@@ -17,16 +17,16 @@ use Rattle.set_table.specs.declared.Attrs.{Attrs}
 use Rattle.set_fill.specs.Fill.{fillAt}
 use Rattle.set_wellformed.specs.WellFormed.{wellFormed}
 use Rattle.proved_sets.specs.HandedOut.{Zeroed}
-use Rattle.read_brace.specs.declared.Answer.the-variants.{Refused}
-use Rattle.read_brace.specs.Brace.{readAttrsAt}
+use Rattle.read_brace.specs.Brace.{bracePaper, readAttrsAt}
 use Rattle.read_blocks.specs.Blocks.{Found, found, wrapped, textsIn, blockOf}
 use Rattle.read_blocks.specs.ByLine.{blockFound, wrappedFound}
 use Rattle.read_by_line.specs.Entries.{parseStandalone}
 
 -- ---- "a refusal has its number, hands out no set" (demand 1): its set is the empty one
 
-abbrev pub BraceRefused : Mode → List ℕ → ℕ → Refusal → Type 0
-BraceRefused m t i r = readAttrsAt m t i .answer ≡ Refused r → readAttrsAt m t i .set ≡ emptySet
+-- at a brace, whatever the number is, with a place or without
+abbrev pub BraceRefused : Mode → List ℕ → ℕ → Type 0
+BraceRefused m t i = 0 < bracePaper (readAttrsAt m t i .answer) .number → readAttrsAt m t i .set ≡ emptySet
 
 abbrev pub LineRefused : List ℕ → ℕ → Refusal → Type 0
 LineRefused t n r = parseStandalone t n .outcome ≡ outcome.Refused r → parseStandalone t n .set ≡ emptySet

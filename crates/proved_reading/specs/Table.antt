@@ -8,15 +8,17 @@ use Rattle.base_bytes.specs.declared.Mode.{Mode}
 use Rattle.base_bytes.specs.Bytes.{openBrace}
 use Rattle.proved_texts.specs.Utf8Rules.{WellFormed}
 use Rattle.base_refusals.specs.Numbers.{maxText}
-use Rattle.base_refusals.specs.declared.Refusal.the-variants.{TextTooLong, NotUtf8, NothingThere, NoClose, NoReading, TooManyClasses, TooManyKeys}
+use Rattle.base_refusals.specs.declared.Refusal.the-variants.{TextTooLong, NotUtf8, NothingThere, NoClose, TooManyClasses, TooManyKeys}
+use Rattle.text_names.specs.Longest.{Longest}
 use Rattle.block_grammar.specs.Grammar.{Placed, Payload}
 use Rattle.block_grammar.specs.Meaning.{Entry}
 use Rattle.proved_grammar.specs.Meaning.{entriesOf, meaning}
 use Rattle.block_grammar.specs.Close.{Closes}
+use Rattle.block_places.specs.Rules.{HasReading}
 use Rattle.set_table.specs.Types.{maxClasses, maxKeys}
 use Rattle.proved_sets.specs.Limits.{classCount, keyCount}
 use Rattle.read_brace.specs.declared.Answer.{Answer}
-use Rattle.read_brace.specs.declared.Answer.the-variants.{Refused, Next}
+use Rattle.read_brace.specs.declared.Answer.the-variants.{Refused, Unread, Next}
 
 -- a `{` at the place
 pub record BraceAt (t : List ℕ) (i : ℕ) : Type 0 where
@@ -45,8 +47,9 @@ pub data Given (m : Mode) (t : List ℕ) (i : ℕ) : Answer → List Entry → T
   unclosed : length t ≤ maxText → BraceAt t i → ((e : ℕ) → Closes (drop (suc i) t) (suc i) e → ⊥) → Given m t i (Refused NoClose) []
   -- 2: "not UTF-8: the payload at a brace"
   garbled : {e : ℕ} (b : BlockAt t i e) → (WellFormed (b .closes .inside) → ⊥) → Given m t i (Refused NotUtf8) []
-  -- 5: "at a brace, no reading of the payload exists"
-  unread : {e : ℕ} (b : BlockAt t i e) → WellFormed (b .closes .inside) → ((is : List Placed) → Payload m (suc i) (b .closes .inside) is → ⊥) → Given m t i (Refused NoReading) []
+  -- 5: "at a brace, no reading of the payload exists", with "the length in bytes of the longest prefix of the payload .. that can still be continued to an acceptable payload in the same mode"
+  unread : {e n : ℕ} (b : BlockAt t i e) → WellFormed (b .closes .inside) → ((is : List Placed) → Payload m (suc i) (b .closes .inside) is → ⊥)
+      → Longest (HasReading m) (b .closes .inside) n → Given m t i (Unread n) []
   -- 6: "grammatical, more than 64 classes"
   classes : {e : ℕ} {is : List Placed} → Reads m t i e is → maxClasses < classCount (entriesOf is) → Given m t i (Refused TooManyClasses) []
   -- 7: "grammatical, more than 64 distinct keys"

@@ -122,7 +122,7 @@ module _ (m : Mode) (t : List ℕ) (i : ℕ) where
   abbrev Answers : Answer → List Entry → Read → Type 0
   Answers a s r = (r .answer ≡ a) × (meaningOf (one t) (r .set) ≡ s)
 
-  unread-tag : ((e : ℕ) (is : List Placed) → Reads m t i e is → ⊥) → tagAt m t i ≡ true
+  pub unread-tag : ((e : ℕ) (is : List Placed) → Reads m t i e is → ⊥) → tagAt m t i ≡ true
   unread-tag n = go (readingAt m t i) refl
     where
       go : (r : Reading) → readingAt m t i ≡ r → tagAt m t i ≡ true

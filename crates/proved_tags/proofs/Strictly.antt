@@ -3,12 +3,13 @@
 use mathlib.Core.Path.{_≡_, refl, sym, _∙_, ap, subst}
 use mathlib.Core.Bool.{Bool, true, false, cond}
 use mathlib.Core.List.{List, []}
-use Prim.Native.Nat.{ℕ}
+use Prim.Native.Nat.{ℕ, _<_}
+use native.Mathlib.Omega.{arith}
 use Rattle.base_lists.proofs.More.{contra}
 use Rattle.base_bytes.specs.declared.Mode.{Mode}
 use Rattle.base_bytes.specs.declared.Mode.the-variants.{Strict}
-use Rattle.base_refusals.specs.declared.Refusal.{Refusal}
-use Rattle.base_refusals.specs.declared.Refusal.the-variants.{BadTag}
+use Rattle.base_refusals.specs.Numbers.{numberOf}
+use Rattle.base_refusals.specs.declared.Refusal.the-variants.{NoReading, BadTag}
 use Rattle.base_refusals.specs.declared.Outcome.the-variants as outcome
 use Rattle.base_lists.specs.Lists.{same}
 use Rattle.text_langtags.specs.Grammar.{Allowed}
@@ -18,11 +19,11 @@ use Rattle.set_table.specs.Types.{Texts, one, emptySet}
 use Rattle.set_table.specs.Rows.{meaningOf}
 use Rattle.set_table.specs.declared.Attrs.{Attrs}
 use Rattle.set_wellformed.specs.WellFormed.{wellFormed}
-use Rattle.read_brace.specs.Brace.{refusingRead, readAttrsAt}
-use Rattle.read_brace.specs.declared.Answer.the-variants.{Refused, Next}
+use Rattle.read_brace.specs.Brace.{bracePaper, refusingRead, readAttrsAt}
+use Rattle.read_brace.specs.declared.Answer.the-variants.{Refused, Unread, Next}
 use Rattle.proved_sets.specs.Merged.{mergeMeaning}
 use Rattle.proved_sets.proofs.MergeMeans.{merge-gives}
-use Rattle.proved_reading.proofs.Meaning.{read-means, refused-empty}
+use Rattle.proved_reading.proofs.Meaning.{read-means, none-reads, refused-empty, five-has-place}
 use Rattle.proved_reading.proofs.Agrees.{read-well}
 use Rattle.proved_reading.proofs.HandedOut.{handed-out-ok}
 use Rattle.proved_demands.specs.Demands.{canonOf, CanonFits}
@@ -31,9 +32,9 @@ use Rattle.read_tags.specs.Tagged.{tagAt, readTagged}
 use Rattle.read_tags.specs.declared.Tags.{Tags}
 use Rattle.read_tags.specs.declared.Tags.the-variants.{Any, WellFormed}
 use Rattle.proved_tags.specs.Rules.{LangAllowed}
-use Rattle.proved_tags.specs.Strictly.{strictSet, ReadStrictly, AnyIsOrdinary, Ordinary, StrictIsOrdinary, StrictRefused, StrictFits, StrictTextsEqual, StrictReadsBack, BackStrictly, CanonBackStrictly, StrictBackStrictly, MergePasses, StrictMergePasses}
+use Rattle.proved_tags.specs.Strictly.{strictSet, ReadStrictly, AnyIsOrdinary, Ordinary, StrictIsOrdinary, StrictRefused, StrictPlaces, StrictFits, StrictTextsEqual, StrictReadsBack, BackStrictly, CanonBackStrictly, StrictBackStrictly, MergePasses, StrictMergePasses}
 use Rattle.proved_tags.proofs.Langs.{passes-allowed, allowed-passes}
-use Rattle.proved_tags.proofs.Rules.{strict-passes, reads-tag}
+use Rattle.proved_tags.proofs.Rules.{strict-passes, reads-tag, unread-tag}
 
 pub any-is-ordinary : AnyIsOrdinary
 unfolding readTagged
@@ -58,12 +59,30 @@ strict-is-ordinary m t i n e =
 
 pub strict-refused : StrictRefused
 unfolding readTagged
-strict-refused Any m t i r e = refused-empty m t i e
-strict-refused WellFormed m t i r e = go (tagAt m t i) e
+strict-refused Any m t i e = refused-empty m t i e
+strict-refused WellFormed m t i e = go (tagAt m t i) e
   where
-    go : (b : Bool) → cond b (readAttrsAt m t i) (refusingRead BadTag) .answer ≡ Refused r → cond b (readAttrsAt m t i) (refusingRead BadTag) .set ≡ emptySet
+    go : (b : Bool) → 0 < bracePaper (cond b (readAttrsAt m t i) (refusingRead BadTag) .answer) .number → cond b (readAttrsAt m t i) (refusingRead BadTag) .set ≡ emptySet
     go true e = refused-empty m t i e
     go false e = refl
+
+-- ---- 5 and its place
+
+pub strict-places : (m : Mode) (t : List ℕ) (i : ℕ) → StrictPlaces m t i
+unfolding readTagged numberOf
+strict-places m t i =
+    record {
+      always = bare (tagAt m t i);
+      place = λ n. (was (tagAt m t i), λ e. ap (λ r. r .answer) (strict-passes m t i (unread-tag m t i (λ k is. none-reads e))) ∙ e);
+    }
+  where
+    bare : (b : Bool) → cond b (readAttrsAt m t i) (refusingRead BadTag) .answer ≡ Refused NoReading → ⊥
+    bare true e = five-has-place m t i e
+    bare false e = absurd (omega (arith, ap (λ a. bracePaper a .number) e))
+
+    was : (b : Bool) {n : ℕ} → cond b (readAttrsAt m t i) (refusingRead BadTag) .answer ≡ Unread n → readAttrsAt m t i .answer ≡ Unread n
+    was true e = e
+    was false e = contra true refl (cc)
 
 -- ---- demand 3
 

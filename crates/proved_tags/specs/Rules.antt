@@ -23,7 +23,7 @@ abbrev pub LangAllowed : List Entry → Type 0
 LangAllowed s = (v : List ℕ) → lookup langName s ≡ v ∷ [] → Allowed v
 
 pub data StrictGiven (m : Mode) (t : List ℕ) (i : ℕ) : Answer → List Entry → Type 0 where
-  -- 1, 3, 4, 2, 5: where the grammar reads no payload, as in ordinary reading
+  -- 1, 3, 4, 2, and 5 with its place: where the grammar reads no payload, as in ordinary reading
   unread : {a : Answer} {s : List Entry} → ((e : ℕ) (is : List Placed) → Reads m t i e is → ⊥) → Given m t i a s → StrictGiven m t i a s
   -- 13: "checks every `lang` value of the finished set against well-formedness in RFC 5646 section 2.1"
   malformed : {e : ℕ} {is : List Placed} {v : List ℕ} → Reads m t i e is → lookup langName (meaning is) ≡ v ∷ [] → (Allowed v → ⊥) → StrictGiven m t i (Refused BadTag) []

@@ -2,12 +2,12 @@
 use mathlib.Core.Path.{_≡_}
 use mathlib.Core.Bool.{true}
 use mathlib.Core.List.{List}
-use Prim.Native.Nat.{ℕ, _≤_}
+use Prim.Native.Nat.{ℕ, _<_, _≤_}
 use lib.ListN.{length}
 use Rattle.base_bytes.specs.declared.Mode.{Mode}
 use Rattle.base_bytes.specs.declared.Mode.the-variants.{Strict}
 use Rattle.base_refusals.specs.Numbers.{maxText}
-use Rattle.base_refusals.specs.declared.Refusal.{Refusal}
+use Rattle.base_refusals.specs.declared.Refusal.the-variants.{NoReading}
 use Rattle.base_refusals.specs.declared.Outcome.the-variants as outcome
 use Rattle.text_checks.specs.Check.{isText}
 use Rattle.block_grammar.specs.Meaning.{Entry}
@@ -15,8 +15,8 @@ use Rattle.set_table.specs.Types.{Texts, one, emptySet}
 use Rattle.set_table.specs.Rows.{meaningOf}
 use Rattle.set_table.specs.declared.Attrs.{Attrs}
 use Rattle.set_merge.specs.Merge.{mergeOf}
-use Rattle.read_brace.specs.Brace.{readAttrsAt}
-use Rattle.read_brace.specs.declared.Answer.the-variants.{Refused, Next}
+use Rattle.read_brace.specs.Brace.{bracePaper, readAttrsAt}
+use Rattle.read_brace.specs.declared.Answer.the-variants.{Refused, Unread, Next}
 use Rattle.proved_sets.specs.Merged.{mergeMeaning}
 use Rattle.proved_demands.specs.Demands.{Iff, canonOf, CanonFits, ReadsBack}
 use Rattle.read_tags.specs.Tagged.{readTagged}
@@ -46,7 +46,12 @@ StrictIsOrdinary = (m : Mode) (t : List ℕ) (i n : ℕ) → ReadStrictly m t i 
 
 -- "a refusal .. hands out no set" (demand 1)
 abbrev pub StrictRefused : Type 0
-StrictRefused = (g : Tags) (m : Mode) (t : List ℕ) (i : ℕ) (r : Refusal) → readTagged g m t i .answer ≡ Refused r → readTagged g m t i .set ≡ emptySet
+StrictRefused = (g : Tags) (m : Mode) (t : List ℕ) (i : ℕ) → 0 < bracePaper (readTagged g m t i .answer) .number → readTagged g m t i .set ≡ emptySet
+
+-- "Refusal 5 at a brace shall carry a place": none is given strictly without one, and 13 comes "after 5", so it is given exactly where the ordinary reading gives it
+pub record StrictPlaces (m : Mode) (t : List ℕ) (i : ℕ) : Type 0 where
+  pub always : readTagged WellFormed m t i .answer ≡ Refused NoReading → ⊥
+  pub place : (n : ℕ) → Iff (readTagged WellFormed m t i .answer ≡ Unread n) (readAttrsAt m t i .answer ≡ Unread n)
 
 -- "Demand 3 covers strictly read sets too, if the whole text gives neither 1 nor 2, being over well-formed ones.": such a set is of those that demand 3
 -- speaks of, if its canonical text fits

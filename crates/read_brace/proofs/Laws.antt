@@ -9,6 +9,7 @@ use native.Mathlib.Omega.{arith}
 use borrow.Author.Tests.{lt-ltb, le-ltb, ltb-true}
 use lib.Dec.{ltb, eqb}
 use lib.ListN.{length, getD, take, drop}
+use lib.Seq.{slice}
 use Rattle.base_lists.proofs.Scan.{both}
 use Rattle.base_lists.proofs.Parts.{slice-part}
 use Rattle.base_bytes.specs.declared.Mode.{Mode}
@@ -23,6 +24,8 @@ use Rattle.set_table.specs.Types.{one}
 use Rattle.set_fill.specs.Fill as fills
 use Rattle.set_table.specs.declared.Filled.{Filled}
 use Rattle.text_lines.specs.declared.Range.{Range}
+use Rattle.block_places.specs.Computed.{payloadPlace}
+use Rattle.read_brace.proofs.Places.{isFive, said-only}
 use Rattle.read_brace.specs.Brace.{refusingRead, braceAt, payloadOf, finished, readTo, atBrace, emptyFront, partTo, payloadAt}
 
 -- ---- 1, 3, and then the close: one law for whatever is answered
@@ -65,11 +68,18 @@ module _ (m : Mode) (t : List ℕ) (i e : ℕ) where
   pub not-utf8 : isUtf8 (take (e - (i + 1)) (drop (i + 1) t)) ≡ false → refusingRead NotUtf8 ≡ readTo m t i (At e)
   not-utf8 u = rw (rw part at u)
 
-  pub filled : isUtf8 (take (e - (i + 1)) (drop (i + 1) t)) ≡ true → length t ≤ maxText → {f : Filled} → f ≡ fills.fillAt m t (i + 1) e → finished f (e + 1) ≡ readTo m t i (At e)
+  -- what is filled of a text that isn't too long
+  pub filled-of : length t ≤ maxText → {f : Filled} → f ≡ fills.fillAt m t (i + 1) e → f ≡ fills.filledOf m (one t) (i + 1) (slice (i + 1) e t)
   unfolding fills.fillAt
-  filled u h {f} k =
-      let z : f ≡ fills.filledOf m (one t) (suc i) (payloadOf t i e) = k ∙ (rw (le-ltb maxText (length t) h, add-one i)) in
-      rw (rw part at u, z, add-one e)
+  filled-of h k = k ∙ (rw (le-ltb maxText (length t) h))
+
+  pub filled : isUtf8 (take (e - (i + 1)) (drop (i + 1) t)) ≡ true → {f : Filled} → f ≡ fills.filledOf m (one t) (i + 1) (slice (i + 1) e t)
+      → {n : ℕ} → n ≡ cond (isFive (f .outcome)) (payloadPlace m (slice (i + 1) e t)) 0 → finished f (e + 1) n ≡ readTo m t i (At e)
+  unfolding finished
+  filled u {f} k {n} g =
+      let z : f ≡ fills.filledOf m (one t) (suc i) (payloadOf t i e) = k ∙ rw (add-one i) in
+      let w : n ≡ cond (isFive (f .outcome)) (payloadPlace m (payloadOf t i e)) 0 = g ∙ rw (add-one i) in
+      rw (rw part at u, w, said-only, z, add-one e)
 
 -- ---- the range that is handed back lies in the text
 pub record Inside (t : List ℕ) (r : Range) : Type 0 where

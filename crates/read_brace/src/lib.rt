@@ -6,20 +6,28 @@ use block_grammar::Place;
 use set_table::Attrs;
 use set_table::Filled;
 use text_lines::Range;
+use text_names::Tested;
 ghost use mathlib.Core.Path.{_≡_};
 ghost use Prim.Native.Nat.{suc, _+_, _≤_, _<_};
 ghost use lib.ListN.{length};
 ghost use lib.Seq.{slice};
+ghost use lib.Dec.{eqb};
+ghost use mathlib.Core.Bool.{cond};
 ghost use Rattle.base_bytes.specs.declared.Mode.the-variants.{Strict};
-ghost use Rattle.base_refusals.specs.Numbers.{maxText};
+ghost use Rattle.base_refusals.specs.Numbers.{maxText, numberOf, outcomeNo};
+ghost use Rattle.base_refusals.specs.declared.Refusal.the-variants.{NoReading};
 ghost use Rattle.base_refusals.specs.Orders.{onPaper};
 ghost use Rattle.block_grammar.specs.ComputedClose.{findClose};
 ghost use Rattle.block_grammar.specs.declared.Place.the-variants.{At};
-ghost use Rattle.read_brace.specs.Brace.{bracePaper, refusingRead, braceAt, answerAt, finished, readTo, readAttrsAt, braceOrder, behindClose, partTo, payloadAt};
+ghost use Rattle.block_places.specs.Computed.{payloadPlace};
+ghost use Rattle.set_table.specs.Types.{one};
+ghost use Rattle.set_fill.specs.Fill.{filledOf};
+ghost use Rattle.read_brace.specs.Brace.{bracePaper, placeSaid, placeAt, refusingRead, braceAt, answerAt, finished, readTo, readAttrsAt, braceOrder, behindClose, partTo, payloadAt};
 
-// A refusal, or the place behind the block.
+// A refusal, that the payload has no reading and how far it could still be continued to one that has, or the place behind the block.
 pub enum Answer {
     Refused(Refusal),
+    Unread(usize),
     Next(usize),
 }
 
@@ -51,24 +59,50 @@ fn opens_at(text: &[u8], place: usize) -> bool
     text[place] == b'{'
 }
 
-// What filling comes to, with the place behind the block.
-fn answer_of(outcome: Outcome, next: usize) -> Answer
-    ensures { λ r. ⌜ r ≡ answerAt outcome next ⌝ }
+// Whether an outcome is the refusal that says a place.
+fn says_place(outcome: Outcome) -> bool
+    ensures { λ r. ⌜ r ≡ eqb (outcomeNo outcome) (numberOf NoReading) ⌝ }
+{
+    base_refusals::outcome_number(outcome) == base_refusals::number(Refusal::NoReading)
+}
+
+// Where the payload between two places went wrong. A payload that has a reading isn't walked again.
+fn place_of(text: &[u8], from: usize, end: usize, mode: Mode, outcome: Outcome) -> usize
+    requires { ⌜ (from ≤ end) × ((end ≤ length (now text)) × (outcome ≡ filledOf mode (one (now text)) from (slice from end (now text)) .outcome)) ⌝ }
+    ensures { λ r. ⌜ r ≡ cond (eqb (outcomeNo outcome) (numberOf NoReading)) (payloadPlace mode (slice from end (now (text .entry)))) 0 ⌝ }
+{
+    if !says_place(outcome) {
+        return 0;
+    }
+    match block_tokens::payload_test(&text[from..end], mode) {
+        Tested::Whole => 0,
+        Tested::Stops(n) => n,
+    }
+}
+
+// What filling comes to, with the place behind the block, and the one at which it went wrong.
+fn answer_of(outcome: Outcome, next: usize, n: usize) -> Answer
+    ensures { λ r. ⌜ r ≡ answerAt outcome next n ⌝ }
 {
     match outcome {
-        Outcome::Refused(r) => Answer::Refused(r),
         Outcome::Passed => Answer::Next(next),
+        Outcome::Refused(r) => {
+            if base_refusals::number(r) == base_refusals::number(Refusal::NoReading) {
+                return Answer::Unread(n);
+            }
+            Answer::Refused(r)
+        }
     }
 }
 
 // The set is handed on as it was filled: a refusal's is the empty one already.
-fn handed_out(filled: Filled, next: usize) -> Read
-    ensures { λ r. ⌜ r ≡ finished filled next ⌝ }
+fn handed_out(filled: Filled, next: usize, n: usize) -> Read
+    ensures { λ r. ⌜ r ≡ finished filled next n ⌝ }
 {
     let outcome = filled.outcome;
     let set = filled.set;
     Read {
-        answer: answer_of(outcome, next),
+        answer: answer_of(outcome, next, n),
         set,
     }
 }
@@ -81,13 +115,17 @@ fn read_payload(text: &[u8], place: usize, end: usize, mode: Mode) -> Read
     if !text_utf8::is_utf8(&text[place + 1..end]) {
         return refused(Refusal::NotUtf8);
     }
-    handed_out(set_fill::fill(text, place + 1, end, mode), end + 1)
+    let filled = set_fill::fill(text, place + 1, end, mode);
+    let outcome = filled.outcome;
+    let n = place_of(text, place + 1, end, mode, outcome);
+    handed_out(filled, end + 1, n)
 }
 
 // The block whose brace stands at the place, in either mode.
 pub fn read_attrs_at_with(text: &[u8], place: usize, mode: Mode) -> Read
     ensures { λ r. ⌜ r ≡ readAttrsAt mode (now (text .entry)) place ⌝ }
     ensures { λ r. ⌜ bracePaper (r .answer) ≡ onPaper (braceOrder mode (now (text .entry)) place) (behindClose (findClose (now (text .entry)) (suc place))) ⌝ }
+    ensures { λ r. ⌜ placeSaid (r .answer) ≡ placeAt mode (now (text .entry)) place ⌝ }
 {
     if base_refusals::MAX_TEXT < text.len() {
         return refused(Refusal::TextTooLong);
@@ -105,6 +143,7 @@ pub fn read_attrs_at_with(text: &[u8], place: usize, mode: Mode) -> Read
 pub fn read_attrs_at(text: &[u8], place: usize) -> Read
     ensures { λ r. ⌜ r ≡ readAttrsAt Strict (now (text .entry)) place ⌝ }
     ensures { λ r. ⌜ bracePaper (r .answer) ≡ onPaper (braceOrder Strict (now (text .entry)) place) (behindClose (findClose (now (text .entry)) (suc place))) ⌝ }
+    ensures { λ r. ⌜ placeSaid (r .answer) ≡ placeAt Strict (now (text .entry)) place ⌝ }
 {
     read_attrs_at_with(text, place, Mode::Strict)
 }

@@ -15,7 +15,7 @@ use Rattle.block_grammar.specs.Computed.{First, text, tailOf, tokenOf, also, tu
 use Rattle.block_grammar.specs.declared.Place.the-variants.{At}
 use Rattle.block_tokens.specs.declared.Token.{Token}
 use Rattle.block_tokens.specs.declared.Token.the-variants as token
-use Rattle.block_tokens.specs.Shown.{shown, tokenEnd}
+use Rattle.block_tokens.specs.Shown.{tokenAt, tokenEnd}
 use Rattle.block_tokens.proofs.Steps as steps
 use Rattle.read_tags.specs.Tagged.{langOf, unlessNew, langAfter, tagPasses, passedBy}
 use Rattle.read_tags.specs.Inner.{passesWith, passesItems, passesRest, passesFrom, TagTells}
@@ -80,10 +80,10 @@ module _ (m : Mode) (s : List ℕ) {i a : ℕ} (fits : i ≤ length s) (is : a �
   unfolding passesItems
   at-end h = record { told = rw (steps.at-end m s fits is (omega (arith, steps.between m s fits is))) }
 
-  pub bad : a < length s → token.Bad ≡ shown a (tokenOf m (drop a s)) → TagTells m s i before Bad
+  pub bad : {n : ℕ} → a < length s → token.Bad n ≡ tokenAt m s a → TagTells m s i before Bad
   bad h e = record { told = rw (steps.refused m s fits is h e) }
 
-  pub goes : {t : Token} {j : Item} {e : ℕ} {x : Bool} → t ≡ shown a (tokenOf m (drop a s)) → steps.itemOf s t ≡ First.token j → At e ≡ tokenEnd t → x ≡ passesWith before (langOf j) → TagTells m s i before (Next x e)
+  pub goes : {t : Token} {j : Item} {e : ℕ} {x : Bool} → t ≡ tokenAt m s a → steps.itemOf s t ≡ First.token j → At e ≡ tokenEnd t → x ≡ passesWith before (langOf j) → TagTells m s i before (Next x e)
   goes {t} {j} {e} {x} q p b h =
       let z = steps.stepped m s fits is q p b in
       record {

@@ -3,11 +3,12 @@
 use Prim.Native.Nat.{ℕ, suc}
 use mathlib.Core.Bool.{Bool, true, cond}
 use mathlib.Core.List.{List, [], _∷_}
+use lib.Dec.{eqb}
 use Rattle.base_lists.specs.Lists.{all, same}
 use Rattle.base_bytes.specs.declared.Mode.{Mode}
-use Rattle.base_refusals.specs.Numbers.{tooLong}
-use Rattle.base_refusals.specs.Orders.{Ground}
-use Rattle.base_refusals.specs.declared.Refusal.the-variants.{TextTooLong, NotUtf8, NothingThere, BadTag}
+use Rattle.base_refusals.specs.Numbers.{tooLong, numberOf}
+use Rattle.base_refusals.specs.Orders.{Ground, orderNo}
+use Rattle.base_refusals.specs.declared.Refusal.the-variants.{TextTooLong, NotUtf8, NothingThere, NoReading, BadTag}
 use Rattle.text_utf8.specs.Computed.{isUtf8}
 use Rattle.text_escapes.specs.Unescape.{unescape}
 use Rattle.text_langtags.specs.Computed.{isAllowed}
@@ -19,7 +20,7 @@ use Rattle.block_grammar.specs.declared.Place.{Place}
 use Rattle.block_grammar.specs.declared.Place.the-variants.{Nothing, At}
 use Rattle.set_table.specs.Types.{Texts, one}
 use Rattle.set_fill.specs.Fill.{readingOrder}
-use Rattle.read_brace.specs.Brace.{refusingRead, braceAt, payloadOf, atBrace, readAttrsAt, closeOrder, braceOrder}
+use Rattle.read_brace.specs.Brace.{refusingRead, braceAt, payloadOf, atBrace, readAttrsAt, closeOrder, braceOrder, placeTo}
 use Rattle.read_brace.specs.declared.Read.{Read}
 use Rattle.read_tags.specs.declared.Tags.{Tags}
 use Rattle.read_tags.specs.declared.Tags.the-variants.{Any, WellFormed}
@@ -80,3 +81,7 @@ taggedClose m t i (At e) = Ground.lacking NotUtf8 (isUtf8 (payloadOf t i e)) ∷
 abbrev pub taggedOrder : Tags → Mode → List ℕ → ℕ → List Ground
 taggedOrder Any m t i = braceOrder m t i
 taggedOrder WellFormed m t i = Ground.given TextTooLong (tooLong t) ∷ Ground.lacking NothingThere (braceAt t i) ∷ taggedClose m t i (findClose t (suc i))
+
+-- "Refusal 5 at a brace shall carry a place": said with a 5 of this order too
+unfoldable pub taggedPlaceAt : Tags → Mode → List ℕ → ℕ → ℕ
+taggedPlaceAt g m t i = cond (eqb (orderNo (taggedOrder g m t i)) (numberOf NoReading)) (placeTo m t i (findClose t (suc i))) 0

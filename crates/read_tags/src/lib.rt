@@ -17,8 +17,8 @@ ghost use Rattle.block_grammar.specs.Computed.{readPayload};
 ghost use Rattle.block_grammar.specs.ComputedClose.{findClose};
 ghost use Rattle.block_grammar.specs.Grammar.{Item};
 ghost use Rattle.block_grammar.specs.Meaning.{langName};
-ghost use Rattle.read_brace.specs.Brace.{bracePaper, refusingRead, behindClose};
-ghost use Rattle.read_tags.specs.Tagged.{langOf, passedBy, readTagged, taggedOrder};
+ghost use Rattle.read_brace.specs.Brace.{bracePaper, placeSaid, refusingRead, behindClose};
+ghost use Rattle.read_tags.specs.Tagged.{langOf, passedBy, readTagged, taggedOrder, taggedPlaceAt};
 ghost use Rattle.read_tags.specs.Inner.{passesWith, TagTells};
 
 // Whether a value of `lang` may be any, or has to be empty or a well-formed tag.
@@ -90,7 +90,7 @@ fn token_told(table: &[u64; 16], s: &[u8], i: usize, mode: Mode, before: bool) -
         return TagStep::End;
     }
     match block_tokens::token_by(table, s, a, mode) {
-        Token::Bad => TagStep::Bad,
+        Token::Bad(_) => TagStep::Bad,
         Token::Tag(f, e) => TagStep::Next(tag_passes(s, f, e), e),
         Token::Id(_, e) => TagStep::Next(before, e),
         Token::Class(_, e) => TagStep::Next(before, e),
@@ -146,6 +146,7 @@ fn read_strictly(text: &[u8], place: usize, mode: Mode) -> Read
 pub fn read_attrs_at_tags(text: &[u8], place: usize, mode: Mode, tags: Tags) -> Read
     ensures { λ r. ⌜ r ≡ readTagged tags mode (now (text .entry)) place ⌝ }
     ensures { λ r. ⌜ bracePaper (r .answer) ≡ onPaper (taggedOrder tags mode (now (text .entry)) place) (behindClose (findClose (now (text .entry)) (suc place))) ⌝ }
+    ensures { λ r. ⌜ placeSaid (r .answer) ≡ taggedPlaceAt tags mode (now (text .entry)) place ⌝ }
 {
     match tags {
         Tags::Any => read_brace::read_attrs_at_with(text, place, mode),

@@ -3,6 +3,7 @@ use crate::fields;
 use crate::reply;
 use crate::reply::Reply;
 use base_bytes::Mode;
+use base_refusals::Refusal;
 use read_brace::Answer;
 use read_brace::Read;
 
@@ -34,11 +35,12 @@ pub(crate) fn answer_read(text: &[u8], place: usize, mode: usize, canon: &mut [u
     }
 }
 
-// What was read at a brace.
+// What was read at a brace, a payload with no reading without its place.
 pub(crate) fn told(read: Read, text: &[u8], canon: &mut [u8]) -> Reply {
     let answer = read.answer;
     match answer {
         Answer::Refused(r) => reply::refused(reply::REFUSED, r),
+        Answer::Unread(_) => reply::refused(reply::REFUSED, Refusal::NoReading),
         Answer::Next(n) => {
             reply::with_set(
                 reply::numbered(reply::OK_NEXT, n),

@@ -23,10 +23,10 @@ pub(crate) fn answer(word: usize, x: usize, text: &[u8], b: &mut [u8]) -> Reply 
 fn is(word: usize, s: &[u8]) -> bool {
     match word {
         25 => text_utf8::is_utf8(s),
-        26 => text_names::is_identifier(s),
-        27 => text_names::is_css_identifier(s),
-        28 => text_names::is_boolean_attr_name(s),
-        29 => text_names::is_language_tag(s),
+        26 => text_names::is_whole(text_names::is_identifier(s)),
+        27 => text_names::is_whole(text_names::is_css_identifier(s)),
+        28 => text_names::is_whole(text_names::is_boolean_attr_name(s)),
+        29 => text_names::is_whole(text_names::is_language_tag(s)),
         _ => text_lines::is_blank_line(s),
     }
 }

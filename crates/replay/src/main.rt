@@ -12,6 +12,7 @@ mod loose;
 mod merging;
 mod out;
 mod past;
+mod places;
 mod refusing;
 mod reply;
 mod reports;
@@ -92,6 +93,21 @@ fn answer_sheets(
     let tag = tags::word_of(line);
     if tag < tags::NONE {
         return tags::answer(tag, line, a, b, output, at);
+    }
+    answer_leaf(line, a, b, join, output, at)
+}
+
+// Answers a request for how far a name or a tag goes on.
+fn answer_leaf(
+    line: &[u8],
+    a: &mut [u8],
+    b: &mut [u8],
+    join: &mut [u8],
+    output: &mut [u8],
+    at: usize,
+) -> usize {
+    if places::is_asked(line) {
+        return places::answer(line, a, output, at);
     }
     answer_one(line, a, b, join, output, at)
 }

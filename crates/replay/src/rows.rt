@@ -5,6 +5,7 @@ use crate::past;
 use crate::reply;
 use crate::reply::Reply;
 use base_bytes::Mode;
+use base_refusals::Refusal;
 use read_brace::Answer;
 use read_brace::Read;
 use set_table::Attrs;
@@ -29,6 +30,7 @@ fn told(read: Read, b: &mut [u8]) -> Reply {
     let answer = read.answer;
     match answer {
         Answer::Refused(r) => reply::refused(reply::REFUSED, r),
+        Answer::Unread(_) => reply::refused(reply::REFUSED, Refusal::NoReading),
         Answer::Next(next) => reply::numbered(reply::LETTERS, put_set(b, next, read.set)),
     }
 }

@@ -1,19 +1,22 @@
-// Requests for language tags, and at a brace with the tag looked at.
+// Requests for language tags, and at a brace with the tag looked at, with the place at which the payload went wrong, or with both.
 use crate::ask;
 use crate::brace;
 use crate::fields;
 use crate::reply;
 use crate::reply::Reply;
 use base_bytes::Mode;
+use base_refusals::Refusal;
+use read_brace::Answer;
+use read_brace::Read;
 use read_tags::Tags;
 
 // How many words there are, the number of a line that has none of them.
-pub(crate) const NONE: usize = 2;
+pub(crate) const NONE: usize = 4;
 
 // The number of a request's word.
 pub(crate) fn word_of(line: &[u8]) -> usize {
     fields::index_of(
-        b"language_tag_strict/read_attrs_at_lang",
+        b"language_tag_strict/read_attrs_at_lang/place/place_lang",
         fields::part(line, 0, fields::find(line, 0, b' ')),
     )
 }
@@ -60,26 +63,48 @@ fn reply_to(word: usize, line: &[u8], bad: u8, text: &[u8], canon: &mut [u8]) ->
     if word == 0 {
         return reply::said(text_langtags::is_allowed_tag(text));
     }
-    read_at(line, text, canon)
+    read_at(word, line, text, canon)
 }
 
 // A place, a mode and a text.
-fn read_at(line: &[u8], text: &[u8], canon: &mut [u8]) -> Reply {
+fn read_at(word: usize, line: &[u8], text: &[u8], canon: &mut [u8]) -> Reply {
     let place = fields::number(fields::field(line, b' ', 1));
     if place.bad != 0 {
         return reply::alone(reply::ERROR);
     }
     match fields::index_of(b"strict/loose", fields::field(line, b' ', 2)) {
-        0 => read(text, place.n, Mode::Strict, canon),
-        1 => read(text, place.n, Mode::Loose, canon),
+        0 => read(word, text, place.n, Mode::Strict, canon),
+        1 => read(word, text, place.n, Mode::Loose, canon),
         _ => reply::alone(reply::ERROR),
     }
 }
 
-fn read(text: &[u8], place: usize, mode: Mode, canon: &mut [u8]) -> Reply {
-    brace::told(
-        read_tags::read_attrs_at_tags(text, place, mode, Tags::WellFormed),
-        text,
-        canon,
-    )
+fn read(word: usize, text: &[u8], place: usize, mode: Mode, canon: &mut [u8]) -> Reply {
+    match word {
+        1 => brace::told(tagged(text, place, mode), text, canon),
+        2 => placed(
+            read_brace::read_attrs_at_with(text, place, mode),
+            text,
+            canon,
+        ),
+        _ => placed(tagged(text, place, mode), text, canon),
+    }
+}
+
+fn tagged(text: &[u8], place: usize, mode: Mode) -> Read {
+    read_tags::read_attrs_at_tags(text, place, mode, Tags::WellFormed)
+}
+
+// What was read at a brace, a payload with no reading with its place.
+fn placed(read: Read, text: &[u8], canon: &mut [u8]) -> Reply {
+    let answer = read.answer;
+    match answer {
+        Answer::Unread(n) => reply::paired(
+            reply::REFUSED,
+            fields::wide(base_refusals::number(Refusal::NoReading)),
+            reply::AT,
+            n,
+        ),
+        _ => brace::told(read, text, canon),
+    }
 }

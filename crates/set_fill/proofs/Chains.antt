@@ -18,7 +18,6 @@ use Rattle.block_grammar.specs.Computed.{First, text, tokenOf, also, readFrom, 
 use Rattle.block_grammar.specs.ComputedClose.{findClose}
 use Rattle.block_grammar.specs.declared.Place.{Place}
 use Rattle.block_grammar.specs.declared.Place.the-variants.{Nothing, At}
-use Rattle.block_tokens.specs.Shown.{shown}
 use Rattle.block_tokens.proofs.Steps as steps
 use Rattle.block_chain.specs.Computed.{joined, blocksFrom}
 use Rattle.block_chain.proofs.Blocks as blocks
@@ -50,14 +49,13 @@ module _ (m : Mode) (s : List ℕ) (at : ℕ) {a : ℕ} (is : a ≡ at + run (is
 
   -- a token stands there, or none that can be read
   pub some-read : a < length s → oneOrMore (readFrom m (drop at s) 0 at) ≡ readFrom m (drop at s) 0 at
-  unfolding shown
   some-read h = go (tokenOf m (drop a s)) refl
     where
       fits : at ≤ length s
       fits = omega arith
 
       go : (x : First) → tokenOf m (drop a s) ≡ x → oneOrMore (readFrom m (drop at s) 0 at) ≡ readFrom m (drop at s) 0 at
-      go First.none p = rw (steps.refused m s fits is h (rw p))
+      go First.none p = rw (steps.none-refused m s fits is h p)
       go (First.token j) p =
           let e = a + length (text j) in
           rw (steps.token-stepped m s fits is p (sym (steps.item-behind a j)) .next) (one-also (record { at = a; item = j }) (readFrom m (drop e s) 0 e))

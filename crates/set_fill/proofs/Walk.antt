@@ -13,11 +13,11 @@ use Rattle.base_lists.proofs.Parts.{slice-part, part-end}
 use Rattle.base_bytes.specs.declared.Mode.{Mode}
 use Rattle.base_bytes.specs.Bytes.{isBlank, isSpace}
 use Rattle.block_grammar.specs.Grammar.{Item, Placed, Reading}
-use Rattle.block_grammar.specs.Computed.{tokenOf, also, readFrom}
+use Rattle.block_grammar.specs.Computed.{also, readFrom}
 use Rattle.block_grammar.specs.Meaning.{idName, className}
 use Rattle.block_tokens.specs.declared.Token as tokens
 use Rattle.block_tokens.specs.declared.Token.the-variants as token
-use Rattle.block_tokens.specs.Shown.{shown}
+use Rattle.block_tokens.specs.Shown.{tokenAt}
 use Rattle.block_tokens.proofs.Steps as steps
 use Rattle.set_table.specs.declared.Value.{Value}
 use Rattle.set_table.specs.declared.Name.{Name}
@@ -151,7 +151,7 @@ bareAt e = cursorOf Empty e e e
 
 -- a token's ranges lie in the text
 abbrev Lies : List ℕ → tokens.Token → Type 0
-Lies s token.Bad = Unit {0}
+Lies s (token.Bad n) = Unit {0}
 Lies s (token.Tag f e) = (f ≤ e) × (e ≤ length s)
 Lies s (token.Id f e) = (f ≤ e) × (e ≤ length s)
 Lies s (token.Class f e) = (f ≤ e) × (e ≤ length s)
@@ -169,11 +169,11 @@ module _ (m : Mode) (s : List ℕ) {i a : ℕ} (fits : i ≤ length s) (is : a �
   unfolding putsIn flatMap
   at-end h = record { told = rw (steps.at-end m s fits is (omega (arith, steps.between m s fits is))) }
 
-  pub bad : a < length s → token.Bad ≡ shown a (tokenOf m (drop a s)) → Yields m s i (tokensFrom m s i) Bad
+  pub bad : {n : ℕ} → a < length s → token.Bad n ≡ tokenAt m s a → Yields m s i (tokensFrom m s i) Bad
   bad h e = record { told = rw (steps.refused m s fits is h e) }
 
-  pub lies : (t : tokens.Token) → t ≡ shown a (tokenOf m (drop a s)) → Lies s t
-  lies token.Bad q = tt
+  pub lies : (t : tokens.Token) → t ≡ tokenAt m s a → Lies s t
+  lies (token.Bad n) q = tt
   lies (token.Tag f e) q = omega (arith, steps.spans m s a q, steps.tag-step m s fits is q .within)
   lies (token.Id f e) q = omega (arith, steps.spans m s a q, steps.id-step m s fits is q .within)
   lies (token.Class f e) q = omega (arith, steps.spans m s a q, steps.class-step m s fits is q .within)
@@ -189,21 +189,21 @@ module _ (m : Mode) (s : List ℕ) {i a : ℕ} (fits : i ≤ length s) (is : a �
   lone st q = rw (puts-next st, q) (alone m s _ (omega (arith, steps.between m s fits is, st .ahead)) (st .within))
 
   module _ {f e : ℕ} {v : Value} {d : Cursor} (p : v ≡ valueOf (text.Plain First f e)) (q : d ≡ tokensAt e) where
-    pub tag : token.Tag f e ≡ shown a (tokenOf m (drop a s)) → Yields m s i (tokensFrom m s i) (Key names.Lang v d)
+    pub tag : token.Tag f e ≡ tokenAt m s a → Yields m s i (tokensFrom m s i) (Key names.Lang v d)
     unfolding putsOf
     tag t =
         let st = steps.tag-step m s fits is t in
         let sp = steps.spans m s a t in
         record { told = rw (p, q) (lone st (rw (← sp .0, part-end s f e (sp .1) (st .within)))) }
 
-    pub id : token.Id f e ≡ shown a (tokenOf m (drop a s)) → Yields m s i (tokensFrom m s i) (Id v d)
+    pub id : token.Id f e ≡ tokenAt m s a → Yields m s i (tokensFrom m s i) (Id v d)
     unfolding putsOf
     id t =
         let st = steps.id-step m s fits is t in
         let sp = steps.spans m s a t in
         record { told = rw (p, q) (lone st (rw (← sp .0, part-end s f e (sp .1) (st .within)))) }
 
-    pub class : token.Class f e ≡ shown a (tokenOf m (drop a s)) → Yields m s i (tokensFrom m s i) (Class v d)
+    pub class : token.Class f e ≡ tokenAt m s a → Yields m s i (tokensFrom m s i) (Class v d)
     unfolding putsOf
     class t =
         let st = steps.class-step m s fits is t in
@@ -215,21 +215,21 @@ module _ (m : Mode) (s : List ℕ) {i a : ℕ} (fits : i ≤ length s) (is : a �
   named st g w y = rw (puts-next st, w) (later i (omega (arith, steps.between m s fits is)) y)
 
   module _ {f k e : ℕ} {c : Cursor} {r : pushes.Push} where
-    pub plain : token.Plain f k e ≡ shown a (tokenOf m (drop a s)) → c ≡ plainAt k e → Yields m s f (namedRest m s f k c) r → Yields m s i (tokensFrom m s i) r
+    pub plain : token.Plain f k e ≡ tokenAt m s a → c ≡ plainAt k e → Yields m s f (namedRest m s f k c) r → Yields m s i (tokensFrom m s i) r
     unfolding putsOf valued
     plain t q y =
         let st = steps.plain-step m s fits is t in
         let sp = steps.spans m s a t in
         named st (sp .0) (rw (q, ← sp .0, part-end s f k (sp .1) (omega (arith, sp .2, st .within)), part-end s (k + 1) e (sp .2) (st .within))) y
 
-    pub quoted : token.Quoted f k e ≡ shown a (tokenOf m (drop a s)) → c ≡ quotedAt k e → Yields m s f (namedRest m s f k c) r → Yields m s i (tokensFrom m s i) r
+    pub quoted : token.Quoted f k e ≡ tokenAt m s a → c ≡ quotedAt k e → Yields m s f (namedRest m s f k c) r → Yields m s i (tokensFrom m s i) r
     unfolding putsOf valued
     quoted t q y =
         let st = steps.quoted-step m s fits is t in
         let sp = steps.spans m s a t in
         named st (sp .0) (rw (q, ← sp .0, part-end s f k (sp .1) (omega (arith, sp .2, st .within)), part-end s (k + 2) (e - 1) (omega (arith, sp .2)) (omega (arith, st .within)))) y
 
-  pub bare : {f e : ℕ} {c : Cursor} {r : pushes.Push} → token.Bare f e ≡ shown a (tokenOf m (drop a s)) → c ≡ bareAt e → Yields m s f (namedRest m s f e c) r → Yields m s i (tokensFrom m s i) r
+  pub bare : {f e : ℕ} {c : Cursor} {r : pushes.Push} → token.Bare f e ≡ tokenAt m s a → c ≡ bareAt e → Yields m s f (namedRest m s f e c) r → Yields m s i (tokensFrom m s i) r
   unfolding putsOf
   bare {f} {e} t q y =
       let st = steps.bare-step m s fits is t in

@@ -175,7 +175,7 @@ fn token_push(table: &[u64; 16], s: &[u8], i: usize, mode: Mode) -> Push
         return Push::End;
     }
     match block_tokens::token_by(table, s, a, mode) {
-        Token::Bad => Push::Bad,
+        Token::Bad(_) => Push::Bad,
         Token::Tag(f, e) => Push::Key(Name::Lang, value_of(Kind::Plain, f, e), before_tokens(e)),
         Token::Id(f, e) => Push::Id(value_of(Kind::Plain, f, e), before_tokens(e)),
         Token::Class(f, e) => Push::Class(value_of(Kind::Plain, f, e), before_tokens(e)),

@@ -152,7 +152,7 @@ pub fn class_ok<'a>(first: &'a [u8], second: &'a [u8], v: Value) -> bool
 fn key_name(s: &[u8]) -> bool
     ensures { λ r. ⌜ r ≡ (isKey (now (s .entry)) && isFree (now (s .entry))) ⌝ }
 {
-    if !text_names::is_identifier(s) {
+    if !text_names::is_whole(text_names::is_identifier(s)) {
         return false;
     }
     if base_lists::same_bytes(s, b"id") {

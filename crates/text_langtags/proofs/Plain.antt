@@ -90,7 +90,7 @@ langtag : {s : List ℕ} → Langtag s → Tag s
 langtag (Langtag.langtag l s r v e p) = join (language l) (joins (opt script s) (joins (opt region r) (joins (many variant v) (joins (many extension e) (opt private p)))))
 
 -- document 01's tags are the same in small letters
-tag-cased : (s : List ℕ) (n : ℕ) → tagFrom (smalls s) n ≡ tagFrom s n
+tag-cased : (s : List ℕ) (n : ℕ) → tagFrom isAlnum (smalls s) n ≡ tagFrom isAlnum s n
 unfolding tagFrom smalls
 tag-cased [] n = refl
 tag-cased (b ∷ s) n = rw (alnum-cased b, hyphen-cased b, tag-cased s (suc n), tag-cased s 0)

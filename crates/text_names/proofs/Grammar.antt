@@ -12,11 +12,11 @@ use lib.ListN.{length, length-append}
 use Rattle.base_lists.specs.Lists.{all}
 use Rattle.base_lists.proofs.Scan.{both, all-append}
 use Rattle.base_bytes.specs.Bytes.{isAlnum, isLetter, isDigit, within}
-use Rattle.text_names.specs.Computed.{isSize, tagFrom, isTag, isLanguage}
+use Rattle.text_names.specs.Computed.{isSize, tagFrom, isTag, languageBy, isLanguage}
 use Rattle.text_names.specs.Grammar.{Subtag, Tag, Language}
 
 -- letters and digits are passed over, and counted
-passed : (s t : List ℕ) (k : ℕ) → all isAlnum s ≡ true → tagFrom (s ++ t) k ≡ tagFrom t (k + length s)
+passed : (s t : List ℕ) (k : ℕ) → all isAlnum s ≡ true → tagFrom isAlnum (s ++ t) k ≡ tagFrom isAlnum t (k + length s)
 unfolding tagFrom all
 passed [] t k e = rw add-zero
 passed (a ∷ s) t k e =
@@ -39,16 +39,16 @@ subtag p e f =
     record { chars = e; some = leb-true 1 (length p) (h .0); few = leb-true (length p) 8 (h .1) }
 
 -- with the letters and digits p read of the present subtag
-from : (s p : List ℕ) → all isAlnum p ≡ true → tagFrom s (length p) ≡ true → Tag (p ++ s)
+from : (s p : List ℕ) → all isAlnum p ≡ true → tagFrom isAlnum s (length p) ≡ true → Tag (p ++ s)
 unfolding tagFrom all
 from [] p e f = rw append-nil (Tag.one (subtag p e f))
 from (a ∷ s) p e f = go (isAlnum a) refl f (from s (p ++ (a ∷ []))) (from s [])
   where
-    go : (b : Bool) → isAlnum a ≡ b → cond b (tagFrom s (suc (length p))) (isSize (length p) && (eqb a 45 && tagFrom s 0)) ≡ true → (all isAlnum (p ++ (a ∷ [])) ≡ true → tagFrom s (length (p ++ (a ∷ []))) ≡ true → Tag ((p ++ (a ∷ [])) ++ s)) → (all isAlnum [] ≡ true → tagFrom s 0 ≡ true → Tag s) → Tag (p ++ a ∷ s)
+    go : (b : Bool) → isAlnum a ≡ b → cond b (tagFrom isAlnum s (suc (length p))) (isSize (length p) && (eqb a 45 && tagFrom isAlnum s 0)) ≡ true → (all isAlnum (p ++ (a ∷ [])) ≡ true → tagFrom isAlnum s (length (p ++ (a ∷ []))) ≡ true → Tag ((p ++ (a ∷ [])) ++ s)) → (all isAlnum [] ≡ true → tagFrom isAlnum s 0 ≡ true → Tag s) → Tag (p ++ a ∷ s)
     go true q g more rest = rw append-assoc at (more (all-append isAlnum p (a ∷ []) e (rw q)) (rw (length-append p (a ∷ []), add-one (length p)) g))
     go false q g more rest =
-        let h = both (isSize (length p)) (eqb a 45 && tagFrom s 0) g in
-        let k = both (eqb a 45) (tagFrom s 0) (h .1) in
+        let h = both (isSize (length p)) (eqb a 45 && tagFrom isAlnum s 0) g in
+        let k = both (eqb a 45) (tagFrom isAlnum s 0) (h .1) in
         rw (eqb-true a 45 (k .0)) (Tag.more (subtag p e (h .0)) (rest refl (k .1)))
 
 pub sound : (s : List ℕ) → isTag s ≡ true → Tag s
@@ -56,7 +56,7 @@ unfolding isTag all
 sound s e = from s [] refl e
 
 pub language-complete : {s : List ℕ} → Language s → isLanguage s ≡ true
-unfolding isLanguage
+unfolding isLanguage languageBy isTag
 language-complete Language.nothing = refl
 language-complete (Language.tag {s = s} h) = go s h
   where
@@ -65,6 +65,6 @@ language-complete (Language.tag {s = s} h) = go s h
     go (a ∷ s) h = complete h
 
 pub language-sound : (s : List ℕ) → isLanguage s ≡ true → Language s
-unfolding isLanguage
+unfolding isLanguage languageBy isTag
 language-sound [] e = Language.nothing
 language-sound (a ∷ s) e = Language.tag (sound (a ∷ s) e)

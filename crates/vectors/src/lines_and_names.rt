@@ -1,6 +1,7 @@
 // Document 01 and our readings of it: names, tags, classes of bytes, trimming and lines.
 use crate::Tally;
 use crate::held;
+use text_names::Tested;
 
 pub(crate) fn run(t: Tally) -> Tally {
     let named = names_and_keys(t);
@@ -15,50 +16,63 @@ pub(crate) fn run(t: Tally) -> Tally {
     missing_lines(ends)
 }
 
+// The bytes are what was asked for.
+fn whole(t: Tally, tested: Tested) -> Tally {
+    held(t, text_names::is_whole(tested))
+}
+
+// The bytes are none, and can be continued to one up to the place.
+fn stops(t: Tally, tested: Tested, place: usize) -> Tally {
+    match tested {
+        Tested::Whole => held(t, false),
+        Tested::Stops(n) => held(t, n == place),
+    }
+}
+
 // A name begins with a letter, a digit or `_`; a key with a letter or `_`.
 fn names_and_keys(t: Tally) -> Tally {
     let mut n = t;
-    n = held(n, text_names::is_css_identifier(b"v17"));
-    n = held(n, text_names::is_css_identifier(b"1a"));
-    n = held(n, text_names::is_css_identifier(b"_a-"));
-    n = held(n, !text_names::is_css_identifier(b"-a"));
-    n = held(n, !text_names::is_css_identifier(b""));
-    n = held(n, !text_names::is_css_identifier(b"a.b"));
-    n = held(n, text_names::is_identifier(b"side"));
-    n = held(n, text_names::is_identifier(b"_a"));
-    n = held(n, !text_names::is_identifier(b"1a"));
-    n = held(n, !text_names::is_identifier(b"-a"));
-    n = held(n, !text_names::is_identifier(b""));
+    n = whole(n, text_names::is_css_identifier(b"v17"));
+    n = whole(n, text_names::is_css_identifier(b"1a"));
+    n = whole(n, text_names::is_css_identifier(b"_a-"));
+    n = stops(n, text_names::is_css_identifier(b"-a"), 0);
+    n = stops(n, text_names::is_css_identifier(b""), 0);
+    n = stops(n, text_names::is_css_identifier(b"a.b"), 1);
+    n = whole(n, text_names::is_identifier(b"side"));
+    n = whole(n, text_names::is_identifier(b"_a"));
+    n = stops(n, text_names::is_identifier(b"1a"), 0);
+    n = stops(n, text_names::is_identifier(b"-a"), 0);
+    n = stops(n, text_names::is_identifier(b""), 0);
     n
 }
 
 // A bare name begins with a letter; letters are ASCII, so neither an e with acute nor the Kelvin sign is one.
 fn bare_names(t: Tally) -> Tally {
     let mut n = t;
-    n = held(n, text_names::is_boolean_attr_name(b"a1_-"));
-    n = held(n, !text_names::is_boolean_attr_name(b"_a"));
-    n = held(n, !text_names::is_boolean_attr_name(b"1a"));
-    n = held(n, !text_names::is_boolean_attr_name(b""));
-    n = held(n, !text_names::is_boolean_attr_name(b"\xC3\xA9"));
-    n = held(n, !text_names::is_boolean_attr_name(b"a\xC3\xA9"));
-    n = held(n, !text_names::is_boolean_attr_name(b"\xE2\x84\xAA"));
+    n = whole(n, text_names::is_boolean_attr_name(b"a1_-"));
+    n = stops(n, text_names::is_boolean_attr_name(b"_a"), 0);
+    n = stops(n, text_names::is_boolean_attr_name(b"1a"), 0);
+    n = stops(n, text_names::is_boolean_attr_name(b""), 0);
+    n = stops(n, text_names::is_boolean_attr_name(b"\xC3\xA9"), 0);
+    n = stops(n, text_names::is_boolean_attr_name(b"a\xC3\xA9"), 1);
+    n = stops(n, text_names::is_boolean_attr_name(b"\xE2\x84\xAA"), 0);
     n
 }
 
 // Nothing or a tag, whose subtags have one to eight letters or digits.
 fn tags(t: Tally) -> Tally {
     let mut n = t;
-    n = held(n, text_names::is_language_tag(b""));
-    n = held(n, text_names::is_language_tag(b"abcdefgh"));
-    n = held(n, !text_names::is_language_tag(b"abcdefghi"));
-    n = held(n, text_names::is_language_tag(b"zh-Hant-TW"));
-    n = held(n, text_names::is_language_tag(b"x-12345678-9"));
-    n = held(n, !text_names::is_language_tag(b"x-123456789"));
-    n = held(n, !text_names::is_language_tag(b"en-"));
-    n = held(n, !text_names::is_language_tag(b"-en"));
-    n = held(n, !text_names::is_language_tag(b"en--us"));
-    n = held(n, !text_names::is_language_tag(b"de_DE"));
-    n = held(n, !text_names::is_tag(b""));
+    n = whole(n, text_names::is_language_tag(b""));
+    n = whole(n, text_names::is_language_tag(b"abcdefgh"));
+    n = stops(n, text_names::is_language_tag(b"abcdefghi"), 8);
+    n = whole(n, text_names::is_language_tag(b"zh-Hant-TW"));
+    n = whole(n, text_names::is_language_tag(b"x-12345678-9"));
+    n = stops(n, text_names::is_language_tag(b"x-123456789"), 10);
+    n = stops(n, text_names::is_language_tag(b"en-"), 3);
+    n = stops(n, text_names::is_language_tag(b"-en"), 0);
+    n = stops(n, text_names::is_language_tag(b"en--us"), 3);
+    n = stops(n, text_names::is_language_tag(b"de_DE"), 2);
+    n = stops(n, text_names::is_tag(b""), 0);
     n
 }
 

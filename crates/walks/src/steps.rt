@@ -39,7 +39,7 @@ fn walk(text: &[u8], mode: Mode) {
         match ahead {
             Ahead::End => return,
             Ahead::Found(token) => match token {
-                Token::Bad => return,
+                Token::Bad(_) => return,
                 _ => {
                     i = step.at;
                     continue 'steps;
@@ -65,7 +65,7 @@ fn say_ahead(text: &[u8], ahead: Ahead) {
 
 fn say_token(text: &[u8], token: Token) {
     match token {
-        Token::Bad => say(b" no token"),
+        Token::Bad(place) => say_bad(place),
         Token::Tag(from, to) => say_part(b" tag", text, from, to),
         Token::Id(from, to) => say_part(b" id", text, from, to),
         Token::Class(from, to) => say_part(b" class", text, from, to),
@@ -74,6 +74,12 @@ fn say_token(text: &[u8], token: Token) {
         Token::Bare(from, to) => say_part(b" bare", text, from, to),
     }
     say(b"\n");
+}
+
+// The bytes stop being a token at the place.
+fn say_bad(place: usize) {
+    say(b" no token, wrong at ");
+    say_number(place);
 }
 
 fn say_part<'a>(kind: &'a [u8], text: &'a [u8], from: usize, to: usize) {

@@ -8,7 +8,6 @@ use Rattle.block_grammar.specs.Computed.{readFrom}
 use Rattle.block_next_token.specs.Walk.{counted, countPaper}
 use Rattle.block_next_token.specs.declared.Ahead.the-variants.{Found}
 use Rattle.block_next_token.proofs.Counting as counting
-use Rattle.block_next_token.proofs.Steps.{tag-not-bad}
 use Rattle.block_next_token.proofs.token_count.Statement.{statement}
 use Rattle.block_next_token.proofs.token_count.Tie as tie
 
@@ -36,15 +35,15 @@ enum-told-2 c = search needs
 add-n : tie.Need-add-n Inv-tokens μ-tokens
 add-n c =
     let at4 = c .before .before .before .before in let at5 = at4 .before in
-    record { fits = let g = (counting.go (at5 .tokens .inv) (at4 .step-from .ensures .0) ((c .before .before .ahead .given) .1) (tag-not-bad _ (c .match2 .keys2))) in omega (arith, g .0 .within, g .0 .few) }
+    record { fits = let g = (counting.next (at5 .tokens .inv) (at4 .step-from .ensures .0) ((c .before .before .ahead .given) .1) (c .match2 .keys2)) in omega (arith, g .0 .within, g .0 .few) }
 
 tokens-less : tie.Need-tokens-less Inv-tokens μ-tokens
 tokens-less c =
     let at4 = c .before .before .before .before in let at5 = at4 .before in
-    let g = (counting.go (at5 .tokens .inv) (at4 .step-from .ensures .0) ((c .before .before .ahead .given) .1) (tag-not-bad _ (c .match2 .keys2))) in omega (arith, g .0 .within, g .1)
+    let g = (counting.next (at5 .tokens .inv) (at4 .step-from .ensures .0) ((c .before .before .ahead .given) .1) (c .match2 .keys2)) in omega (arith, g .0 .within, g .1)
 
 tokens-again : tie.Need-tokens-again Inv-tokens μ-tokens
-tokens-again c = let at4 = c .before .before .before .before in let at5 = at4 .before in (counting.go (at5 .tokens .inv) (at4 .step-from .ensures .0) ((c .before .before .ahead .given) .1) (tag-not-bad _ (c .match2 .keys2))) .0
+tokens-again c = let at4 = c .before .before .before .before in let at5 = at4 .before in (counting.next (at5 .tokens .inv) (at4 .step-from .ensures .0) ((c .before .before .ahead .given) .1) (c .match2 .keys2)) .0
 
 returns : tie.Need-returns Inv-tokens μ-tokens
 returns c = said countPaper refl (counting.end (c .before .before .before .tokens .inv) (c .before .before .step-from .ensures .0) ((c .enum-told .given) .1))

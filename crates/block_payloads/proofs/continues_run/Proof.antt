@@ -1,3 +1,4 @@
+use Rattle.block_tokens.proofs.Payload.{yes-or-no}
 use Rattle.block_payloads.proofs.Lines as laws
 use borrow.Author.Needs.{needs}
 use Rattle.block_payloads.proofs.continues_run.Statement.{statement}
@@ -18,20 +19,23 @@ returns-2 c = laws.closes _ (c .before .before .if1 .left) (c .if2 .taken)
 behind-last-requires : tie.Need-behind-last-requires
 behind-last-requires c κs = search needs
 
-sub-payload-ok : tie.Need-sub-payload-ok
-sub-payload-ok c = search needs
+sub-payload-test : tie.Need-sub-payload-test
+sub-payload-test c = search needs
 
-part-payload-ok-start : tie.Need-part-payload-ok-start
-part-payload-ok-start c = search needs
+part-payload-test-start : tie.Need-part-payload-test-start
+part-payload-test-start c = search needs
 
-part-payload-ok-end : tie.Need-part-payload-ok-end
-part-payload-ok-end c = search needs
+part-payload-test-end : tie.Need-part-payload-test-end
+part-payload-test-end c = search needs
 
-payload-ok-requires : tie.Need-payload-ok-requires
-payload-ok-requires c κs = search needs
+payload-test-requires : tie.Need-payload-test-requires
+payload-test-requires c κs = search needs
+
+is-whole-requires : tie.Need-is-whole-requires
+is-whole-requires c κs = search needs
 
 returns-3 : tie.Need-returns-3
-returns-3 c = laws.payload _ (c .before .before .before .before .before .if1 .left) (c .before .before .before .if2 .left) ((c .before .before .behind-last .ensures) .0) ((c .before .before .behind-last .ensures) .1) (c .payload-ok .ensures)
+returns-3 c = laws.payload _ (c .before .before .before .before .before .before .if1 .left) (c .before .before .before .before .if2 .left) ((c .before .before .before .behind-last .ensures) .0) ((c .before .before .before .behind-last .ensures) .1) (yes-or-no _ _ (c .before .payload-test .ensures .0) (c .is-whole .ensures))
 
 pub continues-run-spec : {M : Type 1} → statement M
 continues-run-spec =
@@ -42,8 +46,9 @@ continues-run-spec =
     shared-slice-read-if2
     returns-2
     behind-last-requires
-    sub-payload-ok
-    part-payload-ok-start
-    part-payload-ok-end
-    payload-ok-requires
+    sub-payload-test
+    part-payload-test-start
+    part-payload-test-end
+    payload-test-requires
+    is-whole-requires
     returns-3)

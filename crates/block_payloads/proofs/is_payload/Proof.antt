@@ -1,5 +1,6 @@
 use mathlib.Core.Path.{sym, _∙_}
 use borrow.Author.Tests.{not-true, not-false}
+use Rattle.block_tokens.proofs.Payload.{yes-or-no}
 use Rattle.block_payloads.specs.Payloads.{isPayload}
 use borrow.Author.Needs.{needs}
 use Rattle.block_payloads.proofs.is_payload.Statement.{statement}
@@ -12,12 +13,15 @@ returns : tie.Need-returns
 unfolding isPayload
 returns c = simp (sym (c .before .is-text .ensures) ∙ not-true _ (c .if1 .taken))
 
-payload-ok-requires : tie.Need-payload-ok-requires
-payload-ok-requires c κs = search needs
+payload-test-requires : tie.Need-payload-test-requires
+payload-test-requires c κs = search needs
+
+is-whole-requires : tie.Need-is-whole-requires
+is-whole-requires c κs = search needs
 
 returns-2 : tie.Need-returns-2
 unfolding isPayload
-returns-2 c = simp (sym (c .before .before .is-text .ensures) ∙ not-false _ (c .before .if1 .left)) (c .payload-ok .ensures)
+returns-2 c = simp (sym (c .before .before .before .is-text .ensures) ∙ not-false _ (c .before .before .if1 .left)) (yes-or-no _ _ (c .before .payload-test .ensures .0) (c .is-whole .ensures))
 
 pub is-payload-spec : {M : Type 1} → statement M
-is-payload-spec = tie.close (tie.spec is-text-requires returns payload-ok-requires returns-2)
+is-payload-spec = tie.close (tie.spec is-text-requires returns payload-test-requires is-whole-requires returns-2)

@@ -2,10 +2,7 @@ use mathlib.Core.Path.{refl, _∙_}
 use Prim.Native.Nat.{_+_}
 use native.Mathlib.Omega.{arith}
 use lib.ListN.{drop}
-use Rattle.base_bytes.specs.Bytes.{isNameStart, isNamePart}
 use Rattle.base_letters.proofs.Fronts as fronts
-use Rattle.text_names.specs.Names.{isName}
-use Rattle.block_grammar.proofs.Bytes.{start-part}
 use Rattle.block_grammar.specs.Grammar.{Item}
 use Rattle.block_tokens.specs.Shown.{shownItem}
 use Rattle.block_tokens.specs.declared.Token.the-variants.{Class}
@@ -24,11 +21,11 @@ finish-requires : tie.Need-finish-requires
 finish-requires c κs = search needs
 
 returns : tie.Need-returns
-unfolding shownItem isName
+unfolding shownItem
 returns c = λ tells.
     let start = c .before .before .before in
     let a = start .args in let is = c .before .front-end .ensures ∙ fronts.same-front (tells .name) (tells .part) (a .i + 1) (drop (a .i + 1) (a .s .now)) in
-    words.headed-front isNameStart isNamePart start-part _ is (omega (arith, start .pre)) _ _ (λ n. Item.class n) (λ e. Class (a .i + 1) e) (λ n. refl) (c .finish .ensures)
+    words.sigil-front _ is (omega (arith, start .pre)) _ _ (λ n. Item.class n) (λ e. Class (a .i + 1) e) (λ n. refl) (c .finish .ensures)
 
 pub class-token-spec : {M : Type 1} → statement M
 class-token-spec = tie.close (tie.spec add-a front-end-requires finish-requires returns)

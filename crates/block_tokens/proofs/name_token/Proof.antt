@@ -70,8 +70,8 @@ returns-3 c = λ tells.
     let b = begun tells (a .i) (a .s .now) (at6 .front-end .ensures) (at5 .if1 .left) in
     let l : a .i < length (a .s .now) = omega (arith, runs.inside isNamePart (a .s .now) (b .1) (start .pre), at5 .if1 .left) in
     let first = sym (fronts.asked (tells .letter) _ (c .before .is-of .ensures)) ∙ scan.first-some isLetter (a .s .now) (a .i) l in
-    words.name-bare (a .mode) (a .i) (a .s .now) (b .1) (sym (c .before .before .before .before .has-equals .ensures) ∙ c .before .before .before .if2 .left)
-    (words.headed-word isLetter isNamePart (λ b h. key-part b (letter-key b h)) _ _ _ (λ n. Item.bare n) (b .1) (start .pre) first (λ n h. rw h) (c .finish .ensures))
+    words.name-word (a .mode) (a .i) (a .s .now) (b .1) (sym (c .before .before .before .before .has-equals .ensures) ∙ c .before .before .before .if2 .left) (b .0)
+    (words.headed-word isLetter isNamePart (λ b h. key-part b (letter-key b h)) _ _ _ _ (λ n. Item.bare n) (b .1) (start .pre) first (λ n h. rw h) (c .finish .ensures))
 
 pub name-token-spec : {M : Type 1} → statement M
 name-token-spec =

@@ -31,8 +31,8 @@ add-finish c =
     let a = at6 .args in
     omega (arith, quotes.closed _ (a .s .now) ((a .k) + 2) (sym (c .before .e .given .1) ∙ (c .before .before .before .quote-end .ensures)) (omega (arith, at6 .pre)) .within)
 
-add-t13 : tie.Need-add-t13
-add-t13 c =
+add-t14 : tie.Need-add-t14
+add-t14 c =
     let at6 = c .before .before .before .before .before .before in
     let a = at6 .args in
     omega (arith, quotes.closed _ (a .s .now) ((a .k) + 2) (sym (c .before .e .given .1) ∙ (c .before .before .before .quote-end .ensures)) (omega (arith, at6 .pre)) .within)
@@ -43,7 +43,7 @@ finish-requires c κs = search needs
 returns : tie.Need-returns
 returns c =
     let a = c .before .before .before .before .before .args in
-    words.quoted-none (a .mode) (a .i) (a .k) (a .s .now) _ (sym (c .enum-told .given .1) ∙ (c .before .before .quote-end .ensures))
+    words.quoted-none (a .mode) (a .i) (a .k) (a .s .now) _ (omega (arith, c .before .before .before .before .before .pre)) (sym (c .enum-told .given .1) ∙ (c .before .before .quote-end .ensures))
 
 returns-2 : tie.Need-returns-2
 returns-2 c =
@@ -62,7 +62,7 @@ quoted-token-spec =
     enum-told
     enum-known-e
     add-finish
-    add-t13
+    add-t14
     finish-requires
     returns
     returns-2)

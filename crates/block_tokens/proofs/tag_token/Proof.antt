@@ -1,17 +1,37 @@
-use mathlib.Core.Path.{_∙_}
-use Prim.Native.Nat.{_+_}
+use mathlib.Core.Path.{_≡_, sym, _∙_}
+use mathlib.Core.Bool.{Bool}
+use mathlib.Core.List.{List}
+use Prim.Native.Nat.{ℕ, _+_, _≤_}
 use native.Mathlib.Omega.{arith}
-use lib.ListN.{drop}
-use Rattle.base_bytes.specs.Bytes.{isNamePart}
-use Rattle.base_letters.proofs.Fronts as fronts
-use Rattle.text_names.specs.Computed.{isLanguage}
-use Rattle.block_grammar.specs.Grammar.{Item}
-use Rattle.block_tokens.specs.Shown.{shownItem}
+use lib.ListN.{length, drop}
+use Rattle.base_lists.specs.Lists.{run}
 use Rattle.base_lists.proofs.Runs as runs
+use Rattle.base_bytes.specs.Bytes.{isAlnum, isNamePart}
+use Rattle.base_letters.specs.Classes.{isOf, TellsBytes}
+use Rattle.base_letters.proofs.Fronts as fronts
+use Rattle.text_names.specs.declared.Tested.{Tested}
+use Rattle.text_names.specs.declared.Tested.the-variants.{Stops}
+use Rattle.text_names.specs.Tested.{tested}
+use Rattle.text_names.specs.Computed.{languageBy, isLanguage, tagPasses}
+use Rattle.text_names.proofs.Tag.{same-language, pass-le}
+use Rattle.text_names.proofs.Told.{whole-is, stops-is}
+use Rattle.block_tokens.specs.Inner.{part}
 use Rattle.block_tokens.proofs.Words as words
 use borrow.Author.Needs.{needs}
 use Rattle.block_tokens.proofs.tag_token.Statement.{statement}
 use Rattle.block_tokens.proofs.tag_token.Tie as tie
+
+-- what the table finds is the run of name bytes, and what it tells of the bytes is the answer
+ran : {t : List ℕ} → TellsBytes t → (a : ℕ) (s : List ℕ) {e : ℕ} → e ≡ a + run (isOf t 15) (drop a s) → e ≡ a + run isNamePart (drop a s)
+ran tells a s is = is ∙ fronts.same-run (tells .part) a (drop a s)
+
+told : {t : List ℕ} → TellsBytes t → (s : List ℕ) {r : Tested} → r ≡ tested (languageBy (isOf t 3) s) (tagPasses (isOf t 3) s 0) → r ≡ tested (isLanguage s) (tagPasses isAlnum s 0)
+unfolding isLanguage
+told tells s e = e ∙ same-language (tells .alnum) s
+
+-- a place that is answered lies in the bytes
+within : (f : ℕ → Bool) (s : List ℕ) (a e : ℕ) {n : ℕ} → Stops n ≡ tested (languageBy f (part a e s)) (tagPasses f (part a e s) 0) → n ≤ length (part a e s)
+within f s a e q = let z = stops-is (languageBy f (part a e s)) (tagPasses f (part a e s) 0) q in omega (arith, z .1, pass-le f (part a e s) 0)
 
 add-a : tie.Need-add-a
 add-a c = search needs
@@ -31,15 +51,36 @@ part-language-by-end c = omega (arith, runs.inside _ (c .before .before .args .s
 language-by-requires : tie.Need-language-by-requires
 language-by-requires c κs = search needs
 
+enum-told : tie.Need-enum-told
+enum-told c = search needs
+
 finish-requires : tie.Need-finish-requires
 finish-requires c κs = search needs
 
-returns : tie.Need-returns
-unfolding shownItem
-returns c = λ tells.
-    let start = c .before .before .before .before .before in
+enum-known-n : tie.Need-enum-known-n
+enum-known-n c = search needs
+
+add-t15 : tie.Need-add-t15
+add-t15 c =
+    let at3 = c .before .before .before in
+    let start = at3 .before .before .before .before in
     let a = start .args in
-    words.word _ _ isNamePart isLanguage (λ n. Item.tag n) (a .s .now) (c .before .before .before .run-end .ensures ∙ fronts.same-run (tells .part) (a .i + 1) (drop (a .i + 1) (a .s .now))) (omega (arith, start .pre)) (c .before .language-by .ensures tells) (λ n h. rw h) (c .finish .ensures)
+    omega (arith, start .pre, runs.inside _ (a .s .now) (at3 .before .before .run-end .ensures) (omega (arith, start .pre)), within _ (a .s .now) (a .i + 1) _ (sym (c .before .n .given .1) ∙ at3 .language-by .ensures .0))
+
+returns : tie.Need-returns
+returns c = λ tells.
+    let at3 = c .before .before .before in
+    let start = at3 .before .before .before .before in
+    let a = start .args in
+    words.tag-whole (a .mode) (a .i) (a .s .now) (ran tells (a .i + 1) (a .s .now) (at3 .before .before .run-end .ensures)) (omega (arith, start .pre)) (whole-is _ _ (told tells _ (sym (c .before .enum-told .given .1) ∙ at3 .language-by .ensures .0))) (c .finish .ensures)
+
+returns-2 : tie.Need-returns-2
+returns-2 c = λ tells.
+    let at3 = c .before .before .before in
+    let start = at3 .before .before .before .before in
+    let a = start .args in
+    let z = stops-is _ _ (told tells _ (sym (c .before .n .given .1) ∙ at3 .language-by .ensures .0)) in
+    words.tag-stops (a .mode) (a .i) (a .s .now) (ran tells (a .i + 1) (a .s .now) (at3 .before .before .run-end .ensures)) (omega (arith, start .pre)) (z .0) (z .1)
 
 pub tag-token-spec : {M : Type 1} → statement M
 tag-token-spec =
@@ -51,5 +92,9 @@ tag-token-spec =
     part-language-by-start
     part-language-by-end
     language-by-requires
+    enum-told
     finish-requires
-    returns)
+    enum-known-n
+    add-t15
+    returns
+    returns-2)

@@ -1,7 +1,6 @@
 use mathlib.Core.Path.{sym, _∙_}
 use native.Mathlib.Omega.{arith}
-use Rattle.base_bytes.specs.Bytes.{isPlain}
-use Rattle.block_grammar.specs.Grammar.{Item, isValue}
+use Rattle.block_grammar.specs.Grammar.{Item}
 use Rattle.block_tokens.specs.Inner.{part}
 use Rattle.block_tokens.proofs.Words as words
 use borrow.Author.Needs.{needs}
@@ -41,7 +40,7 @@ returns-3 c =
     let at7 = c .before .before .before .before .before .before .before in
     let a = at7 .args in
     words.value-plain (a .mode) (a .i) (a .k) (a .s .now) (omega arith) (sym (c .before .before .before .is-quote .ensures) ∙ (c .before .before .if2 .left))
-    (words.word (a .i) (a .mode) isPlain isValue (λ v. Item.plain (part (a .i) (a .k) (a .s .now)) v) (a .s .now) (c .before .plain-end .ensures) (omega arith) (words.some-value _ _ (c .before .plain-end .ensures)) (λ v h. words.key-shown (a .mode) (a .i) (a .k) (a .s .now) v (omega (arith, at7 .pre)) (omega (arith, at7 .pre)) h) (c .finish .ensures))
+    (words.plain-word (a .i) (a .mode) (λ v. Item.plain (part (a .i) (a .k) (a .s .now)) v) (a .s .now) (c .before .plain-end .ensures) (omega arith) (λ v h. words.key-shown (a .mode) (a .i) (a .k) (a .s .now) v (omega (arith, at7 .pre)) (omega (arith, at7 .pre)) h) (c .finish .ensures))
 
 pub value-token-spec : {M : Type 1} → statement M
 value-token-spec =

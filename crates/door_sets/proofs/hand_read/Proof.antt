@@ -1,4 +1,4 @@
-use Rattle.door_shared.proofs.Laws.{came, told-2}
+use Rattle.door_shared.proofs.Laws.{came, told-3}
 use Rattle.door_sets.proofs.Said as laws
 use borrow.Author.Needs.{needs}
 use Rattle.door_sets.proofs.hand_read.Statement.{statement}
@@ -28,6 +28,12 @@ wrote-len-requires c κs = search needs
 tell-requires-2 : tie.Need-tell-requires-2
 tell-requires-2 c κs = search needs
 
+place-of-requires : tie.Need-place-of-requires
+place-of-requires c κs = search needs
+
+tell-requires-3 : tie.Need-tell-requires-3
+tell-requires-3 c κs = search needs
+
 wrote-number-requires : tie.Need-wrote-number-requires
 wrote-number-requires c κs = search needs
 
@@ -40,9 +46,9 @@ same-length-2 c = search needs
 returns : tie.Need-returns
 returns c =
     let at4 = c .before .before .before .before in let at8 = at4 .before .before .before .before in let at9 = at8 .before in let at13 = at9 .before .before .before .before in
-    let at16 = at13 .before .before .before in let at17 = at16 .before in
-    laws.read-said _ _ _ (at17 .before .before .before .before .args .read) (at17 .check-by .ensures) (at16 .or-text .ensures) (at9 .next-of .ensures)
-    (came (at13 .write-out .ensures) (at4 .wrote-len .ensures) (told-2 _ _ _ (at8 .tell .ensures) (c .before .before .before .tell2 .ensures)) (c .wrote-number .ensures))
+    let at14 = at13 .before in let at18 = at14 .before .before .before .before in let at21 = at18 .before .before .before in let at22 = at21 .before in
+    laws.read-said _ _ _ (at22 .before .before .before .before .args .read) (at22 .check-by .ensures) (at21 .or-text .ensures) (at14 .next-of .ensures) (at4 .place-of .ensures)
+    (came (at18 .write-out .ensures) (at9 .wrote-len .ensures) (told-3 _ _ _ _ (at13 .tell .ensures) (at8 .tell2 .ensures) (c .before .before .before .tell3 .ensures)) (c .wrote-number .ensures))
 
 pub hand-read-spec : {M : Type 1} → statement M
 hand-read-spec =
@@ -56,6 +62,8 @@ hand-read-spec =
     tell-requires
     wrote-len-requires
     tell-requires-2
+    place-of-requires
+    tell-requires-3
     wrote-number-requires
     same-length
     same-length-2

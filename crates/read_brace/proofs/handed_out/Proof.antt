@@ -1,5 +1,5 @@
-use borrow.Author.Needs.{needs}
 use Rattle.read_brace.specs.Brace.{finished}
+use borrow.Author.Needs.{needs}
 use Rattle.read_brace.proofs.handed_out.Statement.{statement}
 use Rattle.read_brace.proofs.handed_out.Tie as tie
 

@@ -1,4 +1,5 @@
-use mathlib.Core.Path.{sym, _∙_}
+use mathlib.Core.Path.{sym, _∙_, ap}
+use native.Mathlib.Omega.{arith}
 use borrow.Author.Tests.{not-true, not-false}
 use Rattle.read_brace.proofs.Laws as laws
 use borrow.Author.Needs.{needs}
@@ -34,6 +35,15 @@ add-fill c = search needs
 fill-requires : tie.Need-fill-requires
 fill-requires c κs = search needs
 
+add-place-of : tie.Need-add-place-of
+add-place-of c = search needs
+
+place-of-requires : tie.Need-place-of-requires
+place-of-requires c κs =
+    let start = c .before .before .before .before .before in
+    let a = start .args in
+    (omega (arith, start .pre), (omega (arith, start .pre), ap (λ f. f .outcome) (laws.filled-of (a .mode) (a .text .now) (a .place) (a .end) (start .pre .0) (c .fill .ensures .0))))
+
 add-handed-out : tie.Need-add-handed-out
 add-handed-out c = search needs
 
@@ -42,8 +52,11 @@ handed-out-requires c κs = search needs
 
 returns-2 : tie.Need-returns-2
 returns-2 c =
-    let at6 = c .before .before .before .before .before .before in
-    (c .handed-out .ensures) ∙ laws.filled (at6 .args .mode) (at6 .args .text .now) (at6 .args .place) (at6 .args .end) (sym (c .before .before .before .is-utf8 .ensures) ∙ not-false _ (c .before .before .if1 .left)) ((at6 .pre) .0) (c .before .fill .ensures .0)
+    let start = c .before .before .before .before .before .before .before in
+    let a = start .args in
+    (c .handed-out .ensures)
+    ∙ laws.filled (a .mode) (a .text .now) (a .place) (a .end) (sym (c .before .before .before .before .is-utf8 .ensures) ∙ not-false _ (c .before .before .before .if1 .left))
+    (laws.filled-of (a .mode) (a .text .now) (a .place) (a .end) (start .pre .0) (c .before .before .fill .ensures .0)) (c .before .place-of .ensures)
 
 pub read-payload-spec : {M : Type 1} → statement M
 read-payload-spec =
@@ -58,6 +71,8 @@ read-payload-spec =
     returns
     add-fill
     fill-requires
+    add-place-of
+    place-of-requires
     add-handed-out
     handed-out-requires
     returns-2)

@@ -1,7 +1,6 @@
 use mathlib.Core.Path.{_∙_}
 use lib.ListN.{length}
 use native.Mathlib.Omega.{arith}
-use Rattle.base_letters.proofs.Fronts as fronts
 use Rattle.text_names.proofs.Tag as tag
 use Prim.Native.Nat.{ℕ, _<_}
 use borrow.Fn.Kinds.{In}
@@ -33,27 +32,35 @@ module _ (t : ℕ) where
   returns : tag-by-lts.Need-returns (known t) (tag-by-at t) tag-by.Post
   returns c =
       let start = c .before .before .before in let is = c .before .run-end .ensures in
-      λ tells. tag.short _ (fronts.counted (tells .alnum) (start .args .s .now) is) (c .if1 .taken)
+      tag.short _ (start .args .s .now) (start .args .at) is (c .if1 .taken)
+
+  add-t6 : tag-by-lts.Need-add-t6 (known t) (tag-by-at t) tag-by.Post
+  add-t6 c = let start = c .before .before .before .before in omega (arith, tag.fits _ _ (c .before .before .run-end .ensures), start .pre .1)
 
   returns-2 : tag-by-lts.Need-returns-2 (known t) (tag-by-at t) tag-by.Post
   returns-2 c =
       let start = c .before .before .before .before in let is = c .before .before .run-end .ensures in
-      λ tells. tag.long _ (fronts.counted (tells .alnum) (start .args .s .now) is) (c .if2 .taken)
+      tag.long _ (start .args .s .now) (start .args .at) is (c .if2 .taken)
 
   returns-3 : tag-by-lts.Need-returns-3 (known t) (tag-by-at t) tag-by.Post
   returns-3 c =
       let start = c .before .before .before .before .before in let is = c .before .before .before .run-end .ensures in
-      λ tells. tag.one _ (fronts.counted (tells .alnum) (start .args .s .now) is) (omega arith) (omega arith) (c .if3 .taken)
+      tag.one _ (start .args .s .now) (start .args .at) is (omega arith) (omega arith) (c .if3 .taken)
 
   shared-slice-read-if4 : tag-by-lts.Need-shared-slice-read-if4 (known t) (tag-by-at t) tag-by.Post
   shared-slice-read-if4 c =
       let start = c .before .before .before .before .before .before in let is = c .before .before .before .before .run-end .ensures in
       omega (arith, tag.fits _ _ is)
 
+  add-t10 : tag-by-lts.Need-add-t10 (known t) (tag-by-at t) tag-by.Post
+  add-t10 c =
+      let start = c .before .before .before .before .before .before .before in let is = c .before .before .before .before .before .run-end .ensures in
+      omega (arith, tag.fits _ _ is, start .pre .1)
+
   returns-4 : tag-by-lts.Need-returns-4 (known t) (tag-by-at t) tag-by.Post
   returns-4 c =
       let start = c .before .before .before .before .before .before .before in let is = c .before .before .before .before .before .run-end .ensures in
-      λ tells. tag.no-hyphen _ (fronts.counted (tells .alnum) (start .args .s .now) is) (omega arith) (omega arith) (omega (arith, tag.fits _ _ is)) (c .if4 .taken)
+      tag.no-hyphen _ (start .args .s .now) (start .args .at) is (omega arith) (omega arith) (omega (arith, tag.fits _ _ is)) (c .if4 .taken)
 
   add-tag-by : tag-by-lts.Need-add-tag-by (known t) (tag-by-at t) tag-by.Post
   add-tag-by c =
@@ -75,15 +82,25 @@ module _ (t : ℕ) where
       let start = c .before .before .before .before .before .before .before in let is = c .before .before .before .before .before .run-end .ensures in
       omega (arith, tag.fits _ _ is)
 
+  add-tag-by-2 : tag-by-lts.Need-add-tag-by-2 (known t) (tag-by-at t) tag-by.Post
+  add-tag-by-2 c =
+      let start = c .before .before .before .before .before .before .before .before in let is = c .before .before .before .before .before .before .run-end .ensures in
+      omega (arith, tag.fits _ _ is, start .pre .1)
+
+  add-tag-by-3 : tag-by-lts.Need-add-tag-by-3 (known t) (tag-by-at t) tag-by.Post
+  add-tag-by-3 c =
+      let start = c .before .before .before .before .before .before .before .before in let is = c .before .before .before .before .before .before .run-end .ensures in
+      omega (arith, tag.fits _ _ is, start .pre .1)
+
   tag-by-requires : tag-by-lts.Need-tag-by-requires (known t) (tag-by-at t) tag-by.Post
   tag-by-requires c κs =
       let start = c .before .before .before .before .before .before .before .before in let is = c .before .before .before .before .before .before .run-end .ensures in
-      (tag.less (start .args .s .now) (start .pre .0) (omega (arith, tag.fits _ _ is)), start .pre .1)
+      (tag.less (start .args .s .now) (start .pre .0) (omega (arith, tag.fits _ _ is)), tag.rest-fits (start .args .s .now) (start .args .at) _ _ (start .pre .1) (omega (arith, tag.fits _ _ is)))
 
   returns-5 : tag-by-lts.Need-returns-5 (known t) (tag-by-at t) tag-by.Post
   returns-5 c =
       let start = c .before .before .before .before .before .before .before .before .before in let is = c .before .before .before .before .before .before .before .run-end .ensures in
-      λ tells. c .tag-by .ensures tells ∙ tag.next _ (fronts.counted (tells .alnum) (start .args .s .now) is) (omega arith) (omega arith) (omega (arith, tag.fits _ _ is)) (c .before .before .if4 .left)
+      c .tag-by .ensures ∙ tag.next _ (start .args .s .now) (start .args .at) is (omega arith) (omega arith) (omega (arith, tag.fits _ _ is)) (c .before .before .if4 .left)
 
 pub +tag-by-spec : {M : Type 1} → statement M
 +tag-by-spec = close μ-tag-by λ t. tag-by-lts.spec (known t)
@@ -91,13 +108,17 @@ pub +tag-by-spec : {M : Type 1} → statement M
     tag-by.Post
     (run-end-requires t)
     (returns t)
+    (add-t6 t)
     (returns-2 t)
     (returns-3 t)
     (shared-slice-read-if4 t)
+    (add-t10 t)
     (returns-4 t)
     (add-tag-by t)
     (sub-tag-by t)
     (part-tag-by-start t)
     (part-tag-by-end t)
+    (add-tag-by-2 t)
+    (add-tag-by-3 t)
     (tag-by-requires t)
     (returns-5 t)

@@ -2,16 +2,16 @@ use mathlib.Core.Path.{sym, _∙_}
 use Prim.Native.Nat.{_-_}
 use native.Mathlib.Omega.{arith}
 use borrow.Author.Needs.{needs}
-use borrow.Author.Tests.{not-true, not-false}
 use lib.ListN.{length}
-use Rattle.base_letters.specs.Classes.{TellsBytes}
-use Rattle.base_letters.proofs.Fronts as fronts
+use Rattle.base_letters.specs.Classes.{isOf}
+use Rattle.text_names.specs.Tested.{tested}
+use Rattle.text_names.specs.Computed.{tagFrom, tagPasses}
 use Rattle.text_names.proofs.Tag as tag
 use Rattle.text_names.proofs.long_tag_by.Statement.{statement}
 use Rattle.text_names.proofs.long_tag_by.Tie as tie
 
 abbrev Inv-loop : tie.InvT-loop
-Inv-loop table s k₀ i₀ k i = tag.Reads (TellsBytes table) s i k
+Inv-loop table s k₀ i₀ k i = tag.Reads (isOf table 3) s (tested (tagFrom (isOf table 3) s 0) (tagPasses (isOf table 3) s 0)) i k
 
 abbrev μ-loop : tie.MeasureT-loop
 μ-loop table s k₀ i₀ k i = length s - i
@@ -19,14 +19,17 @@ abbrev μ-loop : tie.MeasureT-loop
 loop-holds : tie.Need-loop-holds Inv-loop μ-loop
 loop-holds c = tag.reads-start _ _
 
-shared-slice-read-if1 : tie.Need-shared-slice-read-if1 Inv-loop μ-loop
-shared-slice-read-if1 c = search needs
+shared-slice-read-is-of : tie.Need-shared-slice-read-is-of Inv-loop μ-loop
+shared-slice-read-is-of c = search needs
 
-is-size-requires : tie.Need-is-size-requires Inv-loop μ-loop
-is-size-requires c κs = search needs
+is-of-requires : tie.Need-is-of-requires Inv-loop μ-loop
+is-of-requires c κs = search needs
 
 returns : tie.Need-returns Inv-loop μ-loop
-returns c = tag.reads-size (c .before .before .before .before .before .loop .inv) (omega arith) (c .before .before .if1 .taken) (sym (c .before .is-size .ensures) ∙ not-true _ (c .if2 .taken))
+returns c = tag.reads-nine _ (c .before .before .before .before .before .loop .inv) (omega arith) (sym (c .before .before .is-of .ensures) ∙ (c .before .if1 .taken)) (c .if2 .taken)
+
+add-k : tie.Need-add-k Inv-loop μ-loop
+add-k c = omega (arith, c .before .before .before .before .before .loop .inv .few)
 
 add-i : tie.Need-add-i Inv-loop μ-loop
 add-i c = omega arith
@@ -35,21 +38,16 @@ loop-less : tie.Need-loop-less Inv-loop μ-loop
 loop-less c = omega arith
 
 loop-again : tie.Need-loop-again Inv-loop μ-loop
-loop-again c = tag.reads-hyphen (c .before .before .before .before .before .loop .inv) (omega arith) (c .before .before .if1 .taken) (sym (c .before .is-size .ensures) ∙ not-false _ (c .if2 .left))
+loop-again c = tag.reads-more _ (c .before .before .before .before .before .loop .inv) (omega arith) (sym (c .before .before .is-of .ensures) ∙ (c .before .if1 .taken)) (c .if2 .left)
 
-shared-slice-read-is-of : tie.Need-shared-slice-read-is-of Inv-loop μ-loop
-shared-slice-read-is-of c = search needs
-
-is-of-requires : tie.Need-is-of-requires Inv-loop μ-loop
-is-of-requires c κs = search needs
+shared-slice-read-if3 : tie.Need-shared-slice-read-if3 Inv-loop μ-loop
+shared-slice-read-if3 c = search needs
 
 returns-2 : tie.Need-returns-2 Inv-loop μ-loop
-returns-2 c =
-    let inv = c .before .before .before .before .before .before .loop .inv in
-    tag.reads-other inv (omega arith) (c .before .before .before .if1 .left) (λ tells. fronts.asked (tells .alnum) _ (c .before .is-of .ensures) ∙ not-true _ (c .if3 .taken))
+returns-2 c = tag.reads-other _ (c .before .before .before .before .before .before .loop .inv) (omega arith) (sym (c .before .before .before .is-of .ensures) ∙ (c .before .before .if1 .left)) (c .if3 .taken)
 
-add-k : tie.Need-add-k Inv-loop μ-loop
-add-k c = let v = (c .before .before .before .before .before .before .loop .inv) in omega (arith, v .few, v .within)
+returns-3 : tie.Need-returns-3 Inv-loop μ-loop
+returns-3 c = tag.reads-empty _ (c .before .before .before .before .before .before .before .loop .inv) (omega arith) (sym (c .before .before .before .before .is-of .ensures) ∙ (c .before .before .before .if1 .left)) (c .if4 .taken)
 
 add-i-2 : tie.Need-add-i-2 Inv-loop μ-loop
 add-i-2 c = omega arith
@@ -58,13 +56,13 @@ loop-less-2 : tie.Need-loop-less-2 Inv-loop μ-loop
 loop-less-2 c = omega arith
 
 loop-again-2 : tie.Need-loop-again-2 Inv-loop μ-loop
-loop-again-2 c = tag.reads-more (c .before .before .before .before .before .before .loop .inv) (omega arith) (λ tells. fronts.asked (tells .alnum) _ (c .before .is-of .ensures) ∙ not-false _ (c .if3 .left))
+loop-again-2 c = tag.reads-hyphen _ (c .before .before .before .before .before .before .before .loop .inv) (omega arith) (sym (c .before .before .before .before .is-of .ensures) ∙ (c .before .before .before .if1 .left)) (c .before .if3 .left) (c .if4 .left)
 
-is-size-requires-2 : tie.Need-is-size-requires-2 Inv-loop μ-loop
-is-size-requires-2 c κs = search needs
+whole-or-stops-requires : tie.Need-whole-or-stops-requires Inv-loop μ-loop
+whole-or-stops-requires c κs = search needs
 
-returns-3 : tie.Need-returns-3 Inv-loop μ-loop
-returns-3 c = λ tells. (c .is-size2 .ensures) ∙ tag.reads-end (c .before .before .loop .inv) (omega arith) tells
+returns-4 : tie.Need-returns-4 Inv-loop μ-loop
+returns-4 c = c .whole-or-stops .ensures .0 ∙ tag.reads-end _ (c .before .before .loop .inv) (omega arith)
 
 pub long-tag-by-spec : {M : Type 1} → statement M
 long-tag-by-spec =
@@ -73,18 +71,18 @@ long-tag-by-spec =
     Inv-loop
     μ-loop
     loop-holds
-    shared-slice-read-if1
-    is-size-requires
+    shared-slice-read-is-of
+    is-of-requires
     returns
+    add-k
     add-i
     loop-less
     loop-again
-    shared-slice-read-is-of
-    is-of-requires
+    shared-slice-read-if3
     returns-2
-    add-k
+    returns-3
     add-i-2
     loop-less-2
     loop-again-2
-    is-size-requires-2
-    returns-3)
+    whole-or-stops-requires
+    returns-4)

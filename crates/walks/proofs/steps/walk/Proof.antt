@@ -1,12 +1,27 @@
 -- `walk` ends, since each token takes the walker on.
 -- Assumes nothing.
-use Prim.Native.Nat.{_-_, _≤_, zero-le}
+use mathlib.Core.Path.{_≡_}
+use mathlib.Core.List.{List, [], _∷_}
+use Prim.Native.Nat.{ℕ, _-_, _≤_, zero-le}
 use native.Mathlib.Omega.{arith}
 use borrow.Author.Needs.{needs}
 use lib.ListN.{length}
-use Rattle.block_next_token.proofs.Steps.{tag-not-bad, onward}
+use types.Run.{OneOf}
+use denote.Enum.Declared.{tagOf}
+use Rattle.base_bytes.specs.declared.Mode.{Mode}
+use Rattle.block_tokens.specs.declared.Token.{Token}
+use Rattle.block_tokens.proofs.Token as Tk
+use Rattle.block_next_token.specs.Walk.{stepAt}
+use Rattle.block_next_token.specs.declared.Ahead.the-variants.{Found}
+use Rattle.block_next_token.specs.declared.Step.{Step}
+use Rattle.block_next_token.proofs.Steps.{tag-not-bad, Onward, onward}
 use Rattle.walks.proofs.steps.walk.Statement.{statement}
 use Rattle.walks.proofs.steps.walk.Tie as tie
+
+-- a step over a token of any variant but the first takes the walker on
+goes-on : (m : Mode) (s : List ℕ) (at : ℕ) {x : Step} → at ≤ length s → x ≡ stepAt m s at → {t : Token} → x .ahead ≡ Found t
+    → OneOf (1 ∷ 2 ∷ 3 ∷ 4 ∷ 5 ∷ 6 ∷ []) (tagOf Tk.the-type t) → Onward s at x
+goes-on m s at fits is {t} e k = onward m s at fits is e (tag-not-bad t k)
 
 abbrev Inv-steps : tie.InvT-steps
 Inv-steps text mode i₀ i = i ≤ length text
@@ -41,10 +56,10 @@ returns-2 c = search needs
 steps-less : tie.Need-steps-less Inv-steps μ-steps
 steps-less c =
     let at5 = c .before .before .before .before .before in let at6 = at5 .before in
-    let o = onward _ _ _ (at6 .steps .inv) (at5 .step-from .ensures .0) (c .before .before .ahead .given .1) (tag-not-bad _ (c .match2 .keys2)) in omega (arith, o .ahead, o .within)
+    let o = goes-on _ _ _ (at6 .steps .inv) (at5 .step-from .ensures .0) (c .before .before .ahead .given .1) (c .match2 .keys2) in omega (arith, o .ahead, o .within)
 
 steps-again : tie.Need-steps-again Inv-steps μ-steps
-steps-again c = let at5 = c .before .before .before .before .before in let at6 = at5 .before in (onward _ _ _ (at6 .steps .inv) (at5 .step-from .ensures .0) (c .before .before .ahead .given .1) (tag-not-bad _ (c .match2 .keys2))) .within
+steps-again c = let at5 = c .before .before .before .before .before in let at6 = at5 .before in (goes-on _ _ _ (at6 .steps .inv) (at5 .step-from .ensures .0) (c .before .before .ahead .given .1) (c .match2 .keys2)) .within
 
 pub walk-spec : {M : Type 1} → statement M
 walk-spec =
