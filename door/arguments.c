@@ -28,6 +28,7 @@ int main(void)
     EXPECT(!bridlesnow_valid_wrapped_attr_continuation(NULL, 0));
     EXPECT(bridlesnow_read_attrs_at(NULL, 0, 0, 0, NULL, 0, NULL, 0) == 3);
     EXPECT(bridlesnow_read_attrs_at_tags(NULL, 0, 0, 0, 1, NULL, 0, NULL, 0) == 3);
+    EXPECT(bridlesnow_read_attrs_once(NULL, 0, 0, 0, 1, NULL, 0, NULL, 0) == 3);
     EXPECT(bridlesnow_parse_standalone_attrs(NULL, 0, 1, NULL, 0, NULL, 0) == 3);
     EXPECT(bridlesnow_merge_lines(NULL, 0, 1, 2, NULL, 0, NULL, 0) == 3);
     EXPECT(bridlesnow_parse_standalone_attrs_block(NULL, 0, 1, NULL, 0, NULL, 0, NULL, 0) == 3);
@@ -78,6 +79,8 @@ int main(void)
     EXPECT(bridlesnow_read_attrs_at(block, 3, 0, 0, out, 16, told, 3) == 4 && told[2] == 0);
     told[2] = 99;
     EXPECT(bridlesnow_read_attrs_at(block, 4, 0, 0, out, 10, told, 3) == 10 && told[0] == 4 && told[2] == 0);
+    EXPECT(bridlesnow_read_attrs_once((const uint8_t *)"{:1 =}", 6, 0, 0, 1, out, 16, told, 3) == 5 && told[0] == 0 && told[2] == 3);
+    EXPECT(bridlesnow_read_attrs_once((const uint8_t *)"{:1}", 4, 0, 0, 1, out, 16, told, 3) == 13 && told[2] == 0);
     EXPECT(bridlesnow_read_attrs_at_tags((const uint8_t *)"{:1 =}", 6, 0, 0, 1, out, 16, told, 3) == 5 && told[0] == 0 && told[2] == 3);
     EXPECT(bridlesnow_read_attrs_at_tags((const uint8_t *)"{:1}", 4, 0, 0, 1, out, 16, told, 3) == 13 && told[2] == 0);
     /* A tag that isn't well-formed: refused where it is looked at, and the memory as it was. */

@@ -10,7 +10,7 @@
  *     3  nothing is there to read                  10  the canonical text has more than 65,535 bytes, or a text more than `out`
  *     4  no close                                  11  (never given here: a set that isn't well-formed)
  *     5  no reading                                12  nothing is left of a set (bridlesnow_consume_loose alone)
- *     6  more than 64 classes                      13  the language tag isn't well-formed (bridlesnow_read_attrs_at_tags alone)
+ *     6  more than 64 classes                      13  the language tag isn't well-formed (bridlesnow_read_attrs_at_tags and _once)
  *    14  not an index, or not the old text's       17  a total over all sheets would not fit 64 bits, or has no room
  *    15  the records have no room in `table`       18  more than 32 columns
  *    16  an index of another version               20  one or two of `variant`, `wheel` and `valve`, or a value out of range
@@ -143,6 +143,11 @@ uint8_t bridlesnow_read_attrs_at(const uint8_t *text, size_t text_len, size_t pl
  * Order: 1, 3, 4, 2 (of the payload), 5, 13, 6, 7, then 2 (of the whole text) and 10. Tells as above. */
 uint8_t bridlesnow_read_attrs_at_tags(const uint8_t *text, size_t text_len, size_t place, uint8_t loose, uint8_t strict_tags,
                                       uint8_t *out, size_t out_len, size_t *told, size_t told_len);
+
+/* A second reader, in one walk over the bytes. It answers just what bridlesnow_read_attrs_at_tags does for every text, place, mode and choice of tags, the
+ * numbers, places and canonical text, which is proved. The desktop tool takes this one; the display keeps the first. */
+uint8_t bridlesnow_read_attrs_once(const uint8_t *text, size_t text_len, size_t place, uint8_t loose, uint8_t strict_tags,
+                                   uint8_t *out, size_t out_len, size_t *told, size_t told_len);
 
 /* Reads one line of blocks that stand back to back. Order: 1, 2, 3, 5, 6, 7, 10.
  * Tells: the length of the canonical text. */

@@ -18,6 +18,11 @@ pub fn ids() -> Vec<u8> {
     format!("{{{}}}", names.join(" ")).into_bytes()
 }
 
+/// A block of one value of so many bytes, in quotes or plain, with something before its close.
+pub fn value(size: usize, quote: &str, last: &str) -> Vec<u8> {
+    format!("{{k={quote}{}{quote}{last}}}", "a".repeat(size)).into_bytes()
+}
+
 /// Lines from `next`, numbered from 0, as long as they fit into `size` bytes.
 fn filled(size: usize, mut next: impl FnMut(usize) -> String) -> Vec<u8> {
     let mut text = Vec::new();

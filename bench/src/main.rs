@@ -115,6 +115,61 @@ fn at_a_brace() {
     }
 }
 
+/// The second reader beside the first, each with its set left in memory.
+fn two_readers() {
+    println!("\n| two readers at a brace | first | second | second / first | goal |\n|---|---|---|---|---|");
+    let (mut set, mut other) = (Set::new(), Set::new());
+    let texts: [(&str, Vec<u8>, f64); 8] = [
+        ("wheel, 51 bytes", inputs::WHEEL.to_vec(), 0.7),
+        ("`{.a}`", inputs::SMALL.to_vec(), 0.7),
+        ("names in capitals, 64 bytes", inputs::CAPITALS.to_vec(), 1.25),
+        ("6,000 ids", inputs::ids(), 1.25),
+        ("a quoted value of 60 KB", inputs::value(60_000, "\"", ""), 0.4),
+        ("a plain value of 60 KB", inputs::value(60_000, "", ""), 0.7),
+        ("60 KB, wrong at its last byte", inputs::value(60_000, "\"", "="), 1.25),
+        ("60 KB, wrong at once", [b"{=".to_vec(), inputs::value(60_000, "", "")[1..].to_vec()].concat(), 1.25),
+    ];
+    for (name, text, goal) in texts {
+        ours::read_set(&text, 0, &mut set);
+        ours::read_set_once(&text, 0, &mut other);
+        assert_eq!(set.was_read(), other.was_read(), "{name}");
+        let times = both(
+            || {
+                ours::read_set(black_box(&text), 0, &mut set);
+                black_box(&set);
+            },
+            || {
+                ours::read_set_once(black_box(&text), 0, &mut other);
+                black_box(&other);
+            },
+        );
+        row(name, times, goal);
+    }
+    println!("\n| once more the length, 64 KB / 32 KB | first | second | goal |\n|---|---|---|---|");
+    for (name, quote, last) in [("a quoted value", "\"", ""), ("a plain value", "", ""), ("wrong at its last byte", "\"", "=")] {
+        let (whole, half) = (inputs::value(64_000, quote, last), inputs::value(32_000, quote, last));
+        let first = both(|| ours::read_set(black_box(&half), 0, &mut set), || ours::read_set(black_box(&whole), 0, &mut other));
+        let second = both(|| ours::read_set_once(black_box(&half), 0, &mut set), || ours::read_set_once(black_box(&whole), 0, &mut other));
+        let (first, second) = (first.1 / first.0, second.1 / second.0);
+        let met = if first <= 2.5 && second <= 2.5 { "met" } else { "missed" };
+        println!("| {name} | {first:.2} | {second:.2} | 2.5, {met} |");
+    }
+}
+
+/// A payload that is wrong at its last byte, by the first reader, against the same made good.
+fn places() {
+    println!("\n| where the payload went wrong, 60 KB | made good | wrong at its last byte | wrong / good | goal |\n|---|---|---|---|---|");
+    let (mut set, mut other) = (Set::new(), Set::new());
+    for (name, quote) in [("a quoted value", "\""), ("a plain value", "")] {
+        let (good, wrong) = (inputs::value(60_000, quote, " a"), inputs::value(60_000, quote, " ="));
+        ours::read_set(&good, 0, &mut set);
+        ours::read_set(&wrong, 0, &mut other);
+        assert!(set.was_read() && !other.was_read(), "{name}");
+        let times = both(|| ours::read_set(black_box(&good), 0, &mut set), || ours::read_set(black_box(&wrong), 0, &mut other));
+        row(name, times, 2.0);
+    }
+}
+
 fn utf8() {
     header("UTF-8");
     let texts = [
@@ -459,6 +514,7 @@ fn stack(input: Option<String>) {
     ours::sheet(&text, &mut m);
     ours::is_utf8(&text);
     ours::read_set(&text, 0, &mut set);
+    ours::read_set_once(&text, 0, &mut set);
     black_box(ours::read_attrs_at(&text, 0, &mut m));
     black_box(ours::parse_standalone_attrs(&text, 1, &mut m));
     black_box(ours::parse_block(&text, 1, &mut m));
@@ -478,6 +534,8 @@ fn main() {
         return stack(words.get(2).cloned());
     }
     at_a_brace();
+    two_readers();
+    places();
     utf8();
     by_line();
     whole_job();

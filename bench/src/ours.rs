@@ -55,6 +55,8 @@ extern "C" {
     /// `read_brace::read_attrs_at_with`, which `bench/run` makes visible: it answers by a struct that the caller has room for, takes a slice by a
     /// pointer to its two words, and the mode by a pointer to its number.
     fn read_brace__read_attrs_at_with(answer: *mut u8, text: *const Slice, place: usize, mode: *const u8);
+    /// The second reader, likewise; its choice of tags by a pointer to its number.
+    fn read_once__read_attrs_once_with(answer: *mut u8, text: *const Slice, place: usize, mode: *const u8, tags: *const u8);
 }
 
 /// The set of a block at a brace as the reader hands it out: the answer's number stands first, 2 where a set was read.
@@ -105,6 +107,12 @@ pub fn is_utf8(text: &[u8]) -> bool {
 pub fn read_set(text: &[u8], place: usize, set: &mut Set) {
     let slice = Slice { ptr: text.as_ptr(), len: text.len() };
     unsafe { read_brace__read_attrs_at_with(set.0.as_mut_ptr(), &slice, place, &0u8) }
+}
+
+/// The same by the second reader, any tag taken.
+pub fn read_set_once(text: &[u8], place: usize, set: &mut Set) {
+    let slice = Slice { ptr: text.as_ptr(), len: text.len() };
+    unsafe { read_once__read_attrs_once_with(set.0.as_mut_ptr(), &slice, place, &0u8, &0u8) }
 }
 
 /// The strict reading at a brace, its canonical text left in `out`: its length.

@@ -57,6 +57,10 @@ mod raw {
             text: *const u8, len: usize, place: usize, loose: u8, strict_tags: u8,
             out: *mut u8, out_len: usize, told: *mut usize, told_len: usize,
         ) -> u8;
+        pub fn bridlesnow_read_attrs_once(
+            text: *const u8, len: usize, place: usize, loose: u8, strict_tags: u8,
+            out: *mut u8, out_len: usize, told: *mut usize, told_len: usize,
+        ) -> u8;
         pub fn bridlesnow_parse_standalone_attrs(
             text: *const u8, len: usize, line: usize,
             out: *mut u8, out_len: usize, told: *mut usize, told_len: usize,
@@ -452,6 +456,18 @@ impl Reader {
         self.at_brace(number, told)
     }
 
+    /// The same by a second reader, in one walk over the bytes: it answers alike, which is proved. The desktop tool takes this one; the display keeps the first.
+    pub fn read_attrs_once(&mut self, text: &[u8], place: usize, mode: Mode, tags: Tags) -> Result<(usize, &str), Unread> {
+        let mut told = [0usize; 3];
+        let number = unsafe {
+            raw::bridlesnow_read_attrs_once(
+                text.as_ptr(), text.len(), place, u8::from(mode == Mode::Loose), u8::from(tags == Tags::WellFormed),
+                self.out.as_mut_ptr(), self.out.len(), told.as_mut_ptr(), told.len(),
+            )
+        };
+        self.at_brace(number, told)
+    }
+
     /// One line of blocks.
     pub fn parse_standalone_attrs(&mut self, text: &[u8], line: usize) -> Result<&str, Refusal> {
         let mut told = [0usize; 1];
@@ -813,6 +829,30 @@ mod tests {
         assert_eq!(number(&format!("{{:x{}}}", "-1".repeat(32000)), Tags::WellFormed), 0);
         assert_eq!(reader.read_attrs_at_tags(b"{k=\xff :1}", 0, Mode::Strict, Tags::WellFormed), refused(2));
         assert_eq!(reader.read_attrs_at_tags(b"a{:de-DE}", 1, Mode::Loose, Tags::WellFormed), Ok((9, "{lang=\"de-DE\"}")));
+    }
+
+    /// Both readers on the same inputs: every number, both modes, both choices of tags.
+    #[test]
+    fn two_readers() {
+        let (mut first, mut second) = (Reader::new(), Reader::new());
+        let many = |word: &str, last: &str| format!("{{{}{last}}}", (0..66).map(|i| format!(" {word}{i}")).collect::<String>());
+        let mut texts: Vec<Vec<u8>> = [
+            "", "a", "{", "{}", "{ }", "{.a}", "{#v17 .wheel side=\"left\"}", "{=", "{=\\}", "{=\"}", "{=\\}}", "{=\"}\"}", "{a=}", "{.}", "{:a-}", "{_a}", "{_a=1}", "{a=\"}\"}", "{a='\\''}",
+            "{\na}", "{a\rb}", "{class=\" a  b \"}", "{class=\"\"}", "{class}", "{k=1 k=2 id=x #y}", "{:1}", "{:1 :en}", "{:en lang=1}", "{:1 =}", "{a=\u{e9}}", "{\u{e9}}", "{a=1}}", "{a\"}",
+        ].iter().map(|text| text.as_bytes().to_vec()).collect();
+        for last in ["", " =", " :1", " :en"] {
+            texts.extend([many(".c", last), many("k", last), many(".c", &many("k", last)[1..])].map(String::into_bytes));
+        }
+        texts.extend([b"{=\xff}".to_vec(), b"{=\xff".to_vec(), b"{k=\xff}".to_vec(), vec![b'{'; MAX + 1]]);
+        for text in &texts {
+            for place in [0, 1, text.len(), usize::MAX] {
+                for mode in [Mode::Strict, Mode::Loose] {
+                    for tags in [Tags::Any, Tags::WellFormed] {
+                        assert_eq!(first.read_attrs_at_tags(text, place, mode, tags), second.read_attrs_once(text, place, mode, tags), "{text:?} {place}");
+                    }
+                }
+            }
+        }
     }
 
     #[test]
@@ -1287,6 +1327,7 @@ mod tests {
             assert_eq!(raw::bridlesnow_read_attrs_at(null(), 0, 0, 0, null_mut(), 0, null_mut(), 0), 3);
             assert_eq!(raw::bridlesnow_read_attrs_at(b"{.a}".as_ptr(), 4, 0, 7, null_mut(), 0, null_mut(), 0), 10);
             assert_eq!(raw::bridlesnow_read_attrs_at_tags(null(), 0, 0, 0, 1, null_mut(), 0, null_mut(), 0), 3);
+            assert_eq!(raw::bridlesnow_read_attrs_once(null(), 0, 0, 0, 1, null_mut(), 0, null_mut(), 0), 3);
             assert_eq!(raw::bridlesnow_parse_standalone_attrs_block(null(), 0, 1, null_mut(), 0, null_mut(), 0, null_mut(), 0), 3);
             assert_eq!(raw::bridlesnow_standalone_attrs_block_len(b"{a\n b}".as_ptr(), 6, 1, null_mut(), 0, null_mut(), 0), 9);
             assert_eq!(raw::bridlesnow_merge_lines(null(), 0, 1, 2, null_mut(), 0, null_mut(), 0), 3);

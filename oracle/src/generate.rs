@@ -6,7 +6,7 @@
 //!     generate groups KIND SEED FROM COUNT          triples of lines for the merger of groups, of a KIND of its own
 //!
 //! FAMILIES are names parted by commas: leaves, brace, lines, refused, merge, sheet, rows, quick, merge2, repeats,
-//! variants, report, reports, index, mends, loose, columns, place, lang, once; `all` stands for all of them but `once`.
+//! variants, report, reports, index, mends, loose, columns, place, lang, once; `all` stands for all of them.
 //! The family `errors`, which is in no `all`, damages the request lines themselves.
 //! Each request is made from the seed and its own number, so any part of the list can be made again. A request that
 //! carries the index of a text has it from the oracle's own modules.
@@ -32,12 +32,10 @@ use index::{INDEX_LIMIT, ROWS_LIMIT};
 use std::io::{self, BufWriter, Write};
 use std::sync::{Mutex, OnceLock};
 
-const FAMILIES: [&str; 19] = [
+const FAMILIES: [&str; 20] = [
     "leaves", "brace", "lines", "refused", "merge", "sheet", "rows", "quick", "merge2", "repeats", "variants", "report", "index",
-    "mends", "loose", "columns", "reports", "place", "lang",
+    "mends", "loose", "columns", "reports", "place", "lang", "once",
 ];
-/// Families of requests that are for two readers, of which there is one as yet: only when named.
-const LATER: [&str; 1] = ["once"];
 /// Kinds of strings of which there are only lists of all.
 const LISTED: [&str; 10] = [
     "payload", "text", "refused-text", "bytes", "place-characters", "place-tags", "place-bytes", "lang-letters", "lang-kinds", "lang-subtags",
@@ -3512,7 +3510,7 @@ fn main() -> io::Result<()> {
     let words: Vec<String> = std::env::args().skip(1).collect();
     let words: Vec<&str> = words.iter().map(String::as_str).collect();
     let number_of = |word: &str| word.parse::<u64>().ok();
-    let known = |name: &str| FAMILIES.contains(&name) || LATER.contains(&name);
+    let known = |name: &str| FAMILIES.contains(&name);
     let listed = |name: &str| known(name) || LISTED.contains(&name);
     let mut to = BufWriter::with_capacity(1 << 20, io::stdout().lock());
     let mut out = Out { line: Vec::new() };

@@ -3,11 +3,12 @@ use read_tags::Tags;
 ghost use mathlib.Core.Path.{_≡_};
 ghost use Rattle.door_shared.specs.Tells.{toldIn};
 ghost use Rattle.door_sets.specs.Sets.{modeOf};
-ghost use Rattle.door_tags.specs.Tags.{tagsOf, taggedSaid};
+ghost use Rattle.door_tags.specs.Tags.{tagsOf, tagsPaper, taggedSaid};
 
 // 0 takes any language tag, any other number well-formed ones and the empty one.
-fn tags_of(strict: u8) -> Tags
+pub fn tags_of(strict: u8) -> Tags
     ensures { λ r. ⌜ r ≡ tagsOf strict ⌝ }
+    ensures { λ r. ⌜ tagsPaper r ≡ tagsPaper (tagsOf strict) ⌝ }
 {
     if strict == 0 {
         return Tags::Any;

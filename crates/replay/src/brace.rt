@@ -1,5 +1,7 @@
 // Requests for a payload alone, and at a brace.
 use crate::fields;
+use crate::readers;
+use crate::readers::Twice;
 use crate::reply;
 use crate::reply::Reply;
 use base_bytes::Mode;
@@ -21,18 +23,18 @@ pub(crate) fn answer(word: usize, place: usize, text: &[u8]) -> Reply {
 // A place and the number of a mode.
 pub(crate) fn answer_read(text: &[u8], place: usize, mode: usize, canon: &mut [u8]) -> Reply {
     match mode {
-        0 => told(
-            read_brace::read_attrs_at_with(text, place, Mode::Strict),
-            text,
-            canon,
-        ),
-        1 => told(
-            read_brace::read_attrs_at_with(text, place, Mode::Loose),
-            text,
-            canon,
-        ),
+        0 => both(readers::ordinary(text, place, Mode::Strict), text, canon),
+        1 => both(readers::ordinary(text, place, Mode::Loose), text, canon),
         _ => reply::alone(reply::ERROR),
     }
+}
+
+// What both readers say, or that they differ.
+pub(crate) fn both(twice: Twice, text: &[u8], canon: &mut [u8]) -> Reply {
+    if !twice.alike {
+        return reply::alone(reply::DIFFER);
+    }
+    told(twice.read, text, canon)
 }
 
 // What was read at a brace, a payload with no reading without its place.

@@ -13,6 +13,7 @@ mod merging;
 mod out;
 mod past;
 mod places;
+mod readers;
 mod refusing;
 mod reply;
 mod reports;

@@ -39,55 +39,57 @@ pub(crate) const ANOTHER: usize = 8;
 pub(crate) const SPOILED: usize = 9;
 
 pub(crate) const WHOLE: usize = 10;
+
+pub(crate) const DIFFER: usize = 11;
 // Phrases with a number behind them, the first of no bytes.
-pub(crate) const NUMBER: usize = 11;
+pub(crate) const NUMBER: usize = 12;
 
-pub(crate) const REFUSED: usize = 12;
+pub(crate) const REFUSED: usize = 13;
 
-pub(crate) const OK_NEXT: usize = 13;
+pub(crate) const OK_NEXT: usize = 14;
 
-pub(crate) const OK_LINES: usize = 14;
+pub(crate) const OK_LINES: usize = 15;
 
-pub(crate) const LINES: usize = 15;
+pub(crate) const LINES: usize = 16;
 
-pub(crate) const NO_AT: usize = 16;
+pub(crate) const NO_AT: usize = 17;
 
-pub(crate) const FROM: usize = 17;
+pub(crate) const FROM: usize = 18;
 
-pub(crate) const TO: usize = 18;
+pub(crate) const TO: usize = 19;
 
-pub(crate) const ENDS: usize = 19;
+pub(crate) const ENDS: usize = 20;
 
-pub(crate) const NEXT: usize = 20;
+pub(crate) const NEXT: usize = 21;
 
-pub(crate) const BYTE: usize = 21;
+pub(crate) const BYTE: usize = 22;
 
-pub(crate) const FIRST: usize = 22;
+pub(crate) const FIRST: usize = 23;
 
-pub(crate) const SECOND: usize = 23;
+pub(crate) const SECOND: usize = 24;
 
-pub(crate) const UNREAD: usize = 24;
+pub(crate) const UNREAD: usize = 25;
 
-pub(crate) const LOOKAHEAD: usize = 25;
+pub(crate) const LOOKAHEAD: usize = 26;
 
-pub(crate) const CANON_REFUSED: usize = 26;
+pub(crate) const CANON_REFUSED: usize = 27;
 
-pub(crate) const AT: usize = 27;
+pub(crate) const AT: usize = 28;
 // Phrases with bytes in hex behind them, the first of no bytes.
-pub(crate) const BYTES: usize = 28;
+pub(crate) const BYTES: usize = 29;
 
-pub(crate) const JOINED: usize = 29;
+pub(crate) const JOINED: usize = 30;
 
-pub(crate) const CANON: usize = 30;
+pub(crate) const CANON: usize = 31;
 // No bytes, with bytes as they are behind them.
-pub(crate) const LETTERS: usize = 31;
+pub(crate) const LETTERS: usize = 32;
 // What stands before a report.
-pub(crate) const SHEET: usize = 32;
+pub(crate) const SHEET: usize = 33;
 
 // Adds the phrase of a number, in the order of the numbers above.
 pub(crate) fn put_phrase(output: &mut [u8], at: usize, phrase: usize) -> usize {
     let list =
-        b"/error/yes/no/ok/none/end/no end/another part/ joined spoiled/whole//refused /ok next /ok lines /lines /no /from / to /to / next /byte /unread first /unread second /unread / lookahead / canon refused / at // joined / canon //sheet ";
+        b"/error/yes/no/ok/none/end/no end/another part/ joined spoiled/whole/readers differ//refused /ok next /ok lines /lines /no /from / to /to / next /byte /unread first /unread second /unread / lookahead / canon refused / at // joined / canon //sheet ";
     out::put(output, at, fields::field(list, b'/', phrase))
 }
 

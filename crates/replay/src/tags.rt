@@ -2,13 +2,14 @@
 use crate::ask;
 use crate::brace;
 use crate::fields;
+use crate::readers;
+use crate::readers::Twice;
 use crate::reply;
 use crate::reply::Reply;
 use base_bytes::Mode;
 use base_refusals::Refusal;
 use read_brace::Answer;
 use read_brace::Read;
-use read_tags::Tags;
 
 // How many words there are, the number of a line that has none of them.
 pub(crate) const NONE: usize = 4;
@@ -81,18 +82,18 @@ fn read_at(word: usize, line: &[u8], text: &[u8], canon: &mut [u8]) -> Reply {
 
 fn read(word: usize, text: &[u8], place: usize, mode: Mode, canon: &mut [u8]) -> Reply {
     match word {
-        1 => brace::told(tagged(text, place, mode), text, canon),
-        2 => placed(
-            read_brace::read_attrs_at_with(text, place, mode),
-            text,
-            canon,
-        ),
-        _ => placed(tagged(text, place, mode), text, canon),
+        1 => brace::both(readers::strictly(text, place, mode), text, canon),
+        2 => placed_by(readers::ordinary(text, place, mode), text, canon),
+        _ => placed_by(readers::strictly(text, place, mode), text, canon),
     }
 }
 
-fn tagged(text: &[u8], place: usize, mode: Mode) -> Read {
-    read_tags::read_attrs_at_tags(text, place, mode, Tags::WellFormed)
+// What both readers say, or that they differ.
+fn placed_by(twice: Twice, text: &[u8], canon: &mut [u8]) -> Reply {
+    if !twice.alike {
+        return reply::alone(reply::DIFFER);
+    }
+    placed(twice.read, text, canon)
 }
 
 // What was read at a brace, a payload with no reading with its place.

@@ -24,7 +24,7 @@ same-length-2 c = search needs
 returns : tie.Need-returns
 returns c =
     let at4 = c .before .before .before .before in let at7 = at4 .before .before .before in let start = at7 .before .before .before .before .before .before in
-    laws.tagged-said (start .args .text .now) _ _ (start .args .place) (at7 .before .tags-of .ensures) (at7 .before .before .mode-of .ensures .0) (at7 .read-attrs-at-tags .ensures .0) (at4 .hand-read .ensures)
+    laws.tagged-said (start .args .text .now) _ _ (start .args .place) (at7 .before .tags-of .ensures .0) (at7 .before .before .mode-of .ensures .0) (at7 .read-attrs-at-tags .ensures .0) (at4 .hand-read .ensures)
 
 pub bridlesnow-read-attrs-at-tags-spec : {M : Type 1} → statement M
 bridlesnow-read-attrs-at-tags-spec =

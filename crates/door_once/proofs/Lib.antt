@@ -1,0 +1,1 @@
+-- Its proof cites the laws of door_tags.

@@ -1,0 +1,1 @@
+-- Its contract cites the definitions of door_tags.
