@@ -2,7 +2,7 @@
 -- Assumes nothing.
 use mathlib.Core.Path.{_≡_, refl, sym, _∙_, ap}
 use mathlib.Core.Bool.{Bool, true, false, cond}
-use mathlib.Core.List.{List, [], _∷_, _++_, map}
+use mathlib.Core.List.{List, [], _∷_, map}
 use Prim.Native.Nat.{ℕ, zero, suc, _+_, _-_, _<_, _≤_, max}
 use native.Mathlib.Nat.{add-zero, zero-add}
 use native.Mathlib.Omega.{arith}
@@ -22,7 +22,7 @@ use Rattle.base_refusals.proofs.Said.{said}
 use Rattle.text_checks.specs.Check.{bothOrder, bothOf}
 use Rattle.set_marks.specs.Marks.{bytesIn, isQuoted, rawBytes}
 use Rattle.set_marks.proofs.Values.{raw-value}
-use Rattle.block_grammar.specs.Meaning.{PieceAt, lookup}
+use Rattle.block_grammar.specs.Meaning.{PieceAt}
 use Rattle.set_table.specs.Types.{Texts, valueBytes, textBytes, rangeBytes}
 use Rattle.set_table.specs.Rows.{meaningOf, padded}
 use Rattle.set_table.specs.Shape.{isFree}
@@ -45,8 +45,8 @@ use Rattle.set_columns.specs.declared.Width.{Width}
 use Rattle.set_columns.specs.declared.Width.the-variants as width
 use Rattle.set_columns.specs.declared.Column.{Column}
 use Rattle.set_columns.specs.declared.Made.{Made}
-use Rattle.set_columns.specs.Columns.{maxColumns, zeroColumn, noColumns, alignOf, valignOf, alignsName, valignsName, widthsName, listOf, listIn, widthAt, widthsBy, foundWidths, widthsIn, columnAt, tabled, longestOf, countIn, columnsIn, noneMade, madeOf, columnsOrder, columnsBy, columnsOf}
-use Rattle.set_columns.specs.Inner.{laidOn, alignOn, valignOn, widthOn, rangeAt, alignBy, valignBy, piecesOf, foundColumns, foundTable, foundMade}
+use Rattle.set_columns.specs.Columns.{maxColumns, zeroColumn, alignOf, valignOf, alignsName, valignsName, widthsName, listOf, listIn, widthAt, widthsBy, foundWidths, columnAt, tabled, longestOf, countIn, columnsIn, noneMade, madeOf, columnsOrder, columnsBy, columnsOf}
+use Rattle.set_columns.specs.Inner.{laidOn, alignOn, valignOn, widthOn, rangeAt, wordBy, foundPieces, foundColumns, foundTable, foundMade}
 
 -- ---- a list laid down by places or by pieces
 
@@ -97,14 +97,14 @@ laid-get : {A : Type 0} (f : A → Column → Column) (xs : List A) (cs : List C
 laid-get f xs cs k h = rw (zero-add k) at (laid-at f xs 0 cs k (omega arith))
 
 -- on a column that has no such thing yet
-on-align : (al : List (List ℕ)) (k : ℕ) → on alignBy al k zeroColumn ≡ alignOn (alignOf (getD al k [])) zeroColumn
-unfolding alignOf same
+on-align : (al : List (List ℕ)) (k : ℕ) → on (wordBy false) al k zeroColumn ≡ alignOn (alignOf (getD al k [])) zeroColumn
+unfolding alignOf same wordBy
 on-align [] k = refl
 on-align (p ∷ al) zero = refl
 on-align (p ∷ al) (suc k) = on-align al k
 
-on-valign : (va : List (List ℕ)) (k : ℕ) (a : Align) → on valignBy va k (alignOn a zeroColumn) ≡ valignOn (valignOf (getD va k [])) (alignOn a zeroColumn)
-unfolding valignOf same
+on-valign : (va : List (List ℕ)) (k : ℕ) (a : Align) → on (wordBy true) va k (alignOn a zeroColumn) ≡ valignOn (valignOf (getD va k [])) (alignOn a zeroColumn)
+unfolding valignOf same wordBy
 on-valign [] k a = refl
 on-valign (p ∷ va) zero a = refl
 on-valign (p ∷ va) (suc k) a = on-valign va k a
@@ -116,7 +116,7 @@ on-width (w ∷ wi) (suc k) a v = on-width wi k a v
 
 -- ---- all columns
 
-tabled-length : {A : Type 0} (f : ℕ → A) (n i : ℕ) → length (tabled f n i) ≡ n
+pub tabled-length : {A : Type 0} (f : ℕ → A) (n i : ℕ) → length (tabled f n i) ≡ n
 unfolding tabled
 tabled-length f zero i = refl
 tabled-length f (suc n) i = ap suc (tabled-length f n (suc i))
@@ -127,7 +127,7 @@ tabled-get f zero i k d h = absurd (omega arith)
 tabled-get f (suc n) i zero d h = ap f (sym (add-zero i))
 tabled-get f (suc n) i (suc k) d h = let e : suc i + k ≡ i + suc k = omega arith in tabled-get f n (suc i) k d (omega arith) ∙ ap f e
 
-get-replicate : {A : Type 0} (n k : ℕ) (z : A) → getD (replicate n z) k z ≡ z
+pub get-replicate : {A : Type 0} (n k : ℕ) (z : A) → getD (replicate n z) k z ≡ z
 get-replicate zero k z = refl
 get-replicate (suc n) zero z = refl
 get-replicate (suc n) (suc k) z = get-replicate n k z
@@ -137,23 +137,17 @@ pub padded-past : {A : Type 0} (n : ℕ) (z : A) (xs : List A) (k : ℕ) → len
 unfolding padded
 padded-past n z xs k h = let e : k ≡ length xs + (k - length xs) = omega arith in rw (e, getD-append-add xs (replicate (n - length xs) z) (k - length xs) z) (get-replicate (n - length xs) (k - length xs) z)
 
-max-left : (a b : ℕ) → a ≤ max a b
-max-left a b = omega arith
-
-max-right : (a b : ℕ) → b ≤ max a b
-max-right a b = omega arith
-
 module _ (al va : List (List ℕ)) (wi : List Width) (n : ℕ) (la : length al ≤ n) (lv : length va ≤ n) (lw : length wi ≤ n) (few : n ≤ maxColumns) where
-  past : (k : ℕ) → n ≤ k → columnAt al va wi k ≡ zeroColumn
+  pub column-past : (k : ℕ) → n ≤ k → columnAt al va wi k ≡ zeroColumn
   unfolding alignOf valignOf same
-  past k h =
+  column-past k h =
       rw (List·getD-eq-default al [] {n = k} (omega arith), List·getD-eq-default va [] {n = k} (omega arith), List·getD-eq-default wi width.Unset {n = k} (omega arith))
 
   sized : length (tabled (columnAt al va wi) n 0) ≡ n
   sized = tabled-length (columnAt al va wi) n 0
 
-  left : (k : ℕ) → getD (padded maxColumns zeroColumn (tabled (columnAt al va wi) n 0)) k zeroColumn ≡ columnAt al va wi k
-  left k = go (ltb k n) refl
+  pub column-get : (k : ℕ) → getD (padded maxColumns zeroColumn (tabled (columnAt al va wi) n 0)) k zeroColumn ≡ columnAt al va wi k
+  column-get k = go (ltb k n) refl
     where
       go : (b : Bool) → ltb k n ≡ b → getD (padded maxColumns zeroColumn (tabled (columnAt al va wi) n 0)) k zeroColumn ≡ columnAt al va wi k
       go true e =
@@ -163,32 +157,32 @@ module _ (al va : List (List ℕ)) (wi : List Width) (n : ℕ) (la : length al �
           ∙ rw (zero-add k)
       go false e =
           let h = ltb-false k n e in
-          padded-past maxColumns zeroColumn (tabled (columnAt al va wi) n 0) k (omega (arith, sized)) ∙ sym (past k h)
+          padded-past maxColumns zeroColumn (tabled (columnAt al va wi) n 0) k (omega (arith, sized)) ∙ sym (column-past k h)
 
-  right : (k : ℕ) → k < maxColumns → getD (laidOn widthOn wi 0 (laidOn valignBy va 0 (laidOn alignBy al 0 (replicate maxColumns zeroColumn)))) k zeroColumn ≡ columnAt al va wi k
+  right : (k : ℕ) → k < maxColumns → getD (laidOn widthOn wi 0 (laidOn (wordBy true) va 0 (laidOn (wordBy false) al 0 (replicate maxColumns zeroColumn)))) k zeroColumn ≡ columnAt al va wi k
   right k h =
       let r = length-replicate maxColumns zeroColumn in
-      let a = laid-length alignBy al 0 (replicate maxColumns zeroColumn) in
-      let v = laid-length valignBy va 0 (laidOn alignBy al 0 (replicate maxColumns zeroColumn)) in
-      laid-get widthOn wi (laidOn valignBy va 0 (laidOn alignBy al 0 (replicate maxColumns zeroColumn))) k (omega arith)
-      ∙ rw (laid-get valignBy va (laidOn alignBy al 0 (replicate maxColumns zeroColumn)) k (omega arith), laid-get alignBy al (replicate maxColumns zeroColumn) k (omega arith), get-replicate maxColumns k zeroColumn, on-align al k, on-valign va k (alignOf (getD al k []))) (on-width wi k (alignOf (getD al k [])) (valignOf (getD va k [])))
+      let a = laid-length (wordBy false) al 0 (replicate maxColumns zeroColumn) in
+      let v = laid-length (wordBy true) va 0 (laidOn (wordBy false) al 0 (replicate maxColumns zeroColumn)) in
+      laid-get widthOn wi (laidOn (wordBy true) va 0 (laidOn (wordBy false) al 0 (replicate maxColumns zeroColumn))) k (omega arith)
+      ∙ rw (laid-get (wordBy true) va (laidOn (wordBy false) al 0 (replicate maxColumns zeroColumn)) k (omega arith), laid-get (wordBy false) al (replicate maxColumns zeroColumn) k (omega arith), get-replicate maxColumns k zeroColumn, on-align al k, on-valign va k (alignOf (getD al k []))) (on-width wi k (alignOf (getD al k [])) (valignOf (getD va k [])))
 
-  pub columns-laid : laidOn widthOn wi 0 (laidOn valignBy va 0 (laidOn alignBy al 0 (replicate maxColumns zeroColumn))) ≡ padded maxColumns zeroColumn (tabled (columnAt al va wi) n 0)
+  pub columns-laid : laidOn widthOn wi 0 (laidOn (wordBy true) va 0 (laidOn (wordBy false) al 0 (replicate maxColumns zeroColumn))) ≡ padded maxColumns zeroColumn (tabled (columnAt al va wi) n 0)
   columns-laid =
       let r = length-replicate maxColumns zeroColumn in
-      let a = laid-length alignBy al 0 (replicate maxColumns zeroColumn) in
-      let v = laid-length valignBy va 0 (laidOn alignBy al 0 (replicate maxColumns zeroColumn)) in
-      let w = laid-length widthOn wi 0 (laidOn valignBy va 0 (laidOn alignBy al 0 (replicate maxColumns zeroColumn))) in
+      let a = laid-length (wordBy false) al 0 (replicate maxColumns zeroColumn) in
+      let v = laid-length (wordBy true) va 0 (laidOn (wordBy false) al 0 (replicate maxColumns zeroColumn)) in
+      let w = laid-length widthOn wi 0 (laidOn (wordBy true) va 0 (laidOn (wordBy false) al 0 (replicate maxColumns zeroColumn))) in
       let p = padded-length maxColumns zeroColumn (tabled (columnAt al va wi) n 0) (omega (arith, sized)) in
-      ext-getD zeroColumn _ _ (omega arith) (λ k h. right k (omega arith) ∙ sym (left k))
+      ext-getD zeroColumn _ _ (omega arith) (λ k h. right k (omega arith) ∙ sym (column-get k))
 
 -- ---- the lists of a set
 
-pub list-found : (t : Texts) (a : Attrs) (w : List ℕ) → isFree w ≡ true → listIn w (meaningOf t a) ≡ piecesOf t (keyFound t a w)
-unfolding piecesOf
+pub list-found : (t : Texts) (a : Attrs) (w : List ℕ) → isFree w ≡ true → listIn w (meaningOf t a) ≡ foundPieces t (keyFound t a w)
+unfolding foundPieces
 list-found t a w f = rw (← key-means t a w f) (go (keyFound t a w))
   where
-    go : (k : Keyed) → listOf (valuesBy t k) ≡ piecesOf t k
+    go : (k : Keyed) → listOf (valuesBy t k) ≡ foundPieces t k
     go Missing = refl
     go (Given v) = refl
 
@@ -196,8 +190,8 @@ list-found t a w f = rw (← key-means t a w f) (go (keyFound t a w))
 cuts-long : (q : Bool) (u : List ℕ) (o : Origin) (base : ℕ) → length (map (widthAt o base) (cutsOf q u)) ≡ length (commaPieces (bytesIn q u))
 cuts-long q u o base = length-map (cutsOf q u) (widthAt o base) ∙ simp length-map at (ap length (cuts-pieces q u))
 
-pub widths-long : (t : Texts) (f : Keyed) → length (foundWidths t f) ≡ length (piecesOf t f)
-unfolding foundWidths piecesOf valueBytes commaPieces
+pub widths-long : (t : Texts) (f : Keyed) → length (foundWidths t f) ≡ length (foundPieces t f)
+unfolding foundWidths foundPieces valueBytes commaPieces
 widths-long t Missing = refl
 widths-long t (Given v) = go (v .text)
   where
@@ -208,20 +202,20 @@ widths-long t (Given v) = go (v .text)
 
 -- ---- the table
 
-table-made : (t : Texts) (a v w : Keyed) (n : ℕ) → longestOf (piecesOf t a) (piecesOf t v) (piecesOf t w) ≡ n
-    → foundTable t a v w ≡ cond (ltb maxColumns n) (noneMade TooManyColumns) (madeOf (tabled (columnAt (piecesOf t a) (piecesOf t v) (foundWidths t w)) n 0))
+table-made : (t : Texts) (a v w : Keyed) (n : ℕ) → longestOf (foundPieces t a) (foundPieces t v) (foundPieces t w) ≡ n
+    → foundTable t a v w ≡ cond (ltb maxColumns n) (noneMade TooManyColumns) (madeOf (tabled (columnAt (foundPieces t a) (foundPieces t v) (foundWidths t w)) n 0))
 unfolding foundColumns
-table-made t a v w n e = rw (e, tabled-length (columnAt (piecesOf t a) (piecesOf t v) (foundWidths t w)) n 0) (go (ltb maxColumns n) refl)
+table-made t a v w n e = rw (e, tabled-length (columnAt (foundPieces t a) (foundPieces t v) (foundWidths t w)) n 0) (go (ltb maxColumns n) refl)
   where
     cs : List Column
-    cs = tabled (columnAt (piecesOf t a) (piecesOf t v) (foundWidths t w)) n 0
+    cs = tabled (columnAt (foundPieces t a) (foundPieces t v) (foundWidths t w)) n 0
 
     go : (b : Bool) → ltb maxColumns n ≡ b
         → cond b (noneMade TooManyColumns) (record { outcome = outcome.Passed; table = record { columns = foundColumns t a v w; count = n } })
         ≡ cond b (noneMade TooManyColumns) (record { outcome = outcome.Passed; table = record { columns = padded maxColumns zeroColumn cs; count = n } })
     go true q = refl
     go false q =
-        rw (columns-laid (piecesOf t a) (piecesOf t v) (foundWidths t w) n (omega (arith, e)) (omega (arith, e)) (omega (arith, e, widths-long t w)) (ltb-false maxColumns n q))
+        rw (columns-laid (foundPieces t a) (foundPieces t v) (foundWidths t w) n (omega (arith, e)) (omega (arith, e)) (omega (arith, e, widths-long t w)) (ltb-false maxColumns n q))
 
 pub found-made : (t : Texts) (a : Attrs) → foundMade t a ≡ cond (ltb maxColumns (countIn (meaningOf t a))) (noneMade TooManyColumns) (madeOf (columnsIn t a))
 unfolding foundMade columnsIn countIn isFree same
@@ -246,8 +240,8 @@ widths-laid o base rs cs = laid-map (widthAt o base) widthOn rs 0 cs
 
 module _ (t : Texts) (s : Attrs) {a v w : Keyed} {x y z m n : ℕ}
     (ea : a ≡ keyFound t s alignsName) (ev : v ≡ keyFound t s valignsName) (ew : w ≡ keyFound t s widthsName)
-    (ex : x ≡ length (piecesOf t a)) (ey : y ≡ length (piecesOf t v)) (ez : z ≡ length (piecesOf t w)) (em : m ≡ max y z) (en : n ≡ max x m) where
-  count-is : longestOf (piecesOf t a) (piecesOf t v) (piecesOf t w) ≡ n
+    (ex : x ≡ length (foundPieces t a)) (ey : y ≡ length (foundPieces t v)) (ez : z ≡ length (foundPieces t w)) (em : m ≡ max y z) (en : n ≡ max x m) where
+  count-is : longestOf (foundPieces t a) (foundPieces t v) (foundPieces t w) ≡ n
   count-is = rw (← ex, ← ey, ← ez, ← em, ← en)
 
   pub many : maxColumns < n → noneMade TooManyColumns ≡ foundMade t s

@@ -1,6 +1,6 @@
 -- What private functions promise that lay a list down on the columns: nothing that a reader of the public promise has to believe.
 use Prim.Native.Nat.{ℕ, suc}
-use mathlib.Core.Bool.{Bool, cond}
+use mathlib.Core.Bool.{Bool, true, false, cond}
 use mathlib.Core.List.{List, [], _∷_}
 use lib.Dec.{ltb}
 use lib.ListN.{getD, set, replicate}
@@ -38,37 +38,32 @@ unfoldable pub laidOn : {A : Type 0} → (A → Column → Column) → List A �
 laidOn f [] i cs = cs
 laidOn f (x ∷ xs) i cs = laidOn f xs (suc i) (set cs i (f x (getD cs i zeroColumn)))
 
--- by the piece of a value at a range
-abbrev pub alignAt : Bool → List ℕ → PieceAt → Column → Column
-alignAt q s r c = alignOn (alignOf (bytesIn q (slice (r .from) (r .to) s))) c
+-- by a piece of the list of aligns, or of that of the vertical ones
+unfoldable pub wordBy : Bool → List ℕ → Column → Column
+wordBy false p c = alignOn (alignOf p) c
+wordBy true p c = valignOn (valignOf p) c
 
-abbrev pub valignAt : Bool → List ℕ → PieceAt → Column → Column
-valignAt q s r c = valignOn (valignOf (bytesIn q (slice (r .from) (r .to) s))) c
+-- by the piece of a value at a range
+abbrev pub wordAt : Bool → Bool → List ℕ → PieceAt → Column → Column
+wordAt vertical q s r c = wordBy vertical (bytesIn q (slice (r .from) (r .to) s)) c
 
 abbrev pub rangeAt : Origin → ℕ → PieceAt → Column → Column
 rangeAt o base r c = widthOn (widthAt o base r) c
 
--- by a piece of a list
-abbrev pub alignBy : List ℕ → Column → Column
-alignBy p c = alignOn (alignOf p) c
-
-abbrev pub valignBy : List ℕ → Column → Column
-valignBy p c = valignOn (valignOf p) c
-
 -- the pieces of a value that was found
-unfoldable pub piecesOf : Texts → keyed.Keyed → List (List ℕ)
-piecesOf t Missing = []
-piecesOf t (Given v) = commaPieces (valueBytes t v)
+unfoldable pub foundPieces : Texts → keyed.Keyed → List (List ℕ)
+foundPieces t Missing = []
+foundPieces t (Given v) = commaPieces (valueBytes t v)
 
 -- the columns of three lists
 unfoldable pub foundColumns : Texts → keyed.Keyed → keyed.Keyed → keyed.Keyed → List Column
-foundColumns t a v w = laidOn widthOn (foundWidths t w) 0 (laidOn valignBy (piecesOf t v) 0 (laidOn alignBy (piecesOf t a) 0 (replicate maxColumns zeroColumn)))
+foundColumns t a v w = laidOn widthOn (foundWidths t w) 0 (laidOn (wordBy true) (foundPieces t v) 0 (laidOn (wordBy false) (foundPieces t a) 0 (replicate maxColumns zeroColumn)))
 
 -- the table of three lists
 abbrev pub foundTable : Texts → keyed.Keyed → keyed.Keyed → keyed.Keyed → Made
 foundTable t a v w =
-    cond (ltb maxColumns (longestOf (piecesOf t a) (piecesOf t v) (piecesOf t w))) (noneMade TooManyColumns)
-    (record { outcome = outcome.Passed; table = record { columns = foundColumns t a v w; count = longestOf (piecesOf t a) (piecesOf t v) (piecesOf t w) } })
+    cond (ltb maxColumns (longestOf (foundPieces t a) (foundPieces t v) (foundPieces t w))) (noneMade TooManyColumns)
+    (record { outcome = outcome.Passed; table = record { columns = foundColumns t a v w; count = longestOf (foundPieces t a) (foundPieces t v) (foundPieces t w) } })
 
 unfoldable pub foundMade : Texts → Attrs → Made
 foundMade t a = foundTable t (keyFound t a alignsName) (keyFound t a valignsName) (keyFound t a widthsName)

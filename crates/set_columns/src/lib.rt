@@ -15,7 +15,7 @@ ghost use Rattle.base_refusals.specs.Numbers.{outcomeNo};
 ghost use Rattle.base_refusals.specs.Orders.{orderNo};
 ghost use Rattle.set_table.specs.Types.{two};
 ghost use Rattle.set_columns.specs.Columns.{noColumns, columnsOf, columnsOrder, noneMade, widthsBy, foundWidths};
-ghost use Rattle.set_columns.specs.Inner.{laidOn, widthOn, alignBy, valignBy, piecesOf, foundColumns, foundMade};
+ghost use Rattle.set_columns.specs.Inner.{laidOn, widthOn, wordBy, foundPieces, foundColumns, foundMade};
 
 // What a column says of the side on which its text stands.
 pub enum Align {
@@ -91,7 +91,7 @@ fn refuse(r: Refusal) -> Made
 
 // How many pieces a list has.
 fn count_of<'a>(first: &'a [u8], second: &'a [u8], f: Keyed) -> usize
-    ensures { λ r. ⌜ r ≡ length (piecesOf (two (now (first .entry)) (now (second .entry))) f) ⌝ }
+    ensures { λ r. ⌜ r ≡ length (foundPieces (two (now (first .entry)) (now (second .entry))) f) ⌝ }
 {
     match f {
         Keyed::Missing => 0,
@@ -102,40 +102,23 @@ fn count_of<'a>(first: &'a [u8], second: &'a [u8], f: Keyed) -> usize
     }
 }
 
-// The columns with the aligns of a list.
-fn aligns_in<'a>(
+// The columns with the aligns of a list, or the vertical ones.
+fn words_in<'a>(
     columns: [Column; Columns::MOST],
     first: &'a [u8],
     second: &'a [u8],
     f: Keyed,
+    vertical: bool,
 ) -> [Column; Columns::MOST]
-    ensures { λ r. ⌜ r ≡ laidOn alignBy (piecesOf (two (now (first .entry)) (now (second .entry))) f) 0 columns ⌝ }
+    ensures { λ r. ⌜ r ≡ laidOn (wordBy vertical) (foundPieces (two (now (first .entry)) (now (second .entry))) f) 0 columns ⌝ }
 {
     match f {
         Keyed::Missing => columns,
-        Keyed::Given(v) => lists::aligns_over(
+        Keyed::Given(v) => lists::words_over(
             columns,
             set_marks::raw_bytes(first, second, v),
             set_marks::is_quoted(v),
-        ),
-    }
-}
-
-// The columns with the vertical aligns of a list.
-fn valigns_in<'a>(
-    columns: [Column; Columns::MOST],
-    first: &'a [u8],
-    second: &'a [u8],
-    f: Keyed,
-) -> [Column; Columns::MOST]
-    ensures { λ r. ⌜ r ≡ laidOn valignBy (piecesOf (two (now (first .entry)) (now (second .entry))) f) 0 columns ⌝ }
-{
-    match f {
-        Keyed::Missing => columns,
-        Keyed::Given(v) => lists::valigns_over(
-            columns,
-            set_marks::raw_bytes(first, second, v),
-            set_marks::is_quoted(v),
+            vertical,
         ),
     }
 }
@@ -189,8 +172,8 @@ fn columns_of<'a>(
 {
     let none = Columns::empty();
     let columns = none.columns;
-    let aligned = aligns_in(columns, first, second, a);
-    let leveled = valigns_in(aligned, first, second, v);
+    let aligned = words_in(columns, first, second, a, false);
+    let leveled = words_in(aligned, first, second, v, true);
     widths_in(leveled, first, second, w)
 }
 

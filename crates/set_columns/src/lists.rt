@@ -11,9 +11,9 @@ ghost use lib.Seq.{slice};
 ghost use Rattle.base_lists.specs.Lists.{same};
 ghost use Rattle.set_marks.specs.Marks.{bytesIn};
 ghost use Rattle.set_table.specs.Types.{two, rangeBytes};
-ghost use Rattle.set_commas.specs.Commas.{cutsOf};
+ghost use Rattle.set_commas.specs.Commas.{cutRange, cutsOf};
 ghost use Rattle.set_columns.specs.Columns.{alignOf, valignOf};
-ghost use Rattle.set_columns.specs.Inner.{laidOn, alignOn, valignOn, widthOn, alignAt, valignAt, rangeAt};
+ghost use Rattle.set_columns.specs.Inner.{laidOn, alignOn, valignOn, widthOn, wordAt, rangeAt};
 
 // Whether a piece of a value is the word.
 fn is_word(s: &[u8], from: usize, to: usize, quoted: bool, word: &[u8]) -> bool
@@ -82,6 +82,16 @@ fn with_valign(c: Column, v: Valign) -> Column
     }
 }
 
+// The column with the align that a piece of a value names, or with the vertical one.
+fn with_word(c: Column, s: &[u8], from: usize, to: usize, quoted: bool, vertical: bool) -> Column
+    ensures { λ r. ⌜ r ≡ wordAt vertical quoted (now (s .entry)) (cutRange from to) c ⌝ }
+{
+    if vertical {
+        return with_valign(c, valign_of(s, from, to, quoted));
+    }
+    with_align(c, align_of(s, from, to, quoted))
+}
+
 pub(crate) fn with_width(c: Column, w: Width) -> Column
     ensures { λ r. ⌜ r ≡ widthOn w c ⌝ }
 {
@@ -94,13 +104,14 @@ pub(crate) fn with_width(c: Column, w: Width) -> Column
     }
 }
 
-// The columns with the aligns of a value.
-pub(crate) fn aligns_over(
+// The columns with the aligns of a value, or the vertical ones.
+pub(crate) fn words_over(
     columns: [Column; Columns::MOST],
     s: &[u8],
     quoted: bool,
+    vertical: bool,
 ) -> [Column; Columns::MOST]
-    ensures { λ r. ⌜ r ≡ laidOn (alignAt quoted (now (s .entry))) (cutsOf quoted (now (s .entry))) 0 columns ⌝ }
+    ensures { λ r. ⌜ r ≡ laidOn (wordAt vertical quoted (now (s .entry))) (cutsOf quoted (now (s .entry))) 0 columns ⌝ }
 {
     let mut out = columns;
     let mut i: usize = 0;
@@ -112,44 +123,12 @@ pub(crate) fn aligns_over(
         match set_commas::cut_from(s, at, quoted) {
             Cut::Last(to) => {
                 let c = out[i];
-                out[i] = with_align(c, align_of(s, at, to, quoted));
+                out[i] = with_word(c, s, at, to, quoted, vertical);
                 break 'pieces out;
             }
             Cut::Comma(to, next) => {
                 let c = out[i];
-                out[i] = with_align(c, align_of(s, at, to, quoted));
-                i += 1;
-                at = next;
-                continue 'pieces;
-            }
-        }
-    }
-}
-
-// The columns with the vertical aligns of a value.
-pub(crate) fn valigns_over(
-    columns: [Column; Columns::MOST],
-    s: &[u8],
-    quoted: bool,
-) -> [Column; Columns::MOST]
-    ensures { λ r. ⌜ r ≡ laidOn (valignAt quoted (now (s .entry))) (cutsOf quoted (now (s .entry))) 0 columns ⌝ }
-{
-    let mut out = columns;
-    let mut i: usize = 0;
-    let mut at: usize = 0;
-    'pieces: loop {
-        if Columns::MOST <= i {
-            break 'pieces out;
-        }
-        match set_commas::cut_from(s, at, quoted) {
-            Cut::Last(to) => {
-                let c = out[i];
-                out[i] = with_valign(c, valign_of(s, at, to, quoted));
-                break 'pieces out;
-            }
-            Cut::Comma(to, next) => {
-                let c = out[i];
-                out[i] = with_valign(c, valign_of(s, at, to, quoted));
+                out[i] = with_word(c, s, at, to, quoted, vertical);
                 i += 1;
                 at = next;
                 continue 'pieces;

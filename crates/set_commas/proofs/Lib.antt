@@ -3,4 +3,5 @@ pub mod Steps
 pub mod Loops
 pub mod Splits
 pub mod Pieces
+pub mod Only
 pub mod Cases

@@ -1,18 +1,16 @@
--- The raw ranges against the pieces of the unescaped value, and how they lie.
+-- The raw ranges against the pieces of the unescaped value.
 -- Assumes nothing.
 use mathlib.Core.Path.{_≡_, refl, sym, _∙_, ap}
 use mathlib.Core.Bool.{Bool, true, false, cond, _&&_, and-false}
 use mathlib.Core.List.{List, [], _∷_, _++_, map, append-nil, append-assoc}
 use Prim.Native.Nat.{ℕ, suc, _+_, _-_, _<_, _≤_, zero-le}
 use native.Mathlib.Nat.{add-zero}
-use native.Mathlib.Numerals.{add-one}
 use native.Mathlib.Omega.{arith}
 use borrow.Author.Tests.{eqb-true}
 use lib.Dec.{eqb}
 use lib.ListN.{length, getD, take, drop, length-drop, length-map}
 use lib.Seq.{slice, slice-empty, take-suc, drop-append-le, length-take-le, getD-drop}
 use Rattle.base_lists.proofs.Parts.{drop-past}
-use Rattle.base_lists.proofs.Scan.{both}
 use Rattle.base_lists.proofs.More.{contra}
 use Rattle.base_bytes.specs.Bytes.{isPunct, within}
 use Rattle.text_escapes.specs.Unescape.{unescape, unescapeFrom}
@@ -21,7 +19,7 @@ use Rattle.block_grammar.specs.Meaning.{PieceAt}
 use Rattle.set_commas.specs.declared.Cut.{Cut}
 use Rattle.set_commas.specs.declared.Cut.the-variants.{Last, Comma}
 use Rattle.set_commas.specs.Commas.{cutRange, onHead, commaPieces, cutsFrom, cutsOf, firstCut, cutAt}
-use Rattle.set_commas.specs.Rules.{Parted, commasIn}
+use Rattle.set_commas.specs.Rules.{commasIn}
 use Rattle.set_commas.proofs.Splits.{pieces-count}
 use Rattle.set_commas.proofs.Loops.{begun}
 
@@ -88,25 +86,25 @@ raw-pieces false s = map-same (rawFrom false false s) ∙ raw-plain s
 -- ---- their places
 
 -- the rest of the value from `at` on is s, and the piece that was begun starts no later
-record Spot (w : List ℕ) (from at : ℕ) (s : List ℕ) : Type 0 where
-  before : from ≤ at
-  long : length w ≡ at + length s
-  rest : drop at w ≡ s
+pub record Spot (w : List ℕ) (from at : ℕ) (s : List ℕ) : Type 0 where
+  pub before : from ≤ at
+  pub long : length w ≡ at + length s
+  pub rest : drop at w ≡ s
 
 module _ {w : List ℕ} {from at b : ℕ} {s : List ℕ} (h : Spot w from at (b ∷ s)) where
   spot-rest : drop (suc at) w ≡ s
   spot-rest = drop-past w (b ∷ []) s at (suc at) (h .rest) (omega arith)
 
-  spot-next : Spot w from (suc at) s
+  pub spot-next : Spot w from (suc at) s
   spot-next = record { before = omega (arith, h .before); long = omega (arith, h .long); rest = spot-rest }
 
-  spot-new : Spot w (suc at) (suc at) s
+  pub spot-new : Spot w (suc at) (suc at) s
   spot-new = record { before = omega arith; long = omega (arith, h .long); rest = spot-rest }
 
-  spot-byte : getD w at 0 ≡ b
+  pub spot-byte : getD w at 0 ≡ b
   spot-byte = sym (rw (add-zero at) at (getD-drop at w 0 0)) ∙ ap (λ l. getD l 0 0) (h .rest)
 
-  spot-more : slice from (suc at) w ≡ slice from at w ++ (b ∷ [])
+  pub spot-more : slice from (suc at) w ≡ slice from at w ++ (b ∷ [])
   spot-more =
       rw (take-suc w at 0 (omega (arith, h .long)), spot-byte)
       (drop-append-le from (take at w) (b ∷ []) (omega (arith, h .before, h .long, length-take-le at w (omega (arith, h .long)))))
@@ -127,7 +125,7 @@ onto-byte : (c : List ℕ) (b : ℕ) (ps : List (List ℕ)) → onto (c ++ (b �
 onto-byte c b [] = refl
 onto-byte c b (p ∷ ps) = rw (append-assoc c (b ∷ []) p)
 
-abbrev ahead : Bool → List ℕ → List ℕ
+abbrev pub ahead : Bool → List ℕ → List ℕ
 ahead false s = s
 ahead true s = 92 ∷ s
 
@@ -170,7 +168,7 @@ slices q true w from at (b ∷ s) h =
 
 -- ---- the theorems
 
-whole : (s : List ℕ) → Spot s 0 0 s
+pub whole : (s : List ℕ) → Spot s 0 0 s
 whole s = record { before = zero-le; long = omega arith; rest = refl }
 
 -- the ranges' bytes, each unescaped by itself where the value is quoted, are the pieces of the unescaped value
@@ -181,36 +179,6 @@ cuts-pieces q s = rw (new q s 0 s (slices q false s 0 0 s (whole s))) (raw-piece
 -- as many ranges as pieces: one more than commas
 pub cuts-count : (q : Bool) (s : List ℕ) → length (cutsOf q s) ≡ suc (commasIn (bytesIn q s))
 cuts-count q s = simp length-map at (ap length (cuts-pieces q s)) ∙ pieces-count (bytesIn q s)
-
-order : (q m : Bool) (w : List ℕ) (from at : ℕ) (s : List ℕ) → (m ≡ true → q ≡ true) → Spot w from at (ahead m s) → Parted q w from (cutsFrom q m from at s)
-unfolding cutsFrom
-order q false w from at [] y h = let n : at ≡ length w = omega (arith, h .long) in rw n (Parted.last {from = from} (omega (arith, h .before, h .long)))
-order q true w from at [] y h = let n : suc at ≡ length w = omega (arith, h .long) in rw n (Parted.last {from = from} (omega (arith, h .before, h .long)))
-order q false w from at (b ∷ s) y h =
-    go (eqb b 44) refl q (eqb b 92) refl refl (order q false w (suc at) (suc at) s (λ z. contra false z refl) (spot-new h))
-    (λ e f. order q true w from at s (λ z. e) (rw (eqb-true b 92 f) at h)) (order q false w from (suc at) s (λ z. contra false z refl) (spot-next h))
-  where
-    go : (x : Bool) → eqb b 44 ≡ x → (q′ z : Bool) → q ≡ q′ → eqb b 92 ≡ z → Parted q w (suc at) (cutsFrom q false (suc at) (suc at) s) → (q ≡ true → eqb b 92 ≡ true → Parted q w from (cutsFrom q true from at s))
-        → Parted q w from (cutsFrom q false from (suc at) s) → Parted q w from (cond x (cutRange from at ∷ cutsFrom q false (suc at) (suc at) s) (cond (q′ && z) (cutsFrom q true from at s) (cutsFrom q false from (suc at) s)))
-    go true e q′ z f g p i o =
-        let n : Parted q w (at + 1) (cutsFrom q false (suc at) (suc at) s) = rw (add-one at) p in
-        Parted.comma (h .before) (omega (arith, h .long)) (spot-byte h ∙ eqb-true b 44 e) n
-    go false e true true f g p i o = i f g
-    go false e true false f g p i o = o
-    go false e false z f g p i o = o
-order q true w from at (b ∷ s) y h =
-    let n : suc (suc at) ≡ at + 2 = omega arith in
-    go (eqb b 44) refl (order q false w (at + 2) (at + 2) s (λ z. contra false z refl) (rw n at (spot-new (spot-next h)))) (order q false w from (at + 2) s (λ z. contra false z refl) (rw n at (spot-next (spot-next h))))
-  where
-    go : (x : Bool) → eqb b 44 ≡ x → Parted q w (at + 2) (cutsFrom q false (at + 2) (at + 2) s) → Parted q w from (cutsFrom q false from (at + 2) s)
-        → Parted q w from (cond x (cutRange from at ∷ cutsFrom q false (at + 2) (at + 2) s) (cutsFrom q false from (at + 2) s))
-    go true e p o = Parted.escaped (y refl) (h .before) (omega (arith, h .long)) (spot-byte h) (rw (add-one at) (spot-byte (spot-next h)) ∙ eqb-true b 44 e) p
-    go false e p o = o
-
--- the ranges ascend from the value's front to its end, and between two of them stands a comma with at most one backslash before it
-pub cuts-order : (q : Bool) (s : List ℕ) → Parted q s 0 (cutsOf q s)
-unfolding cutsOf
-cuts-order q s = order q false s 0 0 s (λ z. contra false z refl) (whole s)
 
 -- ---- one cutRange after the other
 

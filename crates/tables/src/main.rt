@@ -2,6 +2,7 @@
 mod broken;
 mod buffers;
 mod changed;
+mod columns;
 mod full;
 mod good;
 mod loose;
@@ -136,4 +137,5 @@ fn main() {
     buffers::run(text);
     two(text);
     loose::run();
+    columns::run();
 }

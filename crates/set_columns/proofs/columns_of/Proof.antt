@@ -1,4 +1,3 @@
-use Rattle.set_columns.proofs.Tables as laws
 use Rattle.set_columns.specs.Inner.{foundColumns}
 use borrow.Author.Needs.{needs}
 use Rattle.set_columns.proofs.columns_of.Statement.{statement}
@@ -7,20 +6,20 @@ use Rattle.set_columns.proofs.columns_of.Tie as tie
 empty-requires : tie.Need-empty-requires
 empty-requires c κs = search needs
 
-aligns-in-requires : tie.Need-aligns-in-requires
-aligns-in-requires c κs = search needs
+words-in-requires : tie.Need-words-in-requires
+words-in-requires c κs = search needs
 
-valigns-in-requires : tie.Need-valigns-in-requires
-valigns-in-requires c κs = search needs
+words-in-requires-2 : tie.Need-words-in-requires-2
+words-in-requires-2 c κs = search needs
 
 widths-in-requires : tie.Need-widths-in-requires
 widths-in-requires c κs = search needs
 
 returns : tie.Need-returns
 unfolding foundColumns
-returns c = rw ((c .widths-in .ensures), (c .before .valigns-in .ensures), (c .before .before .aligns-in .ensures), (c .before .before .before .before .empty .ensures))
+returns c = rw ((c .widths-in .ensures), (c .before .words-in2 .ensures), (c .before .before .words-in .ensures), (c .before .before .before .before .empty .ensures))
 
 pub columns-of-spec : {M : Type 1} → statement M
 columns-of-spec =
     tie.close
-    (tie.spec empty-requires aligns-in-requires valigns-in-requires widths-in-requires returns)
+    (tie.spec empty-requires words-in-requires words-in-requires-2 widths-in-requires returns)

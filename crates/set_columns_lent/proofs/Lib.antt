@@ -1,0 +1,2 @@
+-- The laws of set_columns_lent.
+pub mod Walk
