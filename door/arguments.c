@@ -150,6 +150,50 @@ int main(void)
     EXPECT(bridlesnow_consume_loose(checks, sizeof checks - 1, 4, NULL, 0, merged, 24, taken, 2) == 0);
     EXPECT(taken[0] == 0 && taken[1] == 11 && memcmp(merged, "{loose=\"x\"}", 11) == 0);
 
+    /* Items and values one by one: exact room and one byte short, told also then; what isn't there; an empty value, which is; and untouched on each of these. */
+    static const uint8_t kept_set[] = "{.a .a k='x\\'y'\n e}\n";
+    uint8_t part[8];
+    size_t items[8];
+    memset(part, 7, sizeof part);
+    items[7] = 5;
+    EXPECT(bridlesnow_item_at(kept_set, sizeof kept_set - 1, 1, 1, wide, 16, part, 3, items, 8) == 9 && items[0] == 0 && items[1] == 0 && part[0] == 7);
+    static uint8_t roomy[32];
+    EXPECT(bridlesnow_item_at(kept_set, sizeof kept_set - 1, 1, 1, roomy, 32, part, 3, items, 8) == 10);
+    EXPECT(items[0] == 3 && items[1] == 1 && items[2] == 3 && items[3] == 2 && items[4] == 20 && items[5] == 18 && items[6] == 18 && items[7] == 5 && part[0] == 7);
+    EXPECT(bridlesnow_item_at(kept_set, sizeof kept_set - 1, 1, 1, roomy, 32, part, 4, items, 8) == 0 && memcmp(part, "kx'y\7", 5) == 0);
+    EXPECT(bridlesnow_item_at(kept_set, sizeof kept_set - 1, 1, 0, roomy, 32, part, 8, items, 8) == 0 && items[1] == 5 && items[2] == 1);
+    EXPECT(memcmp(part, "classa\7", 7) == 0);
+    EXPECT(bridlesnow_item_at(kept_set, sizeof kept_set - 1, 1, 2, roomy, 32, part, 8, items, 8) == 0 && items[1] == 1 && items[2] == 0 && memcmp(part, "elassa\7", 7) == 0);
+    memset(part, 7, sizeof part);
+    EXPECT(bridlesnow_item_at(kept_set, sizeof kept_set - 1, 1, 3, roomy, 32, part, 8, items, 8) == 0 && items[0] == 3 && items[1] == 0 && items[2] == 0 && part[0] == 7);
+    EXPECT(bridlesnow_item_at(kept_set, sizeof kept_set - 1, 1, SIZE_MAX, roomy, 32, NULL, 0, items, 1) == 0 && items[0] == 3);
+    EXPECT(bridlesnow_value_at(kept_set, sizeof kept_set - 1, 1, (const uint8_t *)"k", 1, 0, roomy, 32, part, 2, items, 6) == 10 && items[0] == 1 && items[1] == 3 && part[0] == 7);
+    EXPECT(bridlesnow_value_at(kept_set, sizeof kept_set - 1, 1, (const uint8_t *)"k", 1, 0, roomy, 32, part, 3, items, 6) == 0);
+    EXPECT(items[0] == 1 && items[1] == 3 && items[2] == 2 && items[3] == 20 && items[5] == 18 && memcmp(part, "x'y\7", 4) == 0);
+    EXPECT(bridlesnow_value_at(kept_set, sizeof kept_set - 1, 1, (const uint8_t *)"e", 1, 0, roomy, 32, NULL, 0, items, 6) == 0 && items[0] == 1 && items[1] == 0);
+    EXPECT(bridlesnow_value_at(kept_set, sizeof kept_set - 1, 1, (const uint8_t *)"id", 2, 0, roomy, 32, NULL, 0, items, 6) == 0 && items[0] == 0 && items[1] == 0);
+    EXPECT(bridlesnow_value_at(kept_set, sizeof kept_set - 1, 1, (const uint8_t *)"class", 5, 1, roomy, 32, NULL, 0, items, 6) == 0 && items[0] == 1 && items[1] == 0);
+    EXPECT(bridlesnow_value_at(kept_set, sizeof kept_set - 1, 9, NULL, 0, 0, roomy, 32, part, 8, items, 6) == 3 && items[0] == 0 && items[2] == 0);
+    memset(part, 7, sizeof part);
+    EXPECT(bridlesnow_attrs_item_at((const uint8_t *)"-{#i k=v}", 9, 1, 0, 1, part, 1, items, 5) == 10 && items[0] == 2 && items[1] == 1 && items[2] == 1 && items[3] == 9);
+    EXPECT(part[0] == 7 && bridlesnow_attrs_item_at((const uint8_t *)"-{#i k=v}", 9, 1, 0, 1, part, 2, items, 5) == 0 && memcmp(part, "kv\7", 3) == 0);
+    EXPECT(bridlesnow_attrs_item_at((const uint8_t *)"{k=}", 4, 0, 0, 0, part, 2, items, 5) == 5 && items[0] == 0 && items[3] == 0 && items[4] == 2);
+    EXPECT(bridlesnow_attrs_value_at((const uint8_t *)"{#i k=v}", 8, 0, 1, (const uint8_t *)"id", 2, 0, part, 1, items, 4) == 0);
+    EXPECT(items[0] == 1 && items[1] == 1 && items[2] == 8 && items[3] == 0 && memcmp(part, "iv\7", 3) == 0);
+    EXPECT(bridlesnow_attrs_value_at((const uint8_t *)"{#i k=v}", 8, 1, 1, (const uint8_t *)"id", 2, 0, part, 1, items, 4) == 3 && items[0] == 0 && part[0] == 'i');
+
+    /* A payload's place, and its tokens. */
+    EXPECT(bridlesnow_payload_at((const uint8_t *)"-{#i}", 5, 1, told, 2) && told[0] == 2 && told[1] == 4);
+    EXPECT(bridlesnow_payload_at((const uint8_t *)"{}", 2, 0, told, 2) && told[0] == 1 && told[1] == 1);
+    EXPECT(!bridlesnow_payload_at((const uint8_t *)"-{#i}", 5, 0, told, 2) && told[0] == 0 && told[1] == 0);
+    EXPECT(!bridlesnow_payload_at((const uint8_t *)"-{#i}", 5, SIZE_MAX, told, 2) && !bridlesnow_payload_at((const uint8_t *)"{a", 2, 0, NULL, 0));
+    static const uint8_t payload[] = " .c k='v' =";
+    EXPECT(bridlesnow_next_token(payload, 11, 0, 0, told, 4) && told[0] == BRIDLESNOW_TOKEN_CLASS && told[1] == 2 && told[2] == 3 && told[3] == 3);
+    EXPECT(bridlesnow_next_token(payload, 11, told[3], 0, told, 4) && told[0] == BRIDLESNOW_TOKEN_QUOTED && told[1] == 4 && told[2] == 5 && told[3] == 9);
+    EXPECT(!bridlesnow_next_token(payload, 11, told[3], 0, told, 4) && told[0] == BRIDLESNOW_TOKEN_BAD && told[1] == 10 && told[2] == 10 && told[3] == 10);
+    EXPECT(!bridlesnow_next_token(payload, 10, 9, 0, told, 4) && told[0] == BRIDLESNOW_TOKEN_END && told[1] == 10 && told[2] == 10 && told[3] == 10);
+    EXPECT(!bridlesnow_next_token(payload, 11, SIZE_MAX, 255, told, 4) && told[0] == BRIDLESNOW_TOKEN_END && told[3] == SIZE_MAX);
+
     /* A valve table: room for all numbers, for some of them, and untouched on a refusal. */
     static const uint8_t valves[] = "{widths=\"1\\,2\" aligns=left}\n{aligns=\",,,,,,,,,,,,,,,,,,,,,,,,,,,,,,,,\"}\n";
     size_t numbers[11], which;

@@ -197,6 +197,57 @@ uint8_t bridlesnow_merge_blocks(const uint8_t *text, size_t text_len, size_t com
 uint8_t bridlesnow_consume_loose(const uint8_t *text, size_t text_len, size_t line, uint8_t *join, size_t join_len,
                                  uint8_t *out, size_t out_len, size_t *told, size_t told_len);
 
+/* The items of a block one by one, in the order of its canonical text: the id, each class once, each key. Each has a name (`id`, `class`, or the key's) and a
+ * value, and both are handed out as the bytes that they stand for: no quotes, no backslash of the canonical text, nothing to be unescaped. An empty value is
+ * there; what isn't there is told by the count.
+ *
+ * bridlesnow_item_at reads the block of one or more lines that begins at a line, as bridlesnow_parse_standalone_attrs_block does, and lays its item `n`, counted
+ * from 0, at the front of `out`: the name, and the value right behind it.
+ * Order: the numbers of the block, then 10 where `out` is too short for both.
+ * Tells: how many items there are, so that item `n` is there where `n` is less; the lengths of its name and of its value, 0 and 0 where it isn't there, and told
+ * with 10 too; the block's lines, the place behind it, the lookahead, and how many bytes were joined, each as bridlesnow_parse_standalone_attrs_block tells them.
+ * A block that is refused has no items.
+ *
+ * bridlesnow_value_at lays value `n` of those that the block has under a name, and no name before it: under `id` or a key there is one (`n` 0) or none, under
+ * `class` one for each class, each class once. Tells: how many values there are under the name; the length of the value; then as bridlesnow_item_at. */
+uint8_t bridlesnow_item_at(const uint8_t *text, size_t text_len, size_t line, size_t n, uint8_t *join, size_t join_len,
+                           uint8_t *out, size_t out_len, size_t *told, size_t told_len);
+uint8_t bridlesnow_value_at(const uint8_t *text, size_t text_len, size_t line, const uint8_t *name, size_t name_len, size_t n,
+                            uint8_t *join, size_t join_len, uint8_t *out, size_t out_len, size_t *told, size_t told_len);
+
+/* The same of the block whose brace stands at byte `place`, as bridlesnow_read_attrs_at reads it, but that no 2 of the whole text is given.
+ * Tells: how many there are; the lengths (of the item's name and of its value; of the value alone); the place behind the block, 0 where it isn't read; with 5 where
+ * the payload went wrong, else 0. */
+uint8_t bridlesnow_attrs_item_at(const uint8_t *text, size_t text_len, size_t place, uint8_t loose, size_t n,
+                                 uint8_t *out, size_t out_len, size_t *told, size_t told_len);
+uint8_t bridlesnow_attrs_value_at(const uint8_t *text, size_t text_len, size_t place, uint8_t loose,
+                                  const uint8_t *name, size_t name_len, size_t n,
+                                  uint8_t *out, size_t out_len, size_t *told, size_t told_len);
+
+/* Whether the payload of a block stands behind the brace at byte `place`: the bytes up to its close, which are UTF-8, whether they have a reading or not.
+ * Tells: from where to where it stands, 0 and 0 where there is none. */
+bool bridlesnow_payload_at(const uint8_t *text, size_t text_len, size_t place, size_t *told, size_t told_len);
+
+/* What bridlesnow_next_token tells first. */
+enum {
+    BRIDLESNOW_TOKEN_BAD,
+    BRIDLESNOW_TOKEN_TAG,
+    BRIDLESNOW_TOKEN_ID,
+    BRIDLESNOW_TOKEN_CLASS,
+    BRIDLESNOW_TOKEN_PLAIN,
+    BRIDLESNOW_TOKEN_QUOTED,
+    BRIDLESNOW_TOKEN_BARE,
+    BRIDLESNOW_TOKEN_END
+};
+
+/* Whether a token of a payload stands at byte `at`, blanks before it passed over; `loose` as for bridlesnow_read_attrs_at. To walk over a payload, pass its bytes
+ * alone, 0 at first, and then the place that was told last.
+ * Tells: what stands there; from where to where its name stands, which is what follows `:`, `#` or `.`, the key before a `=`, or the bare name; the place behind the
+ * token. A value without quotes stands from one byte behind the key's end up to that place, one in quotes from two bytes behind it up to one before that place.
+ * Where no token stands: BRIDLESNOW_TOKEN_END or BRIDLESNOW_TOKEN_BAD, twice the place of the end or the one at which the bytes stop being a token, and the place
+ * behind the blanks. */
+bool bridlesnow_next_token(const uint8_t *text, size_t text_len, size_t at, uint8_t loose, size_t *told, size_t told_len);
+
 /* Reads the block of one or more lines that begins at a line, and the column settings that it says: its keys `aligns`, `valigns` and `widths`, lists
  * split at commas. For each column `numbers` gets BRIDLESNOW_COLUMN numbers, as many as there is room for: the align (0 none, 1 left, 2 right,
  * 3 center); the vertical align (0 none, 1 top, 2 middle, 3 bottom); what the width is (0 none, 1 that of a bare `widths`, without bytes, 2 bytes of the

@@ -13,6 +13,7 @@
 
 use std::array::from_fn;
 use std::fmt;
+use std::ops::Range;
 
 /// The longest text, and the longest canonical text.
 pub const MAX: usize = 65_535;
@@ -90,6 +91,26 @@ mod raw {
             text: *const u8, len: usize, line: usize, join: *mut u8, join_len: usize,
             out: *mut u8, out_len: usize, told: *mut usize, told_len: usize,
         ) -> u8;
+        pub fn bridlesnow_item_at(
+            text: *const u8, len: usize, line: usize, n: usize, join: *mut u8, join_len: usize,
+            out: *mut u8, out_len: usize, told: *mut usize, told_len: usize,
+        ) -> u8;
+        pub fn bridlesnow_value_at(
+            text: *const u8, len: usize, line: usize, name: *const u8, name_len: usize, n: usize,
+            join: *mut u8, join_len: usize, out: *mut u8, out_len: usize, told: *mut usize, told_len: usize,
+        ) -> u8;
+        pub fn bridlesnow_attrs_item_at(
+            text: *const u8, len: usize, place: usize, loose: u8, n: usize,
+            out: *mut u8, out_len: usize, told: *mut usize, told_len: usize,
+        ) -> u8;
+        pub fn bridlesnow_attrs_value_at(
+            text: *const u8, len: usize, place: usize, loose: u8, name: *const u8, name_len: usize, n: usize,
+            out: *mut u8, out_len: usize, told: *mut usize, told_len: usize,
+        ) -> u8;
+        pub fn bridlesnow_payload_at(text: *const u8, len: usize, place: usize, told: *mut usize, told_len: usize) -> bool;
+        pub fn bridlesnow_next_token(
+            text: *const u8, len: usize, at: usize, loose: u8, told: *mut usize, told_len: usize,
+        ) -> bool;
         pub fn bridlesnow_table_columns(
             text: *const u8, len: usize, line: usize, join: *mut u8, join_len: usize,
             numbers: *mut usize, numbers_len: usize, told: *mut usize, told_len: usize,
@@ -334,6 +355,70 @@ pub enum BraceRun {
     No(usize),
 }
 
+/// An item of a block: its name, and the bytes that its value stands for, which may be none.
+pub type Item<'a> = (&'a str, &'a str);
+
+/// A token of a payload: what it is, with the range of its name or key, and for a key that of what stands behind its `=`, quotes too.
+#[derive(Clone, Debug, PartialEq, Eq)]
+pub enum Token {
+    Tag(Range<usize>),
+    Id(Range<usize>),
+    Class(Range<usize>),
+    Plain(Range<usize>, Range<usize>),
+    Quoted(Range<usize>, Range<usize>),
+    Bare(Range<usize>),
+}
+
+/// The tokens of a payload one by one; `Err` with the place at which the bytes stop being a token, and then none.
+#[derive(Clone, Debug)]
+pub struct Tokens<'a> {
+    payload: &'a [u8],
+    at: usize,
+    mode: Mode,
+    over: bool,
+}
+
+/// The tokens of the bytes of a payload, as [`payload_at`] hands it back.
+pub fn tokens(payload: &[u8], mode: Mode) -> Tokens<'_> {
+    Tokens { payload, at: 0, mode, over: false }
+}
+
+impl Iterator for Tokens<'_> {
+    type Item = Result<Token, usize>;
+
+    fn next(&mut self) -> Option<Self::Item> {
+        let mut told = [0usize; 4];
+        if self.over {
+            return None;
+        }
+        let found = unsafe {
+            raw::bridlesnow_next_token(
+                self.payload.as_ptr(), self.payload.len(), self.at, u8::from(self.mode == Mode::Loose), told.as_mut_ptr(), told.len(),
+            )
+        };
+        let [kind, from, to, end] = told;
+        self.at = end;
+        self.over = !found;
+        Some(Ok(match kind {
+            1 => Token::Tag(from..to),
+            2 => Token::Id(from..to),
+            3 => Token::Class(from..to),
+            4 => Token::Plain(from..to, to + 1..end),
+            5 => Token::Quoted(from..to, to + 1..end),
+            6 => Token::Bare(from..to),
+            7 => return None,
+            _ => return Some(Err(from)),
+        }))
+    }
+}
+
+/// The payload of the block whose brace stands at `place`, which is UTF-8, whether it has a reading or not.
+pub fn payload_at(text: &[u8], place: usize) -> Option<&[u8]> {
+    let mut told = [0usize; 2];
+    let found = unsafe { raw::bridlesnow_payload_at(text.as_ptr(), text.len(), place, told.as_mut_ptr(), told.len()) };
+    found.then(|| &text[told[0]..told[1]])
+}
+
 /// The side on which a column's text stands.
 #[derive(Clone, Copy, Debug, PartialEq, Eq)]
 pub enum Align {
@@ -571,6 +656,67 @@ impl Reader {
         granted(number).map_err(|refusal| (refusal, lines))?;
         let text = self.canonical(told[1]).map_err(|refusal| (refusal, lines))?;
         Ok((acted, lines, Some(text)))
+    }
+
+    /// Item `n`, counted from 0, of the block of one or more lines at a line, and how many items it has: none where that is no more than `n`. The items are
+    /// those of the canonical text, each class once; their values are unescaped.
+    pub fn item_at(&mut self, text: &[u8], line: usize, n: usize) -> Result<(usize, Option<Item<'_>>), (Refusal, Lines)> {
+        let mut told = [0usize; 7];
+        let number = unsafe {
+            raw::bridlesnow_item_at(
+                text.as_ptr(), text.len(), line, n, self.join.as_mut_ptr(), self.join.len(),
+                self.out.as_mut_ptr(), self.out.len(), told.as_mut_ptr(), told.len(),
+            )
+        };
+        granted(number).map_err(|refusal| (refusal, Lines::of(&told[3..])))?;
+        self.item(n, told[0], told[1], told[2]).map_err(|refusal| (refusal, Lines::of(&told[3..])))
+    }
+
+    /// Value `n`, counted from 0, of those that the block of one or more lines at a line has under a name, and how many there are: one or none under `id` or a
+    /// key, one for each class under `class`. It is unescaped, and an empty one is there.
+    pub fn value_at(&mut self, text: &[u8], line: usize, name: &[u8], n: usize) -> Result<(usize, Option<&str>), (Refusal, Lines)> {
+        let mut told = [0usize; 6];
+        let number = unsafe {
+            raw::bridlesnow_value_at(
+                text.as_ptr(), text.len(), line, name.as_ptr(), name.len(), n, self.join.as_mut_ptr(), self.join.len(),
+                self.out.as_mut_ptr(), self.out.len(), told.as_mut_ptr(), told.len(),
+            )
+        };
+        granted(number).map_err(|refusal| (refusal, Lines::of(&told[2..])))?;
+        let (count, item) = self.item(n, told[0], 0, told[1]).map_err(|refusal| (refusal, Lines::of(&told[2..])))?;
+        Ok((count, item.map(|(_, value)| value)))
+    }
+
+    /// The same of the block whose brace stands at `place`: item `n`.
+    pub fn attrs_item_at(&mut self, text: &[u8], place: usize, mode: Mode, n: usize) -> Result<(usize, Option<Item<'_>>), Unread> {
+        let mut told = [0usize; 5];
+        let number = unsafe {
+            raw::bridlesnow_attrs_item_at(
+                text.as_ptr(), text.len(), place, u8::from(mode == Mode::Loose), n,
+                self.out.as_mut_ptr(), self.out.len(), told.as_mut_ptr(), told.len(),
+            )
+        };
+        granted(number).and_then(|()| self.item(n, told[0], told[1], told[2])).map_err(|refusal| Unread::of(refusal, told[4]))
+    }
+
+    /// And value `n` under a name.
+    pub fn attrs_value_at(&mut self, text: &[u8], place: usize, mode: Mode, name: &[u8], n: usize) -> Result<(usize, Option<&str>), Unread> {
+        let mut told = [0usize; 4];
+        let number = unsafe {
+            raw::bridlesnow_attrs_value_at(
+                text.as_ptr(), text.len(), place, u8::from(mode == Mode::Loose), name.as_ptr(), name.len(), n,
+                self.out.as_mut_ptr(), self.out.len(), told.as_mut_ptr(), told.len(),
+            )
+        };
+        let (count, item) =
+            granted(number).and_then(|()| self.item(n, told[0], 0, told[1])).map_err(|refusal| Unread::of(refusal, told[3]))?;
+        Ok((count, item.map(|(_, value)| value)))
+    }
+
+    /// What was laid of an item: a name of `name` bytes, and behind it a value of `value` bytes.
+    fn item(&self, n: usize, count: usize, name: usize, value: usize) -> Result<(usize, Option<Item<'_>>), Refusal> {
+        let part = |from: usize, to: usize| std::str::from_utf8(&self.out[from..to]).map_err(|_| Refusal(2));
+        Ok((count, if n < count { Some((part(0, name)?, part(name, name + value)?)) } else { None }))
     }
 
     /// The columns that the block of one or more lines at a line says, and the block's lines.
@@ -938,6 +1084,53 @@ mod tests {
         assert_eq!(Reader::with_room(16, 37).merge_blocks(text, 2, 1), Err((Refusal(9), 1)));
         assert!(Reader::with_room(0, 27).merge_blocks(text, 1, 1).is_ok());
         assert_eq!(Reader::with_room(0, 26).merge_blocks(text, 1, 1), Err((Refusal(10), 3)));
+    }
+
+    #[test]
+    fn items_and_values() {
+        let mut reader = Reader::new();
+        let text = b"t\n{#v17 .a .b .a\n note=\"say \\\"x\\\"\" :en\n empty bare=''}\n";
+        let items = [("id", "v17"), ("class", "a"), ("class", "b"), ("note", "say \"x\""), ("lang", "en"), ("empty", ""), ("bare", "")];
+        let line = [&b"t "[..], &text[2..text.len() - 1]].concat().iter().map(|b| if *b == b'\n' { b' ' } else { *b }).collect::<Vec<u8>>();
+        for n in 0..items.len() + 2 {
+            let wanted = (items.len(), items.get(n).copied());
+            assert_eq!(reader.item_at(text, 2, n), Ok(wanted));
+            assert_eq!(reader.attrs_item_at(&line, 2, Mode::Strict, n), Ok(wanted));
+        }
+        // A value by its name: of the classes each once; an empty one, which is there, and one that isn't.
+        for (name, n, count, value) in [
+            ("id", 0, 1, Some("v17")), ("id", 1, 1, None), ("class", 0, 2, Some("a")), ("class", 1, 2, Some("b")), ("class", 2, 2, None),
+            ("note", 0, 1, Some("say \"x\"")), ("lang", 0, 1, Some("en")), ("bare", 0, 1, Some("")), ("side", 0, 0, None), ("", usize::MAX, 0, None),
+        ] {
+            assert_eq!(reader.value_at(text, 2, name.as_bytes(), n), Ok((count, value)), "{name}");
+            assert_eq!(reader.attrs_value_at(&line, 2, Mode::Strict, name.as_bytes(), n), Ok((count, value)), "{name}");
+        }
+        // Refusals: of the block, of its set, and of the room.
+        assert_eq!(reader.item_at(b"t", 1, 0), Err((Refusal(3), Lines::default())));
+        assert_eq!(reader.value_at(b"\xff", 1, b"id", 0), Err((Refusal(2), Lines::default())));
+        assert_eq!(reader.attrs_item_at(b"{#}", 0, Mode::Strict, 0), Err(Unread { refusal: Refusal(5), place: Some(1) }));
+        assert_eq!(reader.attrs_value_at(b"{a", 0, Mode::Loose, b"a", 0), Err(Unread { refusal: Refusal(4), place: None }));
+        let lines = Lines { count: 1, next: 8, lookahead: 0, joined: 0 };
+        assert_eq!(Reader::with_room(0, 3).item_at(b"{a=bcd}\n", 1, 0), Err((Refusal(10), lines)));
+        assert_eq!(Reader::with_room(0, 3).value_at(b"{a=bcd}\n", 1, b"a", 0), Ok((1, Some("bcd"))));
+        assert_eq!(Reader::with_room(0, 0).item_at(b"{a=bcd}\n", 1, 1), Ok((1, None)));
+        assert_eq!(Reader::with_room(0, 4).attrs_item_at(b"{a=bcd}", 0, Mode::Loose, 0), Ok((1, Some(("a", "bcd")))));
+    }
+
+    #[test]
+    fn payloads_and_tokens() {
+        let text = b"see {:en #i .c k=v q=\"a \\\" b\" bare} there";
+        let payload = payload_at(text, 4).unwrap();
+        assert_eq!((payload, payload_at(text, 5), payload_at(b"{}", 0)), (&text[5..34], None, Some(&b""[..])));
+        assert_eq!(
+            tokens(payload, Mode::Strict).collect::<Result<Vec<_>, _>>(),
+            Ok(vec![
+                Token::Tag(1..3), Token::Id(5..6), Token::Class(8..9), Token::Plain(10..11, 12..13), Token::Quoted(14..15, 16..24), Token::Bare(25..29),
+            ])
+        );
+        assert_eq!(tokens(b" a  .% b", Mode::Strict).collect::<Vec<_>>(), [Ok(Token::Bare(1..2)), Err(5)]);
+        assert_eq!(tokens(b"a\tb", Mode::Strict).count(), 1);
+        assert_eq!(tokens(b"", Mode::Loose).count(), 0);
     }
 
     #[test]
@@ -1334,6 +1527,13 @@ mod tests {
             assert_eq!(raw::bridlesnow_merge_blocks(null(), 0, 1, 2, null_mut(), 0, null_mut(), 0, null_mut(), 0, null_mut(), 0), 3);
             assert_eq!(raw::bridlesnow_consume_loose(null(), 0, 1, null_mut(), 0, null_mut(), 0, null_mut(), 0), 3);
             assert_eq!(raw::bridlesnow_consume_loose(b"{loose}".as_ptr(), 7, 1, null_mut(), 0, null_mut(), 0, null_mut(), 0), 12);
+            assert_eq!(raw::bridlesnow_item_at(null(), 0, 1, 0, null_mut(), 0, null_mut(), 0, null_mut(), 0), 3);
+            assert_eq!(raw::bridlesnow_item_at(b"{a}".as_ptr(), 3, 1, 0, null_mut(), 0, null_mut(), 0, null_mut(), 0), 10);
+            assert_eq!(raw::bridlesnow_value_at(b"{a}".as_ptr(), 3, 1, b"a".as_ptr(), 1, 0, null_mut(), 0, null_mut(), 0, null_mut(), 0), 0);
+            assert_eq!(raw::bridlesnow_attrs_item_at(null(), 0, 0, 0, 0, null_mut(), 0, null_mut(), 0), 3);
+            assert_eq!(raw::bridlesnow_attrs_value_at(b"{a}".as_ptr(), 3, 0, 9, null(), 0, 0, null_mut(), 0, null_mut(), 0), 0);
+            assert!(!raw::bridlesnow_payload_at(null(), 0, 0, null_mut(), 0));
+            assert!(!raw::bridlesnow_next_token(null(), 0, 7, 0, null_mut(), 0));
             assert_eq!(raw::bridlesnow_variants(null(), 0, null_mut(), 0, null_mut(), 0, null_mut(), 0), 9);
             assert_eq!(raw::bridlesnow_index_build(null(), 0, null_mut(), 0, null_mut(), 0, null_mut(), 0, null_mut(), 0), 9);
             assert_eq!(raw::bridlesnow_index_read(null(), 0, null_mut(), 0, null_mut(), 0), 14);

@@ -23,7 +23,7 @@ pub fn mode_of(loose: u8) -> Mode
 }
 
 // Why nothing was read at a brace.
-fn check_by(a: Answer) -> Outcome
+pub fn check_by(a: Answer) -> Outcome
     ensures { λ r. ⌜ r ≡ checkBy a ⌝ }
 {
     match a {
@@ -34,7 +34,7 @@ fn check_by(a: Answer) -> Outcome
 }
 
 // The place behind what was read at a brace.
-fn next_of(a: Answer) -> usize
+pub fn next_of(a: Answer) -> usize
     ensures { λ r. ⌜ r ≡ placeBehind a ⌝ }
 {
     match a {
@@ -45,7 +45,7 @@ fn next_of(a: Answer) -> usize
 }
 
 // The place at which a payload with no reading went wrong.
-fn place_of(a: Answer) -> usize
+pub fn place_of(a: Answer) -> usize
     ensures { λ r. ⌜ r ≡ placeSaid a ⌝ }
 {
     match a {

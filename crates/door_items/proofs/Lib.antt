@@ -1,0 +1,2 @@
+-- Laws that the proofs of door_items cite.
+mod Said

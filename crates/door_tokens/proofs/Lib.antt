@@ -1,0 +1,2 @@
+-- Laws that the proofs of door_tokens cite.
+mod Told

@@ -1,0 +1,3 @@
+-- The definitions that the contracts of set_items cite; Inner: those of private functions alone.
+pub mod Items
+pub mod Inner

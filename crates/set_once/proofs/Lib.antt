@@ -1,0 +1,2 @@
+-- What callers of set_once cite beyond the contracts.
+pub mod Kept
