@@ -21,8 +21,8 @@ use Rattle.text_digits.specs.declared.Decimal.the-variants.{None, Is}
 use Rattle.proved_valves.proofs.Numbers.{read-is}
 use Rattle.sheet_records.specs.Records.{InBounds, idFits, idField, notLf, mostNumber, recordLine}
 use Rattle.sheet_records.specs.Computed.{leastNumber, fieldOf, fieldAt, onField, behindTab, idEnd, idAt, endAt, offsetAt, countAt, recordAt, idIn, recordIn}
-use Rattle.sheet_records.specs.declared.Field.{Field}
-use Rattle.sheet_records.specs.declared.Field.the-variants.{Unread, Read}
+use Rattle.sheet_records.specs.declared.NumberAt.{NumberAt}
+use Rattle.sheet_records.specs.declared.NumberAt.the-variants.{Unread, Read}
 use Rattle.sheet_records.specs.declared.IndexRow.{IndexRow}
 use Rattle.sheet_records.specs.declared.RecordAt.{RecordAt}
 use Rattle.sheet_records.specs.declared.RecordAt.the-variants.{Bad, Good}
@@ -80,13 +80,13 @@ tab-back t at k e q = go (begins (drop at t) 9) refl q
     go true b f = record { text = byte-is t at 9 b; is = f }
     go false b f = let z : _≡_ {A = ℕ} 0 1 = cc in absurd (omega arith)
 
-pub record Field-is (f : Field) (k : ℕ → ℕ → RecordAt) (e : IndexRow) : Type 0 where
+pub record Field-is (f : NumberAt) (k : ℕ → ℕ → RecordAt) (e : IndexRow) : Type 0 where
   pub n : ℕ
   pub p : ℕ
   pub is : f ≡ Read n p
   pub on : k n p ≡ Good e
 
-on-back : (f : Field) (k : ℕ → ℕ → RecordAt) (e : IndexRow) → onField f k ≡ Good e → Field-is f k e
+on-back : (f : NumberAt) (k : ℕ → ℕ → RecordAt) (e : IndexRow) → onField f k ≡ Good e → Field-is f k e
 unfolding onField
 on-back Unread k e q = let z : _≡_ {A = ℕ} 0 1 = cc in absurd (omega arith)
 on-back (Read n p) k e q = record { n = n; p = p; is = refl; on = q }

@@ -13,8 +13,8 @@ use Rattle.base_lists.proofs.Same.{same-refl, same-true}
 use Rattle.base_refusals.specs.Orders.{inOrder}
 use Rattle.base_refusals.specs.declared.Outcome.the-variants as outcome
 use Rattle.base_refusals.specs.declared.Refusal.the-variants.{NotAnIndex}
-use Rattle.sheet_records.specs.Records.{Record, AllIn, recordLine, indexVersion, indexHeader, indexText, rowAt, rowsAt, indexRows, IsIndex}
-use Rattle.sheet_records.specs.Computed.{Index, notIndex, rows, withRow, onRow, recordAt, recordIn, rowsFrom, isHeaded, isOther, otherTold, headIn, indexBy, readIndexOf, readIndex}
+use Rattle.sheet_records.specs.Records.{Record, AllIn, recordLine, indexVersion, headerOf, indexHeader, indexText, rowAt, rowsAt, indexRows, IsIndex}
+use Rattle.sheet_records.specs.Computed.{Index, notIndex, rows, withRow, onRow, recordAt, recordIn, rowsFrom, isHeadedBy, isHeaded, isOther, otherTold, headIn, indexBy, readIndexOf, readIndex}
 use Rattle.sheet_records.specs.declared.IndexRow.{IndexRow}
 use Rattle.sheet_records.specs.declared.RecordAt.{RecordAt}
 use Rattle.sheet_records.specs.declared.RecordAt.the-variants.{Bad, Good}
@@ -44,13 +44,19 @@ from-reads (suc left) t at (r ∷ rs) w d h =
     let y = from-reads left t (rowAt at r .next) rs (w .1) (x .1 .1) (omega (arith, s, f)) in
     (rw (lt-ltb at (length t) s, x .0) (ap (withRow (rowAt at r)) (y .0)), ap (λ (q : Record). q ∷ recordsBy t (rowsAt (rowAt at r .next) rs)) (x .1 .0) ∙ ap (λ (qs : List Record). r ∷ qs) (y .1))
 
-text-read : (rs : List Record) → AllIn rs → (readIndex (indexText rs) ≡ rows (indexRows rs)) × (recordsBy (indexText rs) (indexRows rs) ≡ rs)
-unfolding readIndexOf indexText indexRows
-text-read rs w =
+-- an index of the version v is read by a reader of v
+pub version-read : (v : ℕ) (rs : List Record) → AllIn rs
+    → (readIndexOf v (headerOf v ++ flatMap recordLine rs) ≡ rows (rowsAt (length (headerOf v)) rs)) × (recordsBy (headerOf v ++ flatMap recordLine rs) (rowsAt (length (headerOf v)) rs) ≡ rs)
+unfolding readIndexOf
+version-read v rs w =
     let x : List ℕ = flatMap recordLine rs in
-    let y = from-reads (suc (length (indexHeader ++ x))) (indexHeader ++ x) (length indexHeader) rs w (drop-append-seam indexHeader x) (omega (arith, length-append indexHeader x)) in
-    let h : isHeaded (indexHeader ++ x) ≡ true = rw (take-append-seam indexHeader x) (same-refl indexHeader) in
-    (ap (indexBy indexVersion (indexHeader ++ x)) (sym (headed-passes (indexHeader ++ x) refl h)) ∙ y .0, y .1)
+    let y = from-reads (suc (length (headerOf v ++ x))) (headerOf v ++ x) (length (headerOf v)) rs w (drop-append-seam (headerOf v) x) (omega (arith, length-append (headerOf v) x)) in
+    let h : isHeadedBy v (headerOf v ++ x) ≡ true = rw (take-append-seam (headerOf v) x) (same-refl (headerOf v)) in
+    (ap (indexBy v (headerOf v ++ x)) (sym (headed-passes v (headerOf v ++ x) refl h)) ∙ y .0, y .1)
+
+text-read : (rs : List Record) → AllIn rs → (readIndex (indexText rs) ≡ rows (indexRows rs)) × (recordsBy (indexText rs) (indexRows rs) ≡ rs)
+unfolding indexText indexRows
+text-read rs w = version-read indexVersion rs w
 
 pub index-is-read : IndexIsRead
 index-is-read t rs w = rw (w .text) (text-read rs (w .in-range))

@@ -18,15 +18,15 @@ use Rattle.base_refusals.specs.declared.Refusal.the-variants.{NotAnIndex, Anoth
 use Rattle.text_digits.specs.Decimal.{decimal}
 use Rattle.sheet_records.specs.Records.{recordLine, mostNumber, indexVersion, headerOf}
 use Rattle.sheet_records.specs.Computed.{Index, notIndex, rows, fieldAt, isHeadedBy, headFront, endsLine, isNumbered, isOther, otherTold, headIn, readIndexOf, readIndex}
-use Rattle.sheet_records.specs.declared.Field.{Field}
-use Rattle.sheet_records.specs.declared.Field.the-variants.{Unread, Read}
+use Rattle.sheet_records.specs.declared.NumberAt.{NumberAt}
+use Rattle.sheet_records.specs.declared.NumberAt.the-variants.{Unread, Read}
 use Rattle.sheet_records.specs.declared.IndexRow.{IndexRow}
 use Rattle.sheet_index.specs.Finding.{recordsBy}
 use Rattle.sheet_index.proofs.Rows.{Whys, whys}
-use Rattle.proved_index.specs.Versions.{OtherHeader, SixteenExactly, NoForm, FourteenExactly, LastSeason, OnlyFourteen, VersionOne}
+use Rattle.proved_index.specs.Versions.{OtherHeader, OtherByRule, SixteenExactly, NoForm, FourteenExactly, LastSeasonReads, LastSeason, OnlyFourteen, VersionOne}
 use Rattle.sheet_records.proofs.Written.{field-reads, field-past}
 use Rattle.proved_index.proofs.Back.{field-back, byte-is}
-use Rattle.proved_index.proofs.Form.{index-is-read, read-is-index}
+use Rattle.proved_index.proofs.Form.{version-read, index-is-read, read-is-index}
 
 -- ---- a first line as it is read
 
@@ -84,7 +84,7 @@ module _ (v : ℕ) (t : List ℕ) (k : v ≤ mostNumber) where
       let b = both (same (take (length headFront) t) headFront) (endsLine t (fieldAt t (length headFront) 0)) (a .0) in
       go (fieldAt t (length headFront) 0) refl (b .1) (same-true (take (length headFront) t) headFront (b .0)) (not-true (isHeadedBy v t) (a .1))
     where
-      go : (f : Field) → fieldAt t (length headFront) 0 ≡ f → endsLine t f ≡ true → take (length headFront) t ≡ headFront → isHeadedBy v t ≡ false → OtherHeader v t
+      go : (f : NumberAt) → fieldAt t (length headFront) 0 ≡ f → endsLine t f ≡ true → take (length headFront) t ≡ headFront → isHeadedBy v t ≡ false → OtherHeader v t
       go Unread q b h n = let z : _≡_ {A = ℕ} 0 1 = cc in absurd (omega arith)
       go (Read m p) q b h n =
           let w = field-back t (length headFront) 0 m p q in
@@ -144,6 +144,9 @@ module _ (t : List ℕ) where
       go false q (notIndex r) e = e ∙ ap notIndex (this-why e ∙ rw q)
       go false q (rows es) e = absurd (w .form (recordsBy t es) (read-is-index t es e))
 
+pub other-by-rule : OtherByRule
+other-by-rule t = (other-rule indexVersion t version-fits, rule-other indexVersion t version-fits)
+
 pub sixteen-exactly : SixteenExactly
 sixteen-exactly t = (sixteen-rule t, rule-sixteen t)
 
@@ -154,6 +157,9 @@ fourteen-exactly t = (fourteen-rule t, rule-fourteen t)
 
 other-version : (v n : ℕ) (s : List ℕ) → v ≤ mostNumber → n ≤ mostNumber → (n ≡ v → ⊥) → readIndexOf v (headerOf n ++ s) ≡ notIndex (otherTold v)
 other-version v n s k l d = other-read v (headerOf n ++ s) (rule-other v (headerOf n ++ s) k (record { number = n; within = l; other = d; behind = s; text = refl }))
+
+pub last-season-reads : LastSeasonReads
+last-season-reads rs w = version-read 1 rs w .0
 
 pub last-season : LastSeason
 last-season s = other-version 1 2 s (omega arith) (omega arith) (λ e. absurd (omega arith))

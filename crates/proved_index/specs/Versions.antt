@@ -1,11 +1,13 @@
 -- "The index header becomes 2. A version 1 index is refused and rebuilt, and a display of last season must refuse version 2 by its header and show nothing from it."
 use mathlib.Core.Path.{_≡_}
+use mathlib.Core.Bool.{true}
 use mathlib.Core.List.{List, _++_, flatMap}
 use Prim.Native.Nat.{ℕ, _≤_}
 use Rattle.base_refusals.specs.declared.Refusal.{Refusal}
 use Rattle.base_refusals.specs.declared.Refusal.the-variants.{NotAnIndex, AnotherVersion}
-use Rattle.sheet_records.specs.Records.{Record, recordLine, mostNumber, indexVersion, headerOf, IsIndex}
-use Rattle.sheet_records.specs.Computed.{notIndex, readIndexOf, readIndex}
+use lib.ListN.{length}
+use Rattle.sheet_records.specs.Records.{Record, AllIn, recordLine, mostNumber, indexVersion, headerOf, rowsAt, IsIndex}
+use Rattle.sheet_records.specs.Computed.{notIndex, rows, isOther, readIndexOf, readIndex}
 
 -- "16 first line right but for another number": the first line, with its LF, is that of another version than v; what follows doesn't matter
 pub record OtherHeader (v : ℕ) (t : List ℕ) : Type 0 where
@@ -14,6 +16,10 @@ pub record OtherHeader (v : ℕ) (t : List ℕ) : Type 0 where
   pub other : number ≡ v → ⊥
   pub behind : List ℕ
   pub text : t ≡ headerOf number ++ behind
+
+-- the test that reading, looking up and mending order 16 by says so exactly there
+abbrev pub OtherByRule : Type 0
+OtherByRule = (t : List ℕ) → (isOther indexVersion t ≡ true → OtherHeader indexVersion t) × (OtherHeader indexVersion t → isOther indexVersion t ≡ true)
 
 -- 16 exactly there
 abbrev pub SixteenExactly : Type 0
@@ -31,6 +37,10 @@ FourteenExactly = (t : List ℕ) → (readIndex t ≡ notIndex NotAnIndex → No
 -- an index as version v has it, whatever its records are
 abbrev pub versionText : ℕ → List Record → List ℕ
 versionText v rs = headerOf v ++ flatMap recordLine rs
+
+-- "first line `carve-attr-index`, tab, `1`; then one record a line": such an index a display of last season reads, as the rows of its records
+abbrev pub LastSeasonReads : Type 0
+LastSeasonReads = (rs : List Record) → AllIn rs → readIndexOf 1 (versionText 1 rs) ≡ rows (rowsAt (length (headerOf 1)) rs)
 
 -- "a display of last season must refuse version 2 by its header and show nothing from it": 14, whatever follows the first line
 abbrev pub LastSeason : Type 0

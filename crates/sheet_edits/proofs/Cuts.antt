@@ -30,6 +30,7 @@ use Rattle.block_trimmed_line.specs.Fronts.{beginsIndented}
 use Rattle.sheet_splits.specs.Parting.{isWhole, MayPart}
 use Rattle.sheet_splits.proofs.Lines.{whole-drop}
 use Rattle.sheet_edits.specs.Edits.{isFlat, flatFrom, lastFlat, tillFlat, keeps, moreAgain, spanBy, spanTo, spanFrom, spanOf, againIn, againBy, againOf, isAgain, Replaced}
+use Rattle.sheet_edits.specs.Rules.{FlatLine}
 use Rattle.sheet_edits.proofs.Walks.{till-le}
 use Rattle.sheet_edits.specs.declared.Span as spans
 use Rattle.sheet_edits.specs.declared.Span.the-variants as span
@@ -38,13 +39,13 @@ use Rattle.sheet_edits.specs.declared.Again.the-variants as again
 
 -- ---- texts that are empty or end in LF
 
-whole-snoc : (x : List ℕ) (b : ℕ) → isWhole (x ++ (b ∷ [])) ≡ eqb b 10
+pub whole-snoc : (x : List ℕ) (b : ℕ) → isWhole (x ++ (b ∷ [])) ≡ eqb b 10
 unfolding isWhole
 whole-snoc [] b = refl
 whole-snoc (a ∷ []) b = refl
 whole-snoc (a ∷ c ∷ x) b = whole-snoc (c ∷ x) b
 
-snoc-append : (x : List ℕ) (b : ℕ) (s : List ℕ) → x ++ (b ∷ s) ≡ (x ++ (b ∷ [])) ++ s
+pub snoc-append : (x : List ℕ) (b : ℕ) (s : List ℕ) → x ++ (b ∷ s) ≡ (x ++ (b ∷ [])) ++ s
 snoc-append x b s = sym (append-assoc x (b ∷ []) s)
 
 -- so does what goes up to the first LF, if there is one
@@ -80,7 +81,7 @@ pub record FlatStop (x s : List ℕ) (k : ℕ) : Type 0 where
   pub whole : isWhole (x ++ take k s) ≡ true
   pub flat : beginsIndented (drop k s) ≡ false
 
-till-stops : (fresh : Bool) (x s : List ℕ) → (fresh ≡ true → isWhole x ≡ true) → tillFlat fresh s < length s → FlatStop x s (tillFlat fresh s)
+pub till-stops : (fresh : Bool) (x s : List ℕ) → (fresh ≡ true → isWhole x ≡ true) → tillFlat fresh s < length s → FlatStop x s (tillFlat fresh s)
 unfolding tillFlat
 till-stops fresh x [] w h = absurd (omega arith)
 till-stops fresh x (b ∷ s) w h = go (isFlat fresh b) refl h (till-stops (eqb b 10) (x ++ (b ∷ [])) s (λ e. whole-snoc x b ∙ e))
@@ -92,13 +93,8 @@ till-stops fresh x (b ∷ s) w h = go (isFlat fresh b) refl h (till-stops (eqb b
 
 -- ---- the last such line
 
-record FlatAt (t : List ℕ) (p : ℕ) : Type 0 where
-  pub within : p < length t
-  pub whole : isWhole (take p t) ≡ true
-  pub flat : beginsIndented (drop p t) ≡ false
-
 abbrev Lastly : List ℕ → ℕ → Type 0
-Lastly t p = (p ≡ 0) ⊎ FlatAt t p
+Lastly t p = (p ≡ 0) ⊎ FlatLine t p
 
 flat-from : (fresh : Bool) (x s : List ℕ) (last : ℕ) → (fresh ≡ true → isWhole x ≡ true) → Lastly (x ++ s) last → Lastly (x ++ s) (flatFrom fresh (length x) last s)
 unfolding flatFrom
@@ -113,7 +109,7 @@ flat-from fresh x (b ∷ s) last w h =
         inr (record { within = omega (arith, length-append x (b ∷ s)); whole = rw (take-append-seam x (b ∷ s)) (w (f .0)); flat = rw (drop-append-seam x (b ∷ s)) (f .1) })
     here false e = h
 
-last-flat : (t : List ℕ) → Lastly t (lastFlat t)
+pub last-flat : (t : List ℕ) → Lastly t (lastFlat t)
 unfolding isWhole
 last-flat t = flat-from true [] t 0 (λ e. refl) (inl refl)
 
@@ -285,7 +281,7 @@ module _ (old new : List ℕ) (a b : ℕ) where
           }
 
     -- and the other way
-    keeps-all : (x : List ℕ) → new ≡ take from old ++ (x ++ drop to old) → keeps old new from to ≡ true
+    pub keeps-all : (x : List ℕ) → new ≡ take from old ++ (x ++ drop to old) → keeps old new from to ≡ true
     unfolding keeps
     keeps-all x e =
         let w = span-within old a b q in

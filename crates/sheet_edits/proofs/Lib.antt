@@ -1,4 +1,5 @@
 -- Laws of replaced lines.
 pub mod Walks
 pub mod Cuts
+pub mod Rules
 pub mod Mended

@@ -44,8 +44,6 @@ module _ (t : List ℕ) (p e : ℕ) (h : p ≤ e) (l : e ≤ length t) where
 pub cuts-mend : {old new : List ℕ} {p e n : ℕ} → Cuts old new p e n → length old ≤ maxText → length new ≤ maxText → Mends old new p e n
 cuts-mend {old} {new} {p} {e} {n} c k m =
     record {
-      before = recordsOf (take p old);
-      behind = recordsOf (drop e old);
       old-records = parts-records old p e (c .ordered) (c .within) (c .old-front) (c .old-end) k;
       new-records = rw (c .front, c .end) at (parts-records new p n (c .new-ordered) (c .new-within) (c .new-front) (c .new-end) m);
     }

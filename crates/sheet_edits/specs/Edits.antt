@@ -52,7 +52,7 @@ keeps old new from to =
     leb (from + (length old - to)) (length new)
     && (same (take from new) (take from old) && same (drop (length new - (length old - to)) new) (drop to old))
 
--- ---- the lines that are read again
+-- ---- the lines that are read again, by computing; Rules says by what they are which these are, and the two are proved to agree
 
 -- a byte begins a line (where it is fresh), "with neither space nor tab"
 abbrev pub isFlat : Bool → ℕ → Bool

@@ -9,7 +9,7 @@ ghost use mathlib.Core.Bool.{cond};
 ghost use Prim.Native.Nat.{_≤_};
 
 // Where the first of some lines begins and where the line behind the last does; or that they aren't lines of the text.
-pub enum Span {
+enum Span {
     Missing,
     At(usize, usize),
 }

@@ -34,8 +34,8 @@ use Rattle.sheet_records.specs.Listed.{idOf, listedIf, recordsOf}
 use Rattle.sheet_records.specs.Writing.{rawId, lineFits, putOf, lineOver, tableSize, rowOver}
 use Rattle.sheet_records.specs.Inner.{lineSize}
 use Rattle.sheet_records.specs.declared.IndexRow.{IndexRow}
-use Rattle.sheet_records.specs.declared.Put.{Put}
-use Rattle.sheet_records.specs.declared.Put.the-variants as put
+use Rattle.sheet_records.specs.declared.PutLine.{PutLine}
+use Rattle.sheet_records.specs.declared.PutLine.the-variants as put
 use Rattle.set_marks.proofs.Values.{bytes-short}
 use Rattle.sheet_records.proofs.Lines.{header-long, front-laid, line-size, row-next, numbers-short}
 use Rattle.sheet_index.specs.Building.{sheetOrder, roomFor, laidBy, buildOrder, builtOf, builtText, builtTable, builtTries, builtPaper}
@@ -158,12 +158,12 @@ module _ (buf : List ℕ) (k : ℕ) (r : Record) (more : List Record) where
   unfolding flatMap
   fits-so o h e = le-leb (k + length (recordLine r)) (length buf) (omega (arith, length-append (recordLine r) (linesText more), ap (λ x. length (linesText (listedIf r x ++ more))) e))
 
-  pub none-added : (o : outcomes.Outcome) {p : Put} → k + length (linesText (listedIf r o ++ more)) ≤ length buf → p ≡ putAdded (length buf) k (listedIf r o) → p ≡ put.NoRoom → listedIf r o ≡ []
+  pub none-added : (o : outcomes.Outcome) {p : PutLine} → k + length (linesText (listedIf r o ++ more)) ≤ length buf → p ≡ putAdded (length buf) k (listedIf r o) → p ≡ put.NoRoom → listedIf r o ≡ []
   unfolding putAdded putOf
   none-added (outcome.Refused q) h e f = refl
   none-added outcome.Passed h e f = let z : put.Row (rowAt k r) ≡ put.NoRoom = sym (rw (fits-so outcome.Passed h refl) at (sym f ∙ e)) in let g : _≡_ {A = ℕ} 0 1 = cc in absurd (omega arith)
 
-  pub one-added : (o : outcomes.Outcome) {p : Put} {e : IndexRow} → k + length (linesText (listedIf r o ++ more)) ≤ length buf → p ≡ putAdded (length buf) k (listedIf r o) → p ≡ put.Row e
+  pub one-added : (o : outcomes.Outcome) {p : PutLine} {e : IndexRow} → k + length (linesText (listedIf r o ++ more)) ≤ length buf → p ≡ putAdded (length buf) k (listedIf r o) → p ≡ put.Row e
       → (listedIf r o ≡ r ∷ []) × ((e ≡ rowAt k r) × (addedOver buf k (listedIf r o) ≡ sets buf k (recordLine r)))
   unfolding putAdded putOf addedOver lineOver
   one-added (outcome.Refused q) h e f = let z : _≡_ {A = ℕ} 0 1 = cc in absurd (omega arith)
@@ -186,7 +186,7 @@ module _ {t join₀ table₀ out₀ join table out : List ℕ} {at line i k : �
       let w = round.rounds-none (inv .rounds) e j z in
       (w .1, (rw (w .0) at (inv .rows), rw (w .0) at (inv .text)))
 
-  module _ (z : r .block .lines ≡ 0 → ⊥) {p : Put} {out′ : List ℕ}
+  module _ (z : r .block .lines ≡ 0 → ⊥) {p : PutLine} {out′ : List ℕ}
       (q : p ≡ putAdded (length out) k (blockAdds (two t (slice 0 (r .block .joined) join′)) (line + r .skipped) (r .block .lines) (r .at) (r .block .set) (r .block .outcome)))
       (o : out′ ≡ addedOver out k (blockAdds (two t (slice 0 (r .block .joined) join′)) (line + r .skipped) (r .block .lines) (r .at) (r .block .set) (r .block .outcome))) where
     abbrev rec : Record
@@ -307,7 +307,7 @@ module _ (r : Record) {v o : outcomes.Outcome} (e : v ≡ o) where
     unfolding putAdded addedOver
     puts-none f = rw (← e, f) (refl, refl)
 
-    pub puts-some : {p : Put} {b : List ℕ} → v ≡ outcome.Passed → p ≡ putOf (length buf) k r → b ≡ lineOver buf k r → (p ≡ putAdded (length buf) k (listedIf r o)) × (b ≡ addedOver buf k (listedIf r o))
+    pub puts-some : {p : PutLine} {b : List ℕ} → v ≡ outcome.Passed → p ≡ putOf (length buf) k r → b ≡ lineOver buf k r → (p ≡ putAdded (length buf) k (listedIf r o)) × (b ≡ addedOver buf k (listedIf r o))
     unfolding putAdded addedOver
     puts-some f g h = rw (← e, f) (g, h)
 

@@ -13,8 +13,8 @@ use Rattle.sheet_records.specs.Records.{Record, recordLine, indexText}
 use Rattle.sheet_records.specs.Listed.{idOf, listedIf, recordsOf}
 use Rattle.sheet_records.specs.Computed.{Index, notIndex, rows}
 use Rattle.sheet_records.specs.Writing.{putOf, lineOver}
-use Rattle.sheet_records.specs.declared.Put.{Put}
-use Rattle.sheet_records.specs.declared.Put.the-variants.{NoRoom}
+use Rattle.sheet_records.specs.declared.PutLine.{PutLine}
+use Rattle.sheet_records.specs.declared.PutLine.the-variants.{NoRoom}
 use Rattle.sheet_verdicts.specs.Verdicts.{blockVerdict}
 use Rattle.sheet_index.specs.Building.{roomFor}
 use Rattle.sheet_index.specs.declared.Built.{Built}
@@ -55,7 +55,7 @@ orFirst Missing x = x
 orFirst (Row l c o) x = Row l c o
 
 -- what is answered and written for what a block adds, which is one record at most
-unfoldable pub putAdded : ℕ → ℕ → List Record → Put
+unfoldable pub putAdded : ℕ → ℕ → List Record → PutLine
 putAdded size k [] = NoRoom
 putAdded size k (r ∷ rs) = putOf size k r
 

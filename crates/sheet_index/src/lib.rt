@@ -4,7 +4,7 @@ use base_refusals::Refusal;
 use read_blocks::Block;
 use set_table::Attrs;
 use sheet_records::IndexRow;
-use sheet_records::Put;
+use sheet_records::PutLine;
 use sheet_records::RecordAt;
 ghost use mathlib.Core.Path.{_≡_};
 ghost use mathlib.Core.Bool.{true};
@@ -46,9 +46,9 @@ pub enum LookUp {
 }
 
 // How many records a sheet has, and how many bytes their index.
-pub struct Sizes {
-    pub records: usize,
-    pub bytes: usize,
+struct Sizes {
+    records: usize,
+    bytes: usize,
 }
 
 // How many bytes the line of a block takes, whose set is over these two texts.
@@ -124,7 +124,7 @@ fn put_set<'a>(
     lines: usize,
     at: usize,
     set: Attrs,
-) -> Put
+) -> PutLine
     ensures { λ r. ⌜ r ≡ putOf (length (now (out .entry))) k (setRecord (two (now (first .entry)) (now (second .entry))) n lines at set) ⌝ }
     ensures { λ _. ⌜ now (out .exit) ≡ lineOver (now (out .entry)) k (setRecord (two (now (first .entry)) (now (second .entry))) n lines at set) ⌝ }
 {
@@ -143,12 +143,12 @@ fn put_block<'a>(
     n: usize,
     at: usize,
     block: Block,
-) -> Put
+) -> PutLine
     ensures { λ r. ⌜ r ≡ putAdded (length (now (out .entry))) k (blockAdds (two (now (text .entry)) (slice 0 (block .joined) (now (join .entry)))) n (block .lines) at (block .set) (block .outcome)) ⌝ }
     ensures { λ _. ⌜ now (out .exit) ≡ addedOver (now (out .entry)) k (blockAdds (two (now (text .entry)) (slice 0 (block .joined) (now (join .entry)))) n (block .lines) at (block .set) (block .outcome)) ⌝ }
 {
     match sheet_verdicts::verdict_of(text, join, block) {
-        Outcome::Refused(_) => Put::NoRoom,
+        Outcome::Refused(_) => PutLine::NoRoom,
         Outcome::Passed => {
             let joined = set_table::bytes_of(join, 0, block.joined);
             put_set(out, k, text, joined, n, block.lines, at, block.set)
@@ -177,12 +177,12 @@ fn lay(text: &[u8], join: &mut [u8], table: &mut [usize], out: &mut [u8])
         }
         let n = line + next.skipped;
         match put_block(out, k, text, join, n, next.at, block) {
-            Put::NoRoom => {
+            PutLine::NoRoom => {
                 line = n + block.lines;
                 at = block.next;
                 continue 'sheet;
             }
-            Put::Row(row) => {
+            PutLine::Row(row) => {
                 sheet_records::put_row(table, i, row);
                 i += 1;
                 k = row.next;

@@ -32,21 +32,21 @@ ghost use Rattle.sheet_mends.specs.Mending.{mendOrder, mendedOf, mendedT
 ghost use Rattle.sheet_mends.specs.Assembled.{AreAgain, OldParts, MayMend, seenOf, soFar, textAndRest, behindVersion, behindEdit, behindTexts, comparedTries, versionTries, checkedTries, answeredBy, tableBy, textBy};
 
 // Records that are told one after the other: whether their lines stand in an index, how many they are, and where the next line begins.
-pub struct Progress {
-    pub good: bool,
-    pub records: usize,
-    pub next: usize,
+struct Progress {
+    good: bool,
+    records: usize,
+    next: usize,
 }
 
 // What is seen of an old text and an index: whether it is the text's own; how many lines stand before those that are read again and how many before those behind
 // them; how many records stand before them, and where in the index their records begin and end.
-pub struct Seen {
-    pub good: bool,
-    pub line: usize,
-    pub less: usize,
-    pub records: usize,
-    pub from: usize,
-    pub to: usize,
+struct Seen {
+    good: bool,
+    line: usize,
+    less: usize,
+    records: usize,
+    from: usize,
+    to: usize,
 }
 
 // Whether both are so.

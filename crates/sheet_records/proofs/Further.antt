@@ -16,7 +16,7 @@ use Rattle.text_digits.specs.declared.Decimal as answer
 use Rattle.text_digits.specs.declared.Decimal.the-variants.{None, Is}
 use Rattle.sheet_records.specs.Records.{mostNumber, indexHeader}
 use Rattle.sheet_records.specs.Computed.{leastNumber, fieldOf, fieldAt, onField, behindTab, idEnd, idAt, endAt, offsetAt, countAt, recordAt, Index, notIndex, rows, withRow, onRow, rowsFrom}
-use Rattle.sheet_records.specs.declared.Field.the-variants.{Unread, Read}
+use Rattle.sheet_records.specs.declared.NumberAt.the-variants.{Unread, Read}
 use Rattle.sheet_records.specs.declared.IndexRow.{IndexRow}
 use Rattle.sheet_records.specs.declared.RecordAt.{RecordAt}
 use Rattle.sheet_records.specs.declared.RecordAt.the-variants.{Bad, Good}

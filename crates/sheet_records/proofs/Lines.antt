@@ -26,12 +26,12 @@ use Rattle.set_marks.specs.Marks.{bytesIn}
 use Rattle.base_lists.specs.Lists.{same}
 use Rattle.base_lists.proofs.Same.{same-length}
 use Rattle.sheet_records.specs.Records.{RecordId, noId, anId, Record, numbersText, idField, recordLine, indexVersion, headerOf, indexHeader, rowBy, rowAt}
-use Rattle.sheet_records.specs.Computed.{fieldAt, isHeaded, headFront, endsLine, isNumbered, isOther, otherTold, headOrder, headIn, headOf}
+use Rattle.sheet_records.specs.Computed.{fieldAt, isHeadedBy, isHeaded, headFront, endsLine, isNumbered, isOther, otherTold, headOrder, headIn, headOf}
 use Rattle.sheet_records.specs.Writing.{rawId, lineFits, putOf, lineOver, putPaper, rowOver}
 use Rattle.sheet_records.specs.Inner.{lineSize, endText, rowTo}
-use Rattle.sheet_records.specs.declared.Field.the-variants.{Unread, Read}
+use Rattle.sheet_records.specs.declared.NumberAt.the-variants.{Unread, Read}
 use Rattle.sheet_records.specs.declared.IndexRow.{IndexRow}
-use Rattle.sheet_records.specs.declared.Put.the-variants.{NoRoom, Row}
+use Rattle.sheet_records.specs.declared.PutLine.the-variants.{NoRoom, Row}
 use Rattle.sheet_records.proofs.Places.{begins-past}
 
 -- an answer, and the same on paper
@@ -85,15 +85,15 @@ module _ (t : List ℕ) {s : List ℕ} {x : Bool} (e : s ≡ take 17 t) (f : x �
       numbered-byte h = numbered-by (rw (g, drop-cons t p 0 h))
 
 -- some version's, and this one's
-module _ (t : List ℕ) where
-  pub headed-passes : {x : Bool} → x ≡ isHeaded t → x ≡ true → outcome.Passed ≡ headOf t
-  unfolding headIn isOther inOrder
-  headed-passes e y = rw (← e, y) (go (isNumbered t))
-    where
-      go : (b : Bool) → outcome.Passed ≡ cond (b && false) (outcome.Refused (otherTold indexVersion)) outcome.Passed
-      go true = refl
-      go false = refl
+pub headed-passes : (v : ℕ) (t : List ℕ) {x : Bool} → x ≡ isHeadedBy v t → x ≡ true → outcome.Passed ≡ headIn v t
+unfolding headIn isOther inOrder
+headed-passes v t e y = rw (← e, y) (go (isNumbered t))
+  where
+    go : (b : Bool) → outcome.Passed ≡ cond (b && false) (outcome.Refused (otherTold v)) outcome.Passed
+    go true = refl
+    go false = refl
 
+module _ (t : List ℕ) where
   pub headed-own : {x : Bool} → x ≡ isHeaded t → x ≡ true → false ≡ isOther indexVersion t
   unfolding isOther
   headed-own e y = rw (← e, y) (go (isNumbered t))

@@ -20,8 +20,8 @@ use Rattle.sheet_records.specs.Records.{notLf, mostNumber}
 use Rattle.sheet_records.specs.Computed.{leastNumber, fieldOf, fieldAt, onField, behindTab, idEnd, idAt, endAt}
 use Rattle.text_digits.specs.declared.Decimal as answer
 use Rattle.text_digits.specs.declared.Decimal.the-variants.{None, Is}
-use Rattle.sheet_records.specs.declared.Field.{Field}
-use Rattle.sheet_records.specs.declared.Field.the-variants.{Unread, Read}
+use Rattle.sheet_records.specs.declared.NumberAt.{NumberAt}
+use Rattle.sheet_records.specs.declared.NumberAt.the-variants.{Unread, Read}
 use Rattle.sheet_records.specs.declared.RecordAt.{RecordAt}
 use Rattle.sheet_records.specs.declared.RecordAt.the-variants.{Bad, Good}
 
@@ -38,7 +38,7 @@ begins-past t at b h = rw (drop-of-length-le t {i = at} h)
 
 -- ---- the loop over digits: d is what those before place i are
 
-abbrev pub onward : ℕ → state.Digits → ℕ → List ℕ → Field
+abbrev pub onward : ℕ → state.Digits → ℕ → List ℕ → NumberAt
 onward least d i s = leastNumber least (i + run isDigit s) (readOut (digitsFrom mostNumber d (take (run isDigit s) s)))
 
 onward-go : (least : ℕ) (d : state.Digits) (i b : ℕ) (s : List ℕ) → isDigit b ≡ true → onward least d i (b ∷ s) ≡ onward least (digitsStep mostNumber d b) (suc i) s
@@ -146,10 +146,10 @@ module _ (t : List ℕ) (at : ℕ) (k : ℕ → RecordAt) where
   unfolding behindTab
   tab-yes r h e q = rw (begins-at t at tab h e) (rw add-one at q)
 
-pub field-bad : (f : Field) (k : ℕ → ℕ → RecordAt) → f ≡ Unread → Bad ≡ onField f k
+pub field-bad : (f : NumberAt) (k : ℕ → ℕ → RecordAt) → f ≡ Unread → Bad ≡ onField f k
 unfolding onField
 field-bad f k e = rw e
 
-pub field-on : (f : Field) (k : ℕ → ℕ → RecordAt) (n p : ℕ) (r : RecordAt) → f ≡ Read n p → r ≡ k n p → r ≡ onField f k
+pub field-on : (f : NumberAt) (k : ℕ → ℕ → RecordAt) (n p : ℕ) (r : RecordAt) → f ≡ Read n p → r ≡ k n p → r ≡ onField f k
 unfolding onField
 field-on f k n p r e q = rw e q

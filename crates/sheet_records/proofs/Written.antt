@@ -17,7 +17,7 @@ use Rattle.text_numbers.proofs.Numbers.{number-read, all-digits}
 use Rattle.sheet_records.specs.Records.{RecordId, noId, anId, Record, InBounds, idFits, idField, notLf, mostNumber, numbersText, recordLine, rowBy, rowAt}
 use Rattle.sheet_records.specs.Computed.{leastNumber, fieldOf, fieldAt, onField, behindTab, idEnd, idAt, endAt, offsetAt, countAt, recordAt, recordIn}
 use Rattle.sheet_records.proofs.Lines.{numbers-long}
-use Rattle.sheet_records.specs.declared.Field.the-variants.{Read}
+use Rattle.sheet_records.specs.declared.NumberAt.the-variants.{Read}
 use Rattle.sheet_records.specs.declared.RecordAt.{RecordAt}
 use Rattle.sheet_records.specs.declared.RecordAt.the-variants.{Good}
 

@@ -18,8 +18,8 @@ use Rattle.text_digits.specs.Digits.{numberIn}
 use Rattle.text_digits.specs.declared.Decimal as answer
 use Rattle.text_digits.specs.declared.Decimal.the-variants.{None, Is}
 use Rattle.sheet_records.specs.Records.{RecordId, noId, anId, Record, notLf, mostNumber, indexVersion, indexWord, headerOf, rowNumbers}
-use Rattle.sheet_records.specs.declared.Field.{Field}
-use Rattle.sheet_records.specs.declared.Field.the-variants.{Unread, Read}
+use Rattle.sheet_records.specs.declared.NumberAt.{NumberAt}
+use Rattle.sheet_records.specs.declared.NumberAt.the-variants.{Unread, Read}
 use Rattle.sheet_records.specs.declared.IndexRow.{IndexRow}
 use Rattle.sheet_records.specs.declared.RecordAt.{RecordAt}
 use Rattle.sheet_records.specs.declared.RecordAt.the-variants.{Bad, Good}
@@ -27,20 +27,20 @@ use Rattle.sheet_records.specs.declared.RecordAt.the-variants.{Bad, Good
 -- ---- a number
 
 -- a number from `least` on, and the place behind it
-unfoldable pub leastNumber : ℕ → ℕ → answer.Decimal → Field
+unfoldable pub leastNumber : ℕ → ℕ → answer.Decimal → NumberAt
 leastNumber least next None = Unread
 leastNumber least next (Is n) = cond (ltb n least) Unread (Read n next)
 
-unfoldable pub fieldOf : ℕ → ℕ → List ℕ → Field
+unfoldable pub fieldOf : ℕ → ℕ → List ℕ → NumberAt
 fieldOf least at s = leastNumber least (at + run isDigit s) (numberIn mostNumber (take (run isDigit s) s))
 
 -- the number whose digits stand at a place, as many as there are
-unfoldable pub fieldAt : List ℕ → ℕ → ℕ → Field
+unfoldable pub fieldAt : List ℕ → ℕ → ℕ → NumberAt
 fieldAt t at least = fieldOf least at (drop at t)
 
 -- ---- a record
 
-unfoldable pub onField : Field → (ℕ → ℕ → RecordAt) → RecordAt
+unfoldable pub onField : NumberAt → (ℕ → ℕ → RecordAt) → RecordAt
 onField Unread k = Bad
 onField (Read n at) k = k n at
 
@@ -120,7 +120,7 @@ abbrev pub headFront : List ℕ
 headFront = indexWord ++ (tab ∷ [])
 
 -- a number was read, and an LF stands behind it
-abbrev pub endsLine : List ℕ → Field → Bool
+abbrev pub endsLine : List ℕ → NumberAt → Bool
 endsLine t Unread = false
 endsLine t (Read n p) = begins (drop p t) lf
 

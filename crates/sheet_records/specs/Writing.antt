@@ -9,8 +9,8 @@ use Rattle.base_refusals.specs.Numbers.{Paper, passedPaper}
 use Rattle.set_marks.specs.Marks.{bytesIn}
 use Rattle.sheet_records.specs.Records.{RecordId, noId, anId, Record, recordLine, rowAt, rowNumbers}
 use Rattle.sheet_records.specs.declared.IndexRow.{IndexRow}
-use Rattle.sheet_records.specs.declared.Put.{Put}
-use Rattle.sheet_records.specs.declared.Put.the-variants.{NoRoom, Row}
+use Rattle.sheet_records.specs.declared.PutLine.{PutLine}
+use Rattle.sheet_records.specs.declared.PutLine.the-variants.{NoRoom, Row}
 
 -- the id that raw bytes are, quoted or not, where there is one
 abbrev pub rawId : Bool → Bool → List ℕ → RecordId
@@ -20,14 +20,14 @@ rawId given quoted s = cond given (anId (bytesIn quoted s)) noId
 abbrev pub lineFits : ℕ → ℕ → Record → Bool
 lineFits size at r = leb (at + length (recordLine r)) size
 
-unfoldable pub putOf : ℕ → ℕ → Record → Put
+unfoldable pub putOf : ℕ → ℕ → Record → PutLine
 putOf size at r = cond (lineFits size at r) (Row (rowAt at r)) NoRoom
 
 unfoldable pub lineOver : List ℕ → ℕ → Record → List ℕ
 lineOver buf at r = cond (lineFits (length buf) at r) (sets buf at (recordLine r)) buf
 
 -- on paper: the row and where the next line begins, or nothing where there is no room
-abbrev pub putPaper : Put → Paper
+abbrev pub putPaper : PutLine → Paper
 putPaper NoRoom = passedPaper []
 putPaper (Row e) = passedPaper (e .next ∷ rowNumbers e)
 

@@ -19,7 +19,7 @@ ghost use Rattle.sheet_records.specs.Writing.{rawId, putOf, lineOver, pu
 ghost use Rattle.sheet_records.specs.Inner.{lineSize, endText, rowTo};
 
 // A number and the place behind it.
-pub enum Field {
+pub enum NumberAt {
     Unread,
     Read(usize, usize),
 }
@@ -40,30 +40,30 @@ pub enum RecordAt {
 }
 
 // The row of a line that was written, or that it had no room.
-pub enum Put {
+pub enum PutLine {
     NoRoom,
     Row(IndexRow),
 }
 
 // The number that was read, from `least` on, and the place behind it.
-fn close(d: Digits, least: usize, next: usize) -> Field
+fn close(d: Digits, least: usize, next: usize) -> NumberAt
     ensures { λ r. ⌜ r ≡ leastNumber least next (readOut d) ⌝ }
 {
     let n = text_digits::read_out(d);
     match n {
-        Decimal::None => Field::Unread,
+        Decimal::None => NumberAt::Unread,
         Decimal::Is(n) => {
             let k = n as usize;
             if k < least {
-                return Field::Unread;
+                return NumberAt::Unread;
             }
-            Field::Read(k, next)
+            NumberAt::Read(k, next)
         }
     }
 }
 
 // The number whose digits stand at a place.
-fn field_at(index: &[u8], at: usize, least: usize) -> Field
+fn field_at(index: &[u8], at: usize, least: usize) -> NumberAt
     ensures { λ r. ⌜ r ≡ fieldAt (now (index .entry)) at least ⌝ }
 {
     let mut d = Digits::NoDigit;
@@ -138,8 +138,8 @@ fn offset_at(index: &[u8], line: usize, count: usize, at: usize) -> RecordAt
 {
     let f = field_at(index, at, 0);
     match f {
-        Field::Unread => RecordAt::Bad,
-        Field::Read(n, p) => end_at(index, line, count, n, p),
+        NumberAt::Unread => RecordAt::Bad,
+        NumberAt::Read(n, p) => end_at(index, line, count, n, p),
     }
 }
 
@@ -148,8 +148,8 @@ fn count_at(index: &[u8], line: usize, at: usize) -> RecordAt
 {
     let f = field_at(index, at, 1);
     match f {
-        Field::Unread => RecordAt::Bad,
-        Field::Read(n, p) => {
+        NumberAt::Unread => RecordAt::Bad,
+        NumberAt::Read(n, p) => {
             if index.len() <= p {
                 return RecordAt::Bad;
             }
@@ -168,8 +168,8 @@ pub fn record_at(index: &[u8], at: usize) -> RecordAt
 {
     let line = field_at(index, at, 1);
     match line {
-        Field::Unread => RecordAt::Bad,
-        Field::Read(n, p) => {
+        NumberAt::Unread => RecordAt::Bad,
+        NumberAt::Read(n, p) => {
             if index.len() <= p {
                 return RecordAt::Bad;
             }
@@ -217,8 +217,8 @@ fn is_numbered(index: &[u8]) -> bool
     }
     let number = field_at(index, 17, 0);
     match number {
-        Field::Unread => false,
-        Field::Read(_, p) => {
+        NumberAt::Unread => false,
+        NumberAt::Read(_, p) => {
             if index.len() <= p {
                 return false;
             }
@@ -367,7 +367,7 @@ pub fn put_record(
     given: bool,
     quoted: bool,
     raw: &[u8],
-) -> Put
+) -> PutLine
     ensures { λ r. ⌜ r ≡ putOf (length (now (out .entry))) at (record { line = line; count = count; offset = offset; id = rawId given quoted (now (raw .entry)) }) ⌝ }
     ensures { λ _. ⌜ now (out .exit) ≡ lineOver (now (out .entry)) at (record { line = line; count = count; offset = offset; id = rawId given quoted (now (raw .entry)) }) ⌝ }
     ensures { λ r. ⌜ putPaper r ≡ putPaper (putOf (length (now (out .entry))) at (record { line = line; count = count; offset = offset; id = rawId given quoted (now (raw .entry)) })) ⌝ }
@@ -375,11 +375,11 @@ pub fn put_record(
     let mut front = [0u8; FRONT];
     let n = lay_numbers(&mut front, line, count, offset);
     if !has_room(out.len(), at, n, given, id_len(quoted, raw)) {
-        return Put::NoRoom;
+        return PutLine::NoRoom;
     }
     base_lists::put_bytes(out, at, set_table::bytes_of(&front, 0, n));
     let next = put_end(out, at + n, given, quoted, raw);
-    Put::Row(row_of(line, count, offset, at + n, given, next))
+    PutLine::Row(row_of(line, count, offset, at + n, given, next))
 }
 
 // Writes a row of a lent table, counted from 0, where the table has it.

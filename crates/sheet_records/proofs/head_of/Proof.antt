@@ -1,5 +1,6 @@
 use Rattle.base_refusals.specs.Numbers.{outcomeNo}
 use Rattle.base_refusals.proofs.Said.{said}
+use Rattle.sheet_records.specs.Records.{indexVersion}
 use Rattle.sheet_records.proofs.Lines as laws
 use borrow.Author.Needs.{needs}
 use Rattle.sheet_records.proofs.head_of.Statement.{statement}
@@ -9,7 +10,7 @@ is-headed-requires : tie.Need-is-headed-requires
 is-headed-requires c κs = search needs
 
 returns : tie.Need-returns
-returns c = said outcomeNo (laws.head-no _) (laws.headed-passes _ (c .before .is-headed .ensures) (c .if1 .taken))
+returns c = said outcomeNo (laws.head-no _) (laws.headed-passes indexVersion _ (c .before .is-headed .ensures) (c .if1 .taken))
 
 is-numbered-requires : tie.Need-is-numbered-requires
 is-numbered-requires c κs = search needs
