@@ -1,0 +1,2 @@
+-- The definitions that the contracts of block_faults cite.
+pub mod Faults

@@ -1,0 +1,4 @@
+-- The proofs of what specs/ states.
+pub mod Findings
+pub mod Braces
+pub mod Stops

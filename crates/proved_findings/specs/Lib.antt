@@ -1,0 +1,3 @@
+-- What is proved of the findings of a sheet.
+pub mod Findings
+pub mod Stops

@@ -1,0 +1,2 @@
+-- The laws that the proofs of run_stops cite.
+pub mod Laws

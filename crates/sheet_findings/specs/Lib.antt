@@ -1,0 +1,2 @@
+-- The definitions that the contracts of sheet_findings cite.
+pub mod Findings
