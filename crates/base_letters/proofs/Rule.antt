@@ -6,7 +6,7 @@ use mathlib.Core.List.{List, [], _∷_}
 use Prim.Native.Nat.{ℕ, zero, suc, _+_, _*_, _/_, _%_, _^_, _<_, _≤_}
 use native.Mathlib.Nat.{zero-div}
 use native.Mathlib.Omega.{arith}
-use lib.Bits.{bitAnd, and-zero-l}
+use lib.Bits.{bitAnd, and-zero-l, and-le-r, and-mod}
 use lib.Dec.{eqb, leb}
 use lib.ListN.{length, getD, List·getD-eq-default}
 use borrow.Author.Tests.{lt-leb, ne-eqb, leb-true, leb-false}
@@ -105,6 +105,24 @@ name-part = told isNamePart 15 refl no-part
 -- so whoever is lent the table may rely on it
 pub tells : TellsBytes classes
 tells = record { letter = letter; alnum = alnum; key = key-start; name = name-start; part = name-part }
+
+-- ---- of any table: a byte with a class of a mask has one of each mask that holds the bits of it, since a mask looks at no more than the byte's four bits
+abbrev marked : ℕ → ℕ → Bool
+marked mask x = not (eqb (bitAnd x mask) 0)
+
+low : (x mask : ℕ) → mask < 16 → bitAnd x mask ≡ bitAnd (x % 16) mask
+low x mask h =
+    let l : mask % 16 ≡ mask = omega arith in
+    let z : bitAnd x mask % 16 ≡ bitAnd x mask = omega (arith, and-le-r x mask) in
+    sym z ∙ (and-mod x mask 4 ∙ ap (bitAnd (x % 16)) l)
+
+module _ (mask wide : ℕ) (e : values (λ x. cond (marked mask x) (marked wide x) true) 16 0 ≡ values (λ x. true) 16 0) where
+  pub wider : mask < 16 → wide < 16 → (table : List ℕ) (b : ℕ) → isOf table mask b ≡ true → isOf table wide b ≡ true
+  wider h l table b q =
+      let x = classIn table b in
+      let p : marked mask (x % 16) ≡ true = sym (ap (λ y. not (eqb y 0)) (low x mask h)) ∙ q in
+      let z = agree (λ x. cond (marked mask x) (marked wide x) true) (λ x. true) 16 e (x % 16) (omega arith) in
+      ap (λ y. not (eqb y 0)) (low x wide l) ∙ (rw p at z)
 
 -- a byte has one class or none
 pub one-class : (b : ℕ) → OneOf (0 ∷ 1 ∷ 2 ∷ 4 ∷ 8 ∷ []) (classOf b)

@@ -8,7 +8,7 @@ use native.Mathlib.Nat.{zero-add, suc-add}
 use borrow.Author.Tests.{eqb-true}
 use lib.Dec.{eqb, ltb, leb}
 use lib.ListN.{length, take, drop}
-use Rattle.base_lists.specs.Lists.{run, firstIs}
+use Rattle.base_lists.specs.Lists.{run}
 use Rattle.base_lists.proofs.More.{contra}
 use Rattle.base_bytes.specs.Bytes.{within, isLetter, isDigit, isAlnum, isNameStart, isNamePart, isQuote, isPlain}
 use Rattle.base_letters.specs.Classes.{frontRun}
@@ -97,14 +97,6 @@ tag-front (b ∷ s) k = go (isNamePart b) refl (tag-front s (suc k)) (tag-front 
 abbrev pub afterWord : List ℕ → ℕ
 afterWord [] = 0
 afterWord (b ∷ s) = cond (eqb b 61) (suc (along Spot.due s)) 0
-
-pub after-none : (s : List ℕ) → firstIs (λ b. eqb b 61) s ≡ false → afterWord s ≡ 0
-after-none [] e = refl
-after-none (b ∷ s) e = rw e
-
-pub after-some : (s : List ℕ) → firstIs (λ b. eqb b 61) s ≡ true → afterWord s ≡ suc (along Spot.due (drop 1 s))
-after-some [] e = contra false e refl
-after-some (b ∷ s) e = rw e
 
 pub word-way : (s : List ℕ) (ok : Bool) → along (Spot.word ok) s ≡ run isNamePart s + afterWord (drop (run isNamePart s) s)
 unfolding walkPasses turnOf run

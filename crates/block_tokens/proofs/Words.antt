@@ -20,7 +20,7 @@ use Rattle.base_bytes.specs.Bytes.{isLetter, isAlnum, isNameStart, isNamePart, 
 use Rattle.base_letters.specs.Classes.{frontRun}
 use Rattle.base_letters.proofs.Fronts as fronts
 use Rattle.text_names.specs.Names.{isName, isKey, isBareName}
-use Rattle.text_names.specs.Computed.{isLanguage, tagPasses}
+use Rattle.text_names.specs.Computed.{languageBy, isLanguage, tagPasses}
 use Rattle.text_names.proofs.Told.{whole-language}
 use Rattle.block_grammar.specs.Grammar.{Item, isValue}
 use Rattle.block_grammar.specs.Computed.{First, Shut, ends, finish, frontToken, shutOf, quotedToken, plainToken, valueToken, afterName, nameToken, tokenOf}
@@ -31,8 +31,13 @@ use Rattle.block_places.proofs.Ways as ways
 use Rattle.block_tokens.specs.declared.Token.{Token}
 use Rattle.block_tokens.specs.declared.Token.the-variants.{Bad, Tag, Plain, Quoted, Bare}
 use Rattle.block_tokens.specs.Shown.{shownItem, shown, tokenAt}
+use Rattle.block_tokens.specs.Lent.{Tests, tagBy, nameBy, afterBy, wordBy, tagPlaceBy, namePlaceBy, valuePlace, wordPlaceBy}
 use Rattle.block_tokens.specs.Inner.{tagToken, idToken, classToken, quotedFrom, part, startsEq, shutAt, spotPlace, wordPlace}
 use Rattle.block_tokens.proofs.Quotes.{Closed}
+
+-- the bytes' own tests
+abbrev pub bytes : Tests
+bytes = record { letter = isLetter; alnum = isAlnum; key = isKeyStart; name = isNameStart; part = isNamePart }
 
 shown-finish : (i n : ℕ) (m : Mode) (good : Bool) (it : Item) (rest : List ℕ) → shown i n (finish m good it rest) ≡ cond (good && ends m rest) (shownItem i it) (Bad n)
 unfolding finish shown
@@ -97,13 +102,15 @@ module _ (f g : ℕ → Bool) (of : (b : ℕ) → f b ≡ true → g b ≡ true)
       go false p q =
           headed-word f g of s i e m item {a = a} refl h {good = false} (sym (fronts.nothing f g of s is (omega (arith, ltb-false a e p, is)))) {t = tok (a + run g (drop a s))} (λ n k. shows n ∙ ap tok k) q
 
--- behind `#` or `.`
+-- behind `#` or `.`, by any tests where a byte that may begin a name may follow in it too; and by the bytes' own
+pub sigil-by : (t : Tests) → ((b : ℕ) → t .name b ≡ true → t .part b ≡ true) → (s : List ℕ) {a e : ℕ} → e ≡ a + namePlaceBy t (drop a s) → a ≤ length s → (i : ℕ) (m : Mode) (item : List ℕ → Item) (tok : ℕ → Token) → ((n : List ℕ) → shownItem i (item n) ≡ tok (a + length n)) → {r : Token} → r ≡ cond (ltb a e && ends m (drop e s)) (tok e) (Bad e)
+    → r ≡ shown i (a + namePlaceBy t (drop a s)) (nameBy t m item (drop a s))
+sigil-by t of s {a} is h i m item tok shows q = headed-front (t .name) (t .part) of s is h i m item tok shows q ∙ ap (λ x. shown i x (nameBy t m item (drop a s))) is
+
 pub sigil-front : (s : List ℕ) {a e : ℕ} → e ≡ a + frontRun isNameStart isNamePart (drop a s) → a ≤ length s → (i : ℕ) (m : Mode) (item : List ℕ → Item) (tok : ℕ → Token) → ((n : List ℕ) → shownItem i (item n) ≡ tok (a + length n)) → {r : Token} → r ≡ cond (ltb a e && ends m (drop e s)) (tok e) (Bad e)
     → r ≡ shown i (spotPlace Spot.sigil a s) (frontToken m (run isNamePart (drop a s)) isName item (drop a s))
 unfolding isName
-sigil-front s {a} {e} is h i m item tok shows q =
-    let z : spotPlace Spot.sigil a s ≡ e = ap (λ x. a + x) (ways.sigil-way (drop a s)) ∙ sym is in
-    rw z (headed-front isNameStart isNamePart start-part s is h i m item tok shows q)
+sigil-front s {a} is h i m item tok shows q = sigil-by bytes start-part s is h i m item tok shows q ∙ ap (λ x. shown i (a + x) (nameBy bytes m item (drop a s))) (sym (ways.sigil-way (drop a s)))
 
 -- ---- the value behind `=` at k
 run-value : (v : ℕ) (s : List ℕ) → ltb v (v + run isPlain s) ≡ isValue (take (run isPlain s) s)
@@ -163,25 +170,40 @@ module _ (m : Mode) (i k : ℕ) (s : List ℕ) where
       let z : k + 3 + n ≡ e + 1 = omega (arith, c .place) in
       rw (ways.quote-way q (drop (k + 2) s) false, c .found, shown-finish i (k + 2 + suc n) m true (Item.quoted (part i k s) q (take n (drop (k + 2) s))) (drop (suc n) (drop (k + 2) s)), drop-drop (suc n) (k + 2) s, y, part-length i k s h (omega arith), length-take-le n (drop (k + 2) s) (omega (arith, c .place, c .within, length-drop (k + 2) s)), z) p
 
--- ---- behind `:`: what is whole is passed whole, and what isn't, no further than in the run of name bytes
+-- ---- behind `:`, by any tests: what is whole is passed whole, and what isn't, no further than in the run of name bytes
+module _ (t : Tests) (m : Mode) (i : ℕ) (s : List ℕ) {e : ℕ} (is : e ≡ i + 1 + run (t .part) (drop (i + 1) s)) (h : i + 1 ≤ length s) where
+  tag-run : i + 1 + tagPasses (t .alnum) (part (i + 1) e s) 0 ≡ i + 1 + tagPlaceBy t (drop (i + 1) s)
+  tag-run = let z : e - (i + 1) ≡ run (t .part) (drop (i + 1) s) = omega arith in rw z
+
+  pub tag-whole-by : languageBy (t .alnum) (part (i + 1) e s) ≡ true → {r : Token} → r ≡ cond (ends m (drop e s)) (Tag (i + 1) e) (Bad e) → r ≡ shown i (i + 1 + tagPlaceBy t (drop (i + 1) s)) (tagBy t m (drop (i + 1) s))
+  unfolding shownItem
+  tag-whole-by g q =
+      let l = runs.inside (t .part) s is h in
+      let z : e ≡ i + 1 + tagPlaceBy t (drop (i + 1) s) = sym (part-length (i + 1) e s (l .0) (l .1)) ∙ (ap (λ x. i + 1 + x) (sym (whole-language (t .alnum) (part (i + 1) e s) g)) ∙ tag-run) in
+      rw (← z) (word i e m (t .part) (languageBy (t .alnum)) (λ n. Item.tag n) s is h {good = true} (sym g) {t = Tag (i + 1) e} (λ n k. rw k) q)
+
+  pub tag-stops-by : languageBy (t .alnum) (part (i + 1) e s) ≡ false → {n : ℕ} → n ≡ tagPasses (t .alnum) (part (i + 1) e s) 0 → Bad (i + 1 + n) ≡ shown i (i + 1 + tagPlaceBy t (drop (i + 1) s)) (tagBy t m (drop (i + 1) s))
+  unfolding shownItem
+  tag-stops-by g {n} q =
+      let z : i + 1 + n ≡ i + 1 + tagPlaceBy t (drop (i + 1) s) = ap (λ x. i + 1 + x) q ∙ tag-run in
+      rw (← z) (word i (i + 1 + n) m (t .part) (languageBy (t .alnum)) (λ n. Item.tag n) s is h {good = false} (sym g) {t = Tag (i + 1) (i + 1 + (e - (i + 1)))} (λ v k. (let x : length v ≡ e - (i + 1) = omega arith in rw x)) refl)
+
+-- .. and by the bytes' own
+pub tag-place : (s : List ℕ) → tagPlaceBy bytes s ≡ ways.along (Spot.tag 0 true) s
+tag-place s = ways.tag-front s 0 ∙ sym (ways.tag-way s 0 true)
+
 module _ (m : Mode) (i : ℕ) (s : List ℕ) {e : ℕ} (is : e ≡ i + 1 + run isNamePart (drop (i + 1) s)) (h : i + 1 ≤ length s) where
-  tag-place : i + 1 + tagPasses isAlnum (part (i + 1) e s) 0 ≡ spotPlace (Spot.tag 0 true) (i + 1) s
-  tag-place =
-      let z : e - (i + 1) ≡ run isNamePart (drop (i + 1) s) = omega arith in
-      ap (λ x. i + 1 + x) (rw (z, ways.tag-way (drop (i + 1) s) 0 true) (ways.tag-front (drop (i + 1) s) 0))
+  as-tag : {r : Token} → r ≡ shown i (i + 1 + tagPlaceBy bytes (drop (i + 1) s)) (tagBy bytes m (drop (i + 1) s)) → r ≡ shown i (spotPlace (Spot.tag 0 true) (i + 1) s) (tagToken m (drop (i + 1) s))
+  unfolding isLanguage
+  as-tag q = q ∙ ap (λ x. shown i (i + 1 + x) (tagToken m (drop (i + 1) s))) (tag-place (drop (i + 1) s))
 
   pub tag-whole : isLanguage (part (i + 1) e s) ≡ true → {r : Token} → r ≡ cond (ends m (drop e s)) (Tag (i + 1) e) (Bad e) → r ≡ shown i (spotPlace (Spot.tag 0 true) (i + 1) s) (tagToken m (drop (i + 1) s))
-  unfolding isLanguage shownItem
-  tag-whole g q =
-      let l = runs.inside isNamePart s is h in
-      let z : e ≡ spotPlace (Spot.tag 0 true) (i + 1) s = sym (part-length (i + 1) e s (l .0) (l .1)) ∙ (ap (λ x. i + 1 + x) (sym (whole-language isAlnum (part (i + 1) e s) g)) ∙ tag-place) in
-      rw (← z) (word i e m isNamePart isLanguage (λ n. Item.tag n) s is h {good = true} (sym g) {t = Tag (i + 1) e} (λ n k. rw k) q)
+  unfolding isLanguage
+  tag-whole g q = as-tag (tag-whole-by bytes m i s is h g q)
 
   pub tag-stops : isLanguage (part (i + 1) e s) ≡ false → {n : ℕ} → n ≡ tagPasses isAlnum (part (i + 1) e s) 0 → Bad (i + 1 + n) ≡ shown i (spotPlace (Spot.tag 0 true) (i + 1) s) (tagToken m (drop (i + 1) s))
-  unfolding isLanguage shownItem
-  tag-stops g {n} q =
-      let z : i + 1 + n ≡ spotPlace (Spot.tag 0 true) (i + 1) s = ap (λ x. i + 1 + x) q ∙ tag-place in
-      rw (← z) (word i (i + 1 + n) m isNamePart isLanguage (λ n. Item.tag n) s is h {good = false} (sym g) {t = Tag (i + 1) (i + 1 + (e - (i + 1)))} (λ v k. (let x : length v ≡ e - (i + 1) = omega arith in rw x)) refl)
+  unfolding isLanguage
+  tag-stops g q = as-tag (tag-stops-by bytes m i s is h g q)
 
 -- ---- behind a name
 pub starts-within : (s : List ℕ) (i : ℕ) → startsEq (drop i s) ≡ true → i < length s
@@ -191,66 +213,82 @@ starts-within s i e = go (leb (length s) i) refl
     go true p = contra (startsEq (drop i s)) e (sym (first-none (λ b. eqb b 61) s i (leb-true (length s) i p)))
     go false p = leb-false (length s) i p
 
-after-bare : (m : Mode) (k t : List ℕ) → startsEq t ≡ false → afterName m k t ≡ finish m (isBareName k) (Item.bare k) t
-unfolding afterName
-after-bare m k [] e = refl
-after-bare m k (b ∷ t) e = rw e
+-- by any tests where a byte that may begin a name may follow in it too
+module _ (t : Tests) (of : (b : ℕ) → t .key b ≡ true → t .part b ≡ true) (within : (b : ℕ) → t .letter b ≡ true → t .key b ≡ true) (m : Mode) (i : ℕ) (s : List ℕ) {e : ℕ} (is : e ≡ i + run (t .part) (drop i s)) where
+  rest : drop (run (t .part) (drop i s)) (drop i s) ≡ drop e s
+  rest = rw (drop-drop (run (t .part) (drop i s)) i s, ← is)
 
-after-equals : (m : Mode) (k t : List ℕ) → startsEq t ≡ true → afterName m k t ≡ cond (isKey k) (valueToken m k (drop 1 t)) First.none
-unfolding afterName
-after-equals m k [] e = contra false e refl
-after-equals m k (b ∷ t) e = rw e
+  front : take (run (t .part) (drop i s)) (drop i s) ≡ part i e s
+  front = let z : e - i ≡ run (t .part) (drop i s) = omega arith in rw z
 
-no-word : (t : List ℕ) → firstIs isKeyStart t ≡ false → wordPlace t ≡ 0
-no-word [] k = refl
-no-word (b ∷ t) k = rw k
-
-some-word : (t : List ℕ) → firstIs isKeyStart t ≡ true → wordPlace t ≡ run isNamePart t + ways.afterWord (drop (run isNamePart t) t)
-unfolding run
-some-word [] k = contra false k refl
-some-word (b ∷ t) k = rw (k, key-part b k, ways.word-way t (isLetter b), suc-add)
-
-module _ (m : Mode) (i : ℕ) (s : List ℕ) {e : ℕ} (is : e ≡ i + run isNamePart (drop i s)) where
-  rest : drop (run isNamePart (drop i s)) (drop i s) ≡ drop e s
-  rest = rw (drop-drop (run isNamePart (drop i s)) i s, ← is)
-
-  front : take (run isNamePart (drop i s)) (drop i s) ≡ part i e s
-  front = let z : e - i ≡ run isNamePart (drop i s) = omega arith in rw z
-
-  is-key : isKey (part i e s) ≡ firstIs isKeyStart (drop i s)
-  unfolding isKey
-  is-key = sym (headed-run isKeyStart isNamePart key-part s i is refl)
+  is-key : headed (t .key) (t .part) (part i e s) ≡ firstIs (t .key) (drop i s)
+  is-key = sym (headed-run (t .key) (t .part) of s i is refl)
 
   -- the place, where a key begins
-  word-place : firstIs isKeyStart (drop i s) ≡ true → i + wordPlace (drop i s) ≡ e + ways.afterWord (drop e s)
-  word-place k = rw (some-word (drop i s) k, rest) (omega (arith, is))
+  word-place : firstIs (t .key) (drop i s) ≡ true → i + wordPlaceBy t (drop i s) ≡ e + valuePlace (drop e s)
+  word-place k = rw (k, rest) (omega (arith, is))
 
-  name-bare : (w : ℕ) → startsEq (drop e s) ≡ false → {r : Token} → r ≡ shown i w (frontToken m (run isNamePart (drop i s)) isBareName (λ n. Item.bare n) (drop i s)) → r ≡ shown i w (nameToken m (drop i s))
-  name-bare w h q = q ∙ ap (λ x. shown i w x) (rw (after-bare m (take (run isNamePart (drop i s)) (drop i s)) (drop (run isNamePart (drop i s)) (drop i s)) (rw rest h)))
+  name-bare : (w : ℕ) → startsEq (drop e s) ≡ false → {r : Token} → r ≡ shown i w (frontToken m (run (t .part) (drop i s)) (headed (t .letter) (t .part)) (λ n. Item.bare n) (drop i s)) → r ≡ shown i w (wordBy t m (drop i s))
+  name-bare w h q = q ∙ ap (λ x. shown i w x) (rw (rest, h))
 
-  bare-place : startsEq (drop e s) ≡ false → firstIs isKeyStart (drop i s) ≡ true → e ≡ i + wordPlace (drop i s)
-  bare-place h k = sym (word-place k ∙ (rw (ways.after-none (drop e s) h, add-zero)))
+  pub name-word-by : startsEq (drop e s) ≡ false → firstIs (t .key) (drop i s) ≡ true → {r : Token} → r ≡ shown i e (frontToken m (run (t .part) (drop i s)) (headed (t .letter) (t .part)) (λ n. Item.bare n) (drop i s)) → r ≡ shown i (i + wordPlaceBy t (drop i s)) (wordBy t m (drop i s))
+  name-word-by h k q =
+      let z : i + wordPlaceBy t (drop i s) ≡ e = word-place k ∙ (rw (h, add-zero)) in
+      name-bare e h q ∙ ap (λ x. shown i x (wordBy t m (drop i s))) (sym z)
 
-  pub name-word : startsEq (drop e s) ≡ false → firstIs isKeyStart (drop i s) ≡ true → {r : Token} → r ≡ shown i e (frontToken m (run isNamePart (drop i s)) isBareName (λ n. Item.bare n) (drop i s)) → r ≡ shown i (i + wordPlace (drop i s)) (nameToken m (drop i s))
-  name-word h k q = name-bare e h q ∙ ap (λ x. shown i x (nameToken m (drop i s))) (bare-place h k)
-
-  name-bad : startsEq (drop e s) ≡ true → firstIs isKeyStart (drop i s) ≡ false → (w : ℕ) → Bad w ≡ shown i w (nameToken m (drop i s))
+  name-bad : startsEq (drop e s) ≡ true → firstIs (t .key) (drop i s) ≡ false → (w : ℕ) → Bad w ≡ shown i w (wordBy t m (drop i s))
   unfolding shown
-  name-bad h k w = rw (front, rest, after-equals m (part i e s) (drop e s) h, is-key, k)
+  name-bad h k w = rw (front, rest, h, is-key, k)
 
   -- neither a key nor a bare name begins so
-  pub name-none : firstIs isKeyStart (drop i s) ≡ false → i ≤ length s → Bad i ≡ shown i (i + wordPlace (drop i s)) (nameToken m (drop i s))
-  unfolding isBareName shownItem
-  name-none k h = let z : i + wordPlace (drop i s) ≡ i = ap (λ x. i + x) (no-word (drop i s) k) ∙ add-zero i in rw z (go (startsEq (drop e s)) refl)
+  pub name-none-by : firstIs (t .key) (drop i s) ≡ false → i ≤ length s → Bad i ≡ shown i (i + wordPlaceBy t (drop i s)) (wordBy t m (drop i s))
+  unfolding shownItem
+  name-none-by k h = let z : i + wordPlaceBy t (drop i s) ≡ i = rw (k, add-zero) in rw z (go (startsEq (drop e s)) refl)
     where
-      go : (x : Bool) → startsEq (drop e s) ≡ x → Bad i ≡ shown i i (nameToken m (drop i s))
+      go : (x : Bool) → startsEq (drop e s) ≡ x → Bad i ≡ shown i i (wordBy t m (drop i s))
       go true p = name-bad p k i
-      go false p = name-bare i p (headed-word isLetter isNamePart (λ b h. key-part b (letter-key b h)) s i i m (λ n. Item.bare n) is h {good = false} (sym (first-not isLetter isKeyStart letter-key (drop i s) k)) {t = Bare i e} (λ n k. rw k) refl)
+      go false p = name-bare i p (headed-word (t .letter) (t .part) (λ b h. of b (within b h)) s i i m (λ n. Item.bare n) is h {good = false} (sym (first-not (t .letter) (t .key) within (drop i s) k)) {t = Bare i e} (λ n k. rw k) refl)
+
+  pub name-key-by : startsEq (drop e s) ≡ true → firstIs (t .key) (drop i s) ≡ true → {r : Token} → r ≡ shown i (spotPlace Spot.due (e + 1) s) (valueToken m (part i e s) (drop (e + 1) s)) → r ≡ shown i (i + wordPlaceBy t (drop i s)) (wordBy t m (drop i s))
+  name-key-by h k q =
+      let z : i + wordPlaceBy t (drop i s) ≡ spotPlace Spot.due (e + 1) s = word-place k ∙ (rw (h, drop-drop 1 e s) (omega arith)) in
+      rw (z, front, rest, h, is-key, k, drop-drop 1 e s) q
+
+-- .. and by the bytes' own
+after-same : (m : Mode) (k s : List ℕ) → afterBy bytes m k s ≡ afterName m k s
+unfolding afterName isKey isBareName
+after-same m k [] = refl
+after-same m k (b ∷ s) = refl
+
+pub word-same : (m : Mode) (s : List ℕ) → wordBy bytes m s ≡ nameToken m s
+word-same m s = after-same m (take (run isNamePart s) s) (drop (run isNamePart s) s)
+
+value-place : (s : List ℕ) → valuePlace s ≡ ways.afterWord s
+value-place [] = refl
+value-place (b ∷ s) = refl
+
+pub same-place : (s : List ℕ) → wordPlaceBy bytes s ≡ wordPlace s
+unfolding run
+same-place [] = refl
+same-place (b ∷ s) = go (isKeyStart b) refl
+  where
+    go : (x : Bool) → isKeyStart b ≡ x → wordPlaceBy bytes (b ∷ s) ≡ wordPlace (b ∷ s)
+    go true k = rw (k, key-part b k, ways.word-way s (isLetter b), suc-add, value-place (drop (run isNamePart s) s))
+    go false k = rw k
+
+module _ (m : Mode) (i : ℕ) (s : List ℕ) {e : ℕ} (is : e ≡ i + run isNamePart (drop i s)) where
+  as-name : {r : Token} → r ≡ shown i (i + wordPlaceBy bytes (drop i s)) (wordBy bytes m (drop i s)) → r ≡ shown i (i + wordPlace (drop i s)) (nameToken m (drop i s))
+  as-name q = q ∙ (λ k. shown i (i + same-place (drop i s) k) (word-same m (drop i s) k))
+
+  pub name-word : startsEq (drop e s) ≡ false → firstIs isKeyStart (drop i s) ≡ true → {r : Token} → r ≡ shown i e (frontToken m (run isNamePart (drop i s)) isBareName (λ n. Item.bare n) (drop i s)) → r ≡ shown i (i + wordPlace (drop i s)) (nameToken m (drop i s))
+  unfolding isBareName
+  name-word h k q = as-name (name-word-by bytes key-part letter-key m i s is h k q)
+
+  pub name-none : firstIs isKeyStart (drop i s) ≡ false → i ≤ length s → Bad i ≡ shown i (i + wordPlace (drop i s)) (nameToken m (drop i s))
+  name-none k h = as-name (name-none-by bytes key-part letter-key m i s is k h)
 
   pub name-key : startsEq (drop e s) ≡ true → firstIs isKeyStart (drop i s) ≡ true → {r : Token} → r ≡ shown i (spotPlace Spot.due (e + 1) s) (valueToken m (part i e s) (drop (e + 1) s)) → r ≡ shown i (i + wordPlace (drop i s)) (nameToken m (drop i s))
-  name-key h k q =
-      let z : i + wordPlace (drop i s) ≡ spotPlace Spot.due (e + 1) s = word-place k ∙ (rw (ways.after-some (drop e s) h, drop-drop 1 e s) (omega arith)) in
-      rw (z, front, rest, after-equals m (part i e s) (drop e s) h, is-key, k, drop-drop 1 e s) q
+  name-key h k q = as-name (name-key-by bytes key-part letter-key m i s is h k q)
 
 -- ---- by the first byte
 module _ (m : Mode) (s : List ℕ) (i : ℕ) where

@@ -1,3 +1,4 @@
 -- A token by ranges.
 pub mod Shown
+pub mod Lent
 pub mod Inner

@@ -5,12 +5,13 @@ ghost use Prim.Native.Nat.{_+_, _-_, _<_, _≤_};
 ghost use lib.ListN.{length, getD, drop};
 ghost use Rattle.base_lists.specs.Lists.{run};
 ghost use Rattle.base_bytes.specs.Bytes.{isPlain, isBlank};
-ghost use Rattle.base_letters.specs.Classes.{TellsBytes};
 ghost use Rattle.text_names.specs.Tested.{testedPaper};
-ghost use Rattle.block_grammar.specs.Computed.{ends, shutOf, nameToken, valueToken};
+ghost use Rattle.block_grammar.specs.Grammar.{Item};
+ghost use Rattle.block_grammar.specs.Computed.{ends, shutOf, valueToken};
 ghost use Rattle.block_places.specs.Computed.{Spot};
 ghost use Rattle.block_tokens.specs.Shown.{shown, tokenAt, tokenPaper, payloadTested};
-ghost use Rattle.block_tokens.specs.Inner.{startsEq, tagToken, idToken, classToken, quotedFrom, part, shutAt, spotPlace, wordPlace, behindOf};
+ghost use Rattle.block_tokens.specs.Lent.{testsOf, tagBy, nameBy, wordBy, tagPlaceBy, namePlaceBy, wordPlaceBy, tokenBy};
+ghost use Rattle.block_tokens.specs.Inner.{startsEq, quotedFrom, part, shutAt, spotPlace, behindOf};
 use base_bytes::Mode;
 use block_grammar::Place;
 use text_names::Tested;
@@ -84,7 +85,7 @@ fn finish(s: &[u8], e: usize, mode: Mode, good: bool, t: Token) -> Token
 // What stands behind the `:` at i. This and the next three are lent the table of classes.
 fn tag_token(table: &[u64; 16], s: &[u8], i: usize, mode: Mode) -> Token
     requires { ⌜ i < length (now s) ⌝ }
-    ensures { λ r. ⌜ (TellsBytes (now (table .entry)) → r ≡ shown i (spotPlace (Spot.tag 0 true) (i + 1) (now (s .entry))) (tagToken mode (drop (i + 1) (now (s .entry))))) ⌝ }
+    ensures { λ r. ⌜ r ≡ shown i (i + 1 + tagPlaceBy (testsOf (now (table .entry))) (drop (i + 1) (now (s .entry)))) (tagBy (testsOf (now (table .entry))) mode (drop (i + 1) (now (s .entry)))) ⌝ }
 {
     let a = i + 1;
     let e = base_letters::run_end(table, base_letters::NAME_PART, s, a);
@@ -97,7 +98,7 @@ fn tag_token(table: &[u64; 16], s: &[u8], i: usize, mode: Mode) -> Token
 // What stands behind the `#` at i.
 fn id_token(table: &[u64; 16], s: &[u8], i: usize, mode: Mode) -> Token
     requires { ⌜ i < length (now s) ⌝ }
-    ensures { λ r. ⌜ (TellsBytes (now (table .entry)) → r ≡ shown i (spotPlace Spot.sigil (i + 1) (now (s .entry))) (idToken mode (drop (i + 1) (now (s .entry))))) ⌝ }
+    ensures { λ r. ⌜ r ≡ shown i (i + 1 + namePlaceBy (testsOf (now (table .entry))) (drop (i + 1) (now (s .entry)))) (nameBy (testsOf (now (table .entry))) mode (λ n. Item.id n) (drop (i + 1) (now (s .entry)))) ⌝ }
 {
     let a = i + 1;
     let e = base_letters::front_end(table, base_letters::NAME_START, s, a);
@@ -107,7 +108,7 @@ fn id_token(table: &[u64; 16], s: &[u8], i: usize, mode: Mode) -> Token
 // What stands behind the `.` at i.
 fn class_token(table: &[u64; 16], s: &[u8], i: usize, mode: Mode) -> Token
     requires { ⌜ i < length (now s) ⌝ }
-    ensures { λ r. ⌜ (TellsBytes (now (table .entry)) → r ≡ shown i (spotPlace Spot.sigil (i + 1) (now (s .entry))) (classToken mode (drop (i + 1) (now (s .entry))))) ⌝ }
+    ensures { λ r. ⌜ r ≡ shown i (i + 1 + namePlaceBy (testsOf (now (table .entry))) (drop (i + 1) (now (s .entry)))) (nameBy (testsOf (now (table .entry))) mode (λ n. Item.class n) (drop (i + 1) (now (s .entry)))) ⌝ }
 {
     let a = i + 1;
     let e = base_letters::front_end(table, base_letters::NAME_START, s, a);
@@ -175,7 +176,7 @@ fn has_equals(s: &[u8], i: usize) -> bool
 // A key with its value, or a bare name, from i on.
 fn name_token(table: &[u64; 16], s: &[u8], i: usize, mode: Mode) -> Token
     requires { ⌜ i ≤ length (now s) ⌝ }
-    ensures { λ r. ⌜ (TellsBytes (now (table .entry)) → r ≡ shown i (i + wordPlace (drop i (now (s .entry)))) (nameToken mode (drop i (now (s .entry))))) ⌝ }
+    ensures { λ r. ⌜ r ≡ shown i (i + wordPlaceBy (testsOf (now (table .entry))) (drop i (now (s .entry)))) (wordBy (testsOf (now (table .entry))) mode (drop i (now (s .entry)))) ⌝ }
 {
     let e = base_letters::front_end(table, base_letters::KEY_START, s, i);
     if e == i {
@@ -190,7 +191,8 @@ fn name_token(table: &[u64; 16], s: &[u8], i: usize, mode: Mode) -> Token
 
 // The token at i, for a caller that reads many and lends the table of classes.
 pub fn token_by(table: &[u64; 16], s: &[u8], i: usize, mode: Mode) -> Token
-    ensures { λ r. ⌜ (TellsBytes (now (table .entry)) → (r ≡ tokenAt mode (now (s .entry)) i) × (tokenPaper r ≡ tokenPaper (tokenAt mode (now (s .entry)) i))) ⌝ }
+    ensures { λ r. ⌜ r ≡ tokenBy (testsOf (now (table .entry))) mode (now (s .entry)) i ⌝ }
+    ensures { λ r. ⌜ tokenPaper r ≡ tokenPaper (tokenBy (testsOf (now (table .entry))) mode (now (s .entry)) i) ⌝ }
 {
     if s.len() <= i {
         return Token::Bad(i);

@@ -1,12 +1,12 @@
-use mathlib.Core.Path.{refl, _∙_}
+use mathlib.Core.Path.{refl}
 use Prim.Native.Nat.{_+_}
 use native.Mathlib.Omega.{arith}
-use lib.ListN.{drop}
-use Rattle.base_letters.proofs.Fronts as fronts
 use Rattle.block_grammar.specs.Grammar.{Item}
 use Rattle.block_tokens.specs.Shown.{shownItem}
 use Rattle.block_tokens.specs.declared.Token.the-variants.{Class}
+use Rattle.block_tokens.specs.Lent.{testsOf}
 use Rattle.block_tokens.proofs.Words as words
+use Rattle.block_tokens.proofs.Lent as lent
 use borrow.Author.Needs.{needs}
 use Rattle.block_tokens.proofs.class_token.Statement.{statement}
 use Rattle.block_tokens.proofs.class_token.Tie as tie
@@ -22,10 +22,10 @@ finish-requires c κs = search needs
 
 returns : tie.Need-returns
 unfolding shownItem
-returns c = λ tells.
+returns c =
     let start = c .before .before .before in
-    let a = start .args in let is = c .before .front-end .ensures ∙ fronts.same-front (tells .name) (tells .part) (a .i + 1) (drop (a .i + 1) (a .s .now)) in
-    words.sigil-front _ is (omega (arith, start .pre)) _ _ (λ n. Item.class n) (λ e. Class (a .i + 1) e) (λ n. refl) (c .finish .ensures)
+    let a = start .args in
+    words.sigil-by (testsOf (a .table .now)) (lent.name-part (a .table .now)) (a .s .now) (c .before .front-end .ensures) (omega (arith, start .pre)) (a .i) (a .mode) (λ n. Item.class n) (λ e. Class (a .i + 1) e) (λ n. refl) (c .finish .ensures)
 
 pub class-token-spec : {M : Type 1} → statement M
 class-token-spec = tie.close (tie.spec add-a front-end-requires finish-requires returns)

@@ -5,35 +5,32 @@ use Prim.Native.Nat.{ℕ, _+_, _<_}
 use native.Mathlib.Omega.{arith}
 use lib.ListN.{length, drop}
 use Rattle.base_lists.specs.Lists.{run, firstIs}
-use Rattle.base_bytes.specs.Bytes.{isLetter, isKeyStart, isNamePart}
 use Rattle.base_lists.proofs.Runs as runs
 use Rattle.base_lists.proofs.Scan as scan
-use Rattle.base_letters.specs.Classes.{isOf, frontRun, TellsBytes}
+use Rattle.base_letters.specs.Classes.{isOf, frontRun}
 use Rattle.base_letters.proofs.Fronts as fronts
-use Rattle.text_names.specs.Names.{isBareName}
-use Rattle.block_grammar.proofs.Bytes.{letter-key, key-part}
 use Rattle.block_grammar.specs.Grammar.{Item}
 use Rattle.block_tokens.specs.Shown.{shownItem}
+use Rattle.block_tokens.specs.Lent.{testsOf}
 use Rattle.block_tokens.proofs.Words as words
+use Rattle.block_tokens.proofs.Lent as lent
 use borrow.Author.Needs.{needs}
 use Rattle.block_tokens.proofs.name_token.Statement.{statement}
 use Rattle.block_tokens.proofs.name_token.Tie as tie
 
--- what the table finds is a key, and where one begins it goes as far as a name
-key : {t : List ℕ} → TellsBytes t → (i : ℕ) (s : List ℕ) {e : ℕ} → e ≡ i + frontRun (isOf t 5) (isOf t 15) (drop i s) → e ≡ i + frontRun isKeyStart isNamePart (drop i s)
-key tells i s is = is ∙ fronts.same-front (tells .key) (tells .part) i (drop i s)
-
-begun : {t : List ℕ} → TellsBytes t → (i : ℕ) (s : List ℕ) {e : ℕ} → e ≡ i + frontRun (isOf t 5) (isOf t 15) (drop i s) → (e ≡ i → ⊥) → (firstIs isKeyStart (drop i s) ≡ true) × (e ≡ i + run isNamePart (drop i s))
-begun tells i s is n = fronts.begun isKeyStart isNamePart key-part s (key tells i s is) n
+-- where a key begins it goes as far as a name
+begun : (t : List ℕ) (i : ℕ) (s : List ℕ) {e : ℕ} → e ≡ i + frontRun (isOf t 5) (isOf t 15) (drop i s) → (e ≡ i → ⊥) → (firstIs (isOf t 5) (drop i s) ≡ true) × (e ≡ i + run (isOf t 15) (drop i s))
+begun t i s is n = fronts.begun (isOf t 5) (isOf t 15) (lent.key-part t) s is n
 
 front-end-requires : tie.Need-front-end-requires
 front-end-requires c κs = search needs
 
 returns : tie.Need-returns
-returns c = λ tells.
+returns c =
     let start = c .before .before .before in
     let a = start .args in
-    words.name-none (a .mode) (a .i) (a .s .now) refl (fronts.nothing isKeyStart isNamePart key-part (a .s .now) (key tells (a .i) (a .s .now) (c .before .front-end .ensures)) (c .if1 .taken)) (start .pre)
+    let t = a .table .now in
+    words.name-none-by (testsOf t) (lent.key-part t) (lent.letter-key t) (a .mode) (a .i) (a .s .now) refl (fronts.nothing _ _ (lent.key-part t) (a .s .now) (c .before .front-end .ensures) (c .if1 .taken)) (start .pre)
 
 has-equals-requires : tie.Need-has-equals-requires
 has-equals-requires c κs = search needs
@@ -45,11 +42,12 @@ value-token-requires c κs =
     omega (arith, fronts.inside _ _ (a .s .now) (e .ensures) (start .pre), words.starts-within (a .s .now) (e .result) (sym (c .before .has-equals .ensures) ∙ c .if2 .taken))
 
 returns-2 : tie.Need-returns-2
-returns-2 c = λ tells.
+returns-2 c =
     let start = c .before .before .before .before .before .before in
     let a = start .args in
-    let b = begun tells (a .i) (a .s .now) (c .before .before .before .before .front-end .ensures) (c .before .before .before .if1 .left) in
-    words.name-key (a .mode) (a .i) (a .s .now) (b .1) (sym (c .before .before .has-equals .ensures) ∙ c .before .if2 .taken) (b .0) (c .value-token .ensures)
+    let t = a .table .now in
+    let b = begun t (a .i) (a .s .now) (c .before .before .before .before .front-end .ensures) (c .before .before .before .if1 .left) in
+    words.name-key-by (testsOf t) (lent.key-part t) (lent.letter-key t) (a .mode) (a .i) (a .s .now) (b .1) (sym (c .before .before .has-equals .ensures) ∙ c .before .if2 .taken) (b .0) (c .value-token .ensures)
 
 shared-slice-read-is-of : tie.Need-shared-slice-read-is-of
 shared-slice-read-is-of c =
@@ -63,15 +61,16 @@ finish-requires : tie.Need-finish-requires
 finish-requires c κs = search needs
 
 returns-3 : tie.Need-returns-3
-unfolding shownItem isBareName
-returns-3 c = λ tells.
+unfolding shownItem
+returns-3 c =
     let at5 = c .before .before .before .before .before in let at6 = at5 .before in let start = at6 .before .before in
     let a = start .args in
-    let b = begun tells (a .i) (a .s .now) (at6 .front-end .ensures) (at5 .if1 .left) in
-    let l : a .i < length (a .s .now) = omega (arith, runs.inside isNamePart (a .s .now) (b .1) (start .pre), at5 .if1 .left) in
-    let first = sym (fronts.asked (tells .letter) _ (c .before .is-of .ensures)) ∙ scan.first-some isLetter (a .s .now) (a .i) l in
-    words.name-word (a .mode) (a .i) (a .s .now) (b .1) (sym (c .before .before .before .before .has-equals .ensures) ∙ c .before .before .before .if2 .left) (b .0)
-    (words.headed-word isLetter isNamePart (λ b h. key-part b (letter-key b h)) _ _ _ _ (λ n. Item.bare n) (b .1) (start .pre) first (λ n h. rw h) (c .finish .ensures))
+    let t = a .table .now in
+    let b = begun t (a .i) (a .s .now) (at6 .front-end .ensures) (at5 .if1 .left) in
+    let l : a .i < length (a .s .now) = omega (arith, runs.inside (isOf t 15) (a .s .now) (b .1) (start .pre), at5 .if1 .left) in
+    let first = c .before .is-of .ensures ∙ scan.first-some (isOf t 1) (a .s .now) (a .i) l in
+    words.name-word-by (testsOf t) (lent.key-part t) (lent.letter-key t) (a .mode) (a .i) (a .s .now) (b .1) (sym (c .before .before .before .before .has-equals .ensures) ∙ c .before .before .before .if2 .left) (b .0)
+    (words.headed-word (isOf t 1) (isOf t 15) (λ b h. lent.key-part t b (lent.letter-key t b h)) _ _ _ _ (λ n. Item.bare n) (b .1) (start .pre) first (λ n h. rw h) (c .finish .ensures))
 
 pub name-token-spec : {M : Type 1} → statement M
 name-token-spec =

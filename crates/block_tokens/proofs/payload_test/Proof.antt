@@ -10,6 +10,7 @@ use Rattle.base_refusals.proofs.Said.{said}
 use Rattle.text_names.specs.Tested.{testedPaper}
 use Rattle.block_tokens.specs.Shown.{payloadTested}
 use Rattle.block_tokens.specs.Inner.{behindOf}
+use Rattle.block_tokens.proofs.Lent as lent
 use Rattle.block_tokens.proofs.Payload as payload
 use Rattle.block_tokens.proofs.payload_test.Statement.{statement}
 use Rattle.block_tokens.proofs.payload_test.Tie as tie
@@ -45,13 +46,13 @@ tokens-less : tie.Need-tokens-less Inv-tokens μ-tokens
 unfolding classOf isLetter isDigit within
 tokens-less c =
     let at4 = c .before .before .before .before in let at7 = at4 .before .before .before in let at8 = at7 .before in
-    let g = payload.go (at8 .tokens .inv) (at7 .blank-end .ensures) (sym (c .before .e .given .1) ∙ (c .before .before .before .behind-token .ensures) ∙ ap behindOf (at4 .token-by .ensures rule.tells .0)) in omega (arith, g .0 .within, g .1)
+    let g = payload.go (at8 .tokens .inv) (at7 .blank-end .ensures) (sym (c .before .e .given .1) ∙ (c .before .before .before .behind-token .ensures) ∙ ap behindOf (lent.told rule.tells _ _ _ (at4 .token-by .ensures .0))) in omega (arith, g .0 .within, g .1)
 
 tokens-again : tie.Need-tokens-again Inv-tokens μ-tokens
 unfolding classOf isLetter isDigit within
 tokens-again c =
     let at4 = c .before .before .before .before in let at7 = at4 .before .before .before in let at8 = at7 .before in
-    payload.go (at8 .tokens .inv) (at7 .blank-end .ensures) (sym (c .before .e .given .1) ∙ (c .before .before .before .behind-token .ensures) ∙ ap behindOf (at4 .token-by .ensures rule.tells .0)) .0
+    payload.go (at8 .tokens .inv) (at7 .blank-end .ensures) (sym (c .before .e .given .1) ∙ (c .before .before .before .behind-token .ensures) ∙ ap behindOf (lent.told rule.tells _ _ _ (at4 .token-by .ensures .0))) .0
 
 returns : tie.Need-returns Inv-tokens μ-tokens
 returns c = said testedPaper refl (c .whole-or-stops .ensures .0 ∙ payload.end (c .before .before .before .tokens .inv) (c .before .before .blank-end .ensures) (c .before .if1 .taken))
@@ -60,7 +61,7 @@ returns-2 : tie.Need-returns-2 Inv-tokens μ-tokens
 unfolding classOf isLetter isDigit within
 returns-2 c =
     let at6 = c .before .before .before .before .before .before in let at7 = at6 .before in let at8 = at7 .before in
-    said testedPaper refl (payload.stop (at8 .tokens .inv) (at7 .blank-end .ensures) (at6 .if1 .left) (sym (c .before .n .given .1) ∙ (c .before .before .before .behind-token .ensures) ∙ ap behindOf (c .before .before .before .before .token-by .ensures rule.tells .0)))
+    said testedPaper refl (payload.stop (at8 .tokens .inv) (at7 .blank-end .ensures) (at6 .if1 .left) (sym (c .before .n .given .1) ∙ (c .before .before .before .behind-token .ensures) ∙ ap behindOf (lent.told rule.tells _ _ _ (c .before .before .before .before .token-by .ensures .0))))
 
 pub payload-test-spec : {M : Type 1} → statement M
 payload-test-spec =

@@ -3,31 +3,19 @@ use mathlib.Core.Bool.{Bool}
 use mathlib.Core.List.{List}
 use Prim.Native.Nat.{ℕ, _+_, _≤_}
 use native.Mathlib.Omega.{arith}
-use lib.ListN.{length, drop}
-use Rattle.base_lists.specs.Lists.{run}
+use lib.ListN.{length}
 use Rattle.base_lists.proofs.Runs as runs
-use Rattle.base_bytes.specs.Bytes.{isAlnum, isNamePart}
-use Rattle.base_letters.specs.Classes.{isOf, TellsBytes}
-use Rattle.base_letters.proofs.Fronts as fronts
-use Rattle.text_names.specs.declared.Tested.{Tested}
 use Rattle.text_names.specs.declared.Tested.the-variants.{Stops}
 use Rattle.text_names.specs.Tested.{tested}
-use Rattle.text_names.specs.Computed.{languageBy, isLanguage, tagPasses}
-use Rattle.text_names.proofs.Tag.{same-language, pass-le}
+use Rattle.text_names.specs.Computed.{languageBy, tagPasses}
+use Rattle.text_names.proofs.Tag.{pass-le}
 use Rattle.text_names.proofs.Told.{whole-is, stops-is}
+use Rattle.block_tokens.specs.Lent.{testsOf}
 use Rattle.block_tokens.specs.Inner.{part}
 use Rattle.block_tokens.proofs.Words as words
 use borrow.Author.Needs.{needs}
 use Rattle.block_tokens.proofs.tag_token.Statement.{statement}
 use Rattle.block_tokens.proofs.tag_token.Tie as tie
-
--- what the table finds is the run of name bytes, and what it tells of the bytes is the answer
-ran : {t : List ℕ} → TellsBytes t → (a : ℕ) (s : List ℕ) {e : ℕ} → e ≡ a + run (isOf t 15) (drop a s) → e ≡ a + run isNamePart (drop a s)
-ran tells a s is = is ∙ fronts.same-run (tells .part) a (drop a s)
-
-told : {t : List ℕ} → TellsBytes t → (s : List ℕ) {r : Tested} → r ≡ tested (languageBy (isOf t 3) s) (tagPasses (isOf t 3) s 0) → r ≡ tested (isLanguage s) (tagPasses isAlnum s 0)
-unfolding isLanguage
-told tells s e = e ∙ same-language (tells .alnum) s
 
 -- a place that is answered lies in the bytes
 within : (f : ℕ → Bool) (s : List ℕ) (a e : ℕ) {n : ℕ} → Stops n ≡ tested (languageBy f (part a e s)) (tagPasses f (part a e s) 0) → n ≤ length (part a e s)
@@ -68,19 +56,19 @@ add-t15 c =
     omega (arith, start .pre, runs.inside _ (a .s .now) (at3 .before .before .run-end .ensures) (omega (arith, start .pre)), within _ (a .s .now) (a .i + 1) _ (sym (c .before .n .given .1) ∙ at3 .language-by .ensures .0))
 
 returns : tie.Need-returns
-returns c = λ tells.
+returns c =
     let at3 = c .before .before .before in
     let start = at3 .before .before .before .before in
     let a = start .args in
-    words.tag-whole (a .mode) (a .i) (a .s .now) (ran tells (a .i + 1) (a .s .now) (at3 .before .before .run-end .ensures)) (omega (arith, start .pre)) (whole-is _ _ (told tells _ (sym (c .before .enum-told .given .1) ∙ at3 .language-by .ensures .0))) (c .finish .ensures)
+    words.tag-whole-by (testsOf (a .table .now)) (a .mode) (a .i) (a .s .now) (at3 .before .before .run-end .ensures) (omega (arith, start .pre)) (whole-is _ _ (sym (c .before .enum-told .given .1) ∙ at3 .language-by .ensures .0)) (c .finish .ensures)
 
 returns-2 : tie.Need-returns-2
-returns-2 c = λ tells.
+returns-2 c =
     let at3 = c .before .before .before in
     let start = at3 .before .before .before .before in
     let a = start .args in
-    let z = stops-is _ _ (told tells _ (sym (c .before .n .given .1) ∙ at3 .language-by .ensures .0)) in
-    words.tag-stops (a .mode) (a .i) (a .s .now) (ran tells (a .i + 1) (a .s .now) (at3 .before .before .run-end .ensures)) (omega (arith, start .pre)) (z .0) (z .1)
+    let z = stops-is _ _ (sym (c .before .n .given .1) ∙ at3 .language-by .ensures .0) in
+    words.tag-stops-by (testsOf (a .table .now)) (a .mode) (a .i) (a .s .now) (at3 .before .before .run-end .ensures) (omega (arith, start .pre)) (z .0) (z .1)
 
 pub tag-token-spec : {M : Type 1} → statement M
 tag-token-spec =
