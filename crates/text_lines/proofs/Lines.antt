@@ -1,14 +1,14 @@
 -- The lines of a text by the places where they begin and end, and by number: what a loop over lines goes by.
 -- Assumes nothing.
 use mathlib.Core.Path.{_≡_, refl, sym, _∙_, ap}
-use mathlib.Core.Bool.{Bool, true, false, cond, not}
+use mathlib.Core.Bool.{Bool, true, false, cond, not, _||_}
 use mathlib.Core.List.{List, [], _∷_}
 use mathlib.Core.Logic.{_⊎_}
 use Prim.Native.Nat.{ℕ, zero, suc, _+_, _-_, _<_, _≤_, min}
-use native.Mathlib.Nat.{add-zero}
+use native.Mathlib.Nat.{zero-add, add-zero}
 use native.Mathlib.Numerals.{add-one}
 use native.Mathlib.Omega.{arith}
-use borrow.Author.Tests.{ltb-true, ltb-false, eq-eqb, ne-eqb, le-ltb, lt-ltb}
+use borrow.Author.Tests.{ltb-true, ltb-false, eqb-true, eqb-false, eq-eqb, ne-eqb, le-ltb, lt-ltb}
 use lib.Dec.{eqb, ltb, eqb·suc-zero}
 use lib.ListN.{length, getD, drop, length-drop, drop-of-length-le}
 use lib.Seq.{drop-cons, drop-drop, getD-drop, slice}
@@ -38,6 +38,49 @@ module _ {t : List ℕ} {at i : ℕ} (inv : Feeds t at i) where
     pub feeds-go : (getD t i 0 ≡ 10 → ⊥) → Feeds t at (i + 1)
     unfolding eol
     feeds-go e = record { rest = let z = rw (drop-cons t i 0 h, ne-eqb _ _ e) at (inv .rest) in rw (add-one i) (omega (arith, z)) }
+
+-- ---- the same for the strides: where the line ends at k or behind, it ends where the one from k on does
+
+eol-on : (n : ℕ) (s : List ℕ) → n ≤ eol s → n + eol (drop n s) ≡ eol s
+unfolding eol
+eol-on zero s h = zero-add (eol s)
+eol-on (suc n) [] h = absurd (omega arith)
+eol-on (suc n) (b ∷ s) h = go (eqb b 10) h (eol-on n s)
+  where
+    go : (x : Bool) → suc n ≤ cond x 0 (suc (eol s)) → (n ≤ eol s → n + eol (drop n s) ≡ eol s) → suc n + eol (drop n s) ≡ cond x 0 (suc (eol s))
+    go true h ih = absurd (omega arith)
+    go false h ih = omega (arith, ih (omega arith))
+
+feeds-past : {t : List ℕ} {at i k : ℕ} → Feeds t at i → i ≤ k → k ≤ i + eol (drop i t) → Feeds t at k
+feeds-past {t} {at} {i} {k} inv l h =
+    let z : i + (k - i) ≡ k = omega arith in
+    record { rest = omega (arith, inv .rest, rw (drop-drop, z) at (eol-on (k - i) (drop i t) (omega arith))) }
+
+-- the loop of `has_lf` stands before byte k: `found`, whether the LF stands before it
+pub record Looked (t : List ℕ) (i k : ℕ) (found : Bool) : Type 0 where
+  pub onward : i ≤ k
+  pub is : found ≡ ltb (i + eol (drop i t)) k
+
+pub looked-start : (t : List ℕ) (i : ℕ) → Looked t i i false
+looked-start t i = record { onward = omega arith; is = sym (le-ltb _ i (omega arith)) }
+
+pub looked-go : {t : List ℕ} {i k : ℕ} {f g : Bool} → Looked t i k f → k < length t → g ≡ (f || eqb (getD t k 0) 10) → Looked t i (k + 1) g
+looked-go {t} {i} {k} {f} {g} inv h e = record { onward = omega (arith, inv .onward); is = e ∙ go f (inv .is) (eqb (getD t k 0) 10) refl }
+  where
+    here : k ≤ i + eol (drop i t) → Feeds t i k
+    here l = feeds-past (record { rest = refl }) (inv .onward) l
+
+    go : (f : Bool) → f ≡ ltb (i + eol (drop i t)) k → (x : Bool) → eqb (getD t k 0) 10 ≡ x → (f || x) ≡ ltb (i + eol (drop i t)) (k + 1)
+    go true q x p = sym (lt-ltb _ (k + 1) (omega (arith, ltb-true _ k (sym q))))
+    go false q true p = sym (lt-ltb _ (k + 1) (omega (arith, feeds-stop (here (ltb-false _ k (sym q))) h (eqb-true _ _ p))))
+    go false q false p = sym (le-ltb _ (k + 1) (omega (arith, feeds-go (here (ltb-false _ k (sym q))) h (eqb-false _ _ p) .rest)))
+
+pub looked-end : {t : List ℕ} {i k e : ℕ} {f : Bool} → Looked t i k f → k ≡ e → f ≡ ltb (i + eol (drop i t)) e
+looked-end inv e = rw e at (inv .is)
+
+-- no LF among the bytes up to e
+pub feeds-stride : {t : List ℕ} {at i e : ℕ} → Feeds t at i → i ≤ e → ltb (i + eol (drop i t)) e ≡ false → Feeds t at e
+feeds-stride inv l q = feeds-past inv l (ltb-false _ _ q)
 
 -- ---- what `line_from` answers, where e is the place of the LF behind the line at `at`, or the text's end
 ends : {a b c d : ℕ} → a ≡ c → b ≡ d → _≡_ {A = LineEnd} (record { to = a; next = b }) (record { to = c; next = d })

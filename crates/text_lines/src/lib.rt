@@ -1,9 +1,11 @@
 // Trimming, blank lines, and the lines of a text.
 ghost use mathlib.Core.Path.{_≡_};
-ghost use Prim.Native.Nat.{_+_};
+ghost use mathlib.Core.Bool.{_||_};
+ghost use Prim.Native.Nat.{_+_, _≤_};
+ghost use lib.Dec.{eqb, ltb};
 ghost use lib.ListN.{length, drop};
 ghost use Rattle.base_lists.specs.Lists.{run};
-ghost use Rattle.base_bytes.specs.Bytes.{isSpace};
+ghost use Rattle.base_bytes.specs.Bytes.{isSpace, lf};
 ghost use Rattle.text_lines.specs.Trim.{trimEnd, trimRange, isBlankLine};
 ghost use Rattle.text_lines.specs.Lines.{eol, lineFrom, lineOf, linePaper, numberedLine};
 
@@ -73,11 +75,53 @@ pub fn is_blank_line(s: &[u8]) -> bool
     from == s.len()
 }
 
+// Whether an LF was found before, or this byte is one.
+fn or_lf(found: bool, b: u8) -> bool
+    ensures { λ r. ⌜ r ≡ (found || eqb b lf) ⌝ }
+{
+    if found {
+        return true;
+    }
+    b == b'\n'
+}
+
+// Whether an LF stands among the 16 bytes from i on: a loop without a way out, which the compiler makes one comparison of.
+fn has_lf(text: &[u8], i: usize) -> bool
+    requires { ⌜ i + 16 ≤ length (now text) ⌝ }
+    ensures { λ r. ⌜ r ≡ ltb (i + eol (drop i (now (text .entry)))) (i + 16) ⌝ }
+{
+    let mut found = false;
+    let mut k = i;
+    while k < i + 16 {
+        found = or_lf(found, text[k]);
+        k += 1;
+    }
+    found
+}
+
+// Past strides of 16 bytes from `at` on, until an LF stands among the next, or fewer are left: the line ends where it did.
+fn past_strides(text: &[u8], at: usize) -> usize
+    ensures { λ r. ⌜ r + eol (drop r (now (text .entry))) ≡ at + eol (drop at (now (text .entry))) ⌝ }
+{
+    if text.len() < 16 {
+        return at;
+    }
+    let last = text.len() - 16;
+    let mut i = at;
+    while i <= last {
+        if has_lf(text, i) {
+            return i;
+        }
+        i += 16;
+    }
+    i
+}
+
 // The place of the LF behind the line that begins at `at`, or the text's end.
 fn line_feed(text: &[u8], at: usize) -> usize
     ensures { λ r. ⌜ r ≡ at + eol (drop at (now (text .entry))) ⌝ }
 {
-    let mut i = at;
+    let mut i = past_strides(text, at);
     while i < text.len() {
         if text[i] == b'\n' {
             return i;

@@ -1,8 +1,8 @@
--- `line_feed` stops at the first LF behind `at`, or where no byte is left. Assumes nothing.
-use mathlib.Core.Path.{refl}
+-- `line_feed` stops at the first LF behind the strides that have none, or where no byte is left. Assumes nothing.
 use Prim.Native.Nat.{_-_}
 use native.Mathlib.Omega.{arith}
 use lib.ListN.{length}
+use borrow.Author.Needs.{needs}
 use Rattle.text_lines.proofs.Lines as laws
 use Rattle.text_lines.proofs.line_feed.Statement.{statement}
 use Rattle.text_lines.proofs.line_feed.Tie as tie
@@ -13,8 +13,11 @@ Inv-loop text at i₀ i = laws.Feeds text at i
 abbrev μ-loop : tie.MeasureT-loop
 μ-loop text at i₀ i = length text - i
 
+past-strides-requires : tie.Need-past-strides-requires Inv-loop μ-loop
+past-strides-requires c κs = search needs
+
 loop-holds : tie.Need-loop-holds Inv-loop μ-loop
-loop-holds c = record { rest = refl }
+loop-holds c = record { rest = c .past-strides .ensures }
 
 shared-slice-read-if1 : tie.Need-shared-slice-read-if1 Inv-loop μ-loop
 shared-slice-read-if1 c = omega arith
@@ -40,6 +43,7 @@ line-feed-spec =
     (tie.spec
     Inv-loop
     μ-loop
+    past-strides-requires
     loop-holds
     shared-slice-read-if1
     returns
