@@ -43,6 +43,14 @@ same-length (a ∷ s) (b ∷ t) h = go (eqb a b) (same-length s t (λ e. h (ap s
     go true e = e
     go false e = refl
 
+-- lists that differ at one place are not the same
+pub same-apart : (s t : List ℕ) (i : ℕ) → (getD s i 0 ≡ getD t i 0 → ⊥) → false ≡ same s t
+same-apart s t i h = go (same s t) refl
+  where
+    go : (p : Bool) → same s t ≡ p → false ≡ p
+    go true e = absurd (h (rw (same-true s t e)))
+    go false e = refl
+
 -- ---- a loop over two lists of one length: the answer for the rest is the answer for the whole
 pub record Agrees (s t : List ℕ) (i : ℕ) : Type 0 where
   pub long : length s ≡ length t

@@ -9,7 +9,8 @@ use native.Mathlib.Numerals.{add-one}
 use native.Mathlib.Omega.{arith}
 use lib.ListN.{length, getD, set, take, drop, length-take, drop-of-length-le}
 use lib.Seq.{drop-cons, getD-take}
-use Rattle.set_table.specs.Types.{Texts, zeroRow, maxKeys}
+use Rattle.base_lists.specs.Lists.{same}
+use Rattle.set_table.specs.Types.{Texts, nameBytes, zeroRow, maxKeys}
 use Rattle.set_table.specs.Rows.{isNamed, hasKey, keyAt, putRow}
 use Rattle.set_table.specs.declared.Name.{Name}
 use Rattle.set_table.specs.declared.Value.{Value}
@@ -116,8 +117,13 @@ module _ {t : Texts} {name : Name} {n : ℕ} {keys : List Row} {k : ℕ} (inv : 
   here : k < maxKeys → k < n → k < length (take n keys)
   here h l = omega (arith, length-take n keys, inv .long)
 
-  pub finds-stop : k < maxKeys → k < n → isNamed t name (getD keys k zeroRow) ≡ true → k ≡ keyAt t name (take n keys)
-  finds-stop h l e = looks-stop (inv .looks) (here h l) (rw (getD-take n keys k zeroRow l) e)
+  -- x: whether its name is the bytes of the name that is looked for
+  module _ {bytes : List ℕ} {x : Bool} (e : bytes ≡ nameBytes t name) (p : x ≡ same (nameBytes t (getD keys k zeroRow .name)) bytes) (h : k < maxKeys) (l : k < n) where
+    named : {y : Bool} → x ≡ y → isNamed t name (getD (take n keys) k zeroRow) ≡ y
+    named q = rw (getD-take n keys k zeroRow l, ← e) (sym p ∙ q)
 
-  pub finds-go : k < maxKeys → k < n → isNamed t name (getD keys k zeroRow) ≡ false → Finds t name n keys (k + 1)
-  finds-go h l e = record { long = inv .long; looks = looks-go (inv .looks) (here h l) (rw (getD-take n keys k zeroRow l) e) }
+    pub finds-stop : x ≡ true → k ≡ keyAt t name (take n keys)
+    finds-stop q = looks-stop (inv .looks) (here h l) (named q)
+
+    pub finds-go : x ≡ false → Finds t name n keys (k + 1)
+    finds-go q = record { long = inv .long; looks = looks-go (inv .looks) (here h l) (named q) }

@@ -2,6 +2,7 @@
 use base_refusals::Outcome;
 ghost use mathlib.Core.Path.{_≡_};
 ghost use Rattle.base_lists.specs.Lists.{same};
+ghost use Rattle.block_grammar.specs.Meaning.{langName};
 ghost use lib.ListN.{take};
 ghost use lib.Seq.{slice};
 ghost use Rattle.set_table.specs.Types.{emptySet, rangeBytes, textAt, nameBytes, two, textOver};
@@ -148,15 +149,43 @@ pub fn range_of<'a>(
     bytes_of(text_of(first, second, origin), from, to)
 }
 
+// Whether two names are the same bytes: first their lengths, then the last bytes, as the names of a block often begin alike, then all.
+fn same_by_last(a: &[u8], b: &[u8]) -> bool
+    ensures { λ r. ⌜ r ≡ same (now (a .entry)) (now (b .entry)) ⌝ }
+{
+    let n = a.len();
+    if n != b.len() {
+        return false;
+    }
+    if n == 0 {
+        return true;
+    }
+    if a[n - 1] != b[n - 1] {
+        return false;
+    }
+    base_lists::same_bytes(a, b)
+}
+
 // Whether a name is the bytes given.
 pub fn is_named<'a>(first: &'a [u8], second: &'a [u8], name: Name, bytes: &[u8]) -> bool
     ensures { λ r. ⌜ r ≡ same (nameBytes (two (now (first .entry)) (now (second .entry))) name) (now (bytes .entry)) ⌝ }
 {
     match name {
         Name::Range(o, f, t) => {
-            base_lists::same_bytes(range_of(first, second, o, f as usize, t as usize), bytes)
+            same_by_last(range_of(first, second, o, f as usize, t as usize), bytes)
         }
-        Name::Lang => base_lists::same_bytes(b"lang", bytes),
+        Name::Lang => same_by_last(b"lang", bytes),
+    }
+}
+
+// The bytes of a name, where `lang` are those that `:` gives.
+fn name_of<'a>(first: &'a [u8], second: &'a [u8], lang: &'a [u8], name: Name) -> &'a [u8]
+    requires { ⌜ now lang ≡ langName ⌝ }
+    ensures { λ r. ⌜ now r ≡ nameBytes (two (now (first .entry)) (now (second .entry))) name ⌝ }
+{
+    match name {
+        Name::Range(o, f, t) => range_of(first, second, o, f as usize, t as usize),
+        Name::Lang => lang,
     }
 }
 
@@ -164,13 +193,7 @@ pub fn is_named<'a>(first: &'a [u8], second: &'a [u8], name: Name, bytes: &[u8])
 pub fn same_name<'a>(first: &'a [u8], second: &'a [u8], a: Name, b: Name) -> bool
     ensures { λ r. ⌜ r ≡ same (nameBytes (two (now (first .entry)) (now (second .entry))) a) (nameBytes (two (now (first .entry)) (now (second .entry))) b) ⌝ }
 {
-    match b {
-        Name::Range(o, f, t) => {
-            let s = range_of(first, second, o, f as usize, t as usize);
-            is_named(first, second, a, s)
-        }
-        Name::Lang => is_named(first, second, a, b"lang"),
-    }
+    is_named(first, second, a, name_of(first, second, b"lang", b))
 }
 
 // The row among the first n that has the name, or how many rows were looked at where none has.
@@ -183,6 +206,7 @@ pub fn find_key<'a>(
 ) -> usize
     ensures { λ r. ⌜ r ≡ keyAt (two (now (first .entry)) (now (second .entry))) name (take n keys) ⌝ }
 {
+    let bytes = name_of(first, second, b"lang", name);
     let mut k = 0;
     while k < Attrs::KEYS {
         if n <= k {
@@ -190,7 +214,7 @@ pub fn find_key<'a>(
         }
         let row = keys[k];
         let m = row.name;
-        if same_name(first, second, m, name) {
+        if is_named(first, second, m, bytes) {
             return k;
         }
         k += 1;
