@@ -104,7 +104,7 @@ module _ {t : Texts} {classes : List Value} {many : ℕ} {kept : List Value} {n 
 -- ---- a set with these classes lists what the set means
 
 -- one value or none is there once
-few-once : (vs : List (List ℕ)) → length vs ≤ 1 → freshAfter [] vs ≡ vs
+pub few-once : (vs : List (List ℕ)) → length vs ≤ 1 → freshAfter [] vs ≡ vs
 unfolding freshAfter isAmong
 few-once [] h = refl
 few-once (v ∷ []) h = refl

@@ -9,9 +9,6 @@ use set_table::Slot;
 use set_table::Text;
 use set_table::Value;
 use text_escapes::Piece;
-
-mod once;
-
 ghost use mathlib.Core.Path.{_≡_};
 ghost use mathlib.Core.Bool.{true};
 ghost use mathlib.Core.List.{[], _∷_};
@@ -330,7 +327,7 @@ pub fn write_set<'a>(first: &'a [u8], second: &'a [u8], set: Attrs, out: &mut [u
     if set.nclass < 2 {
         return write_listed(first, second, set, out);
     }
-    let kept = once::classes_once(first, second, set);
+    let kept = set_once::classes_once(first, second, set);
     write_listed(first, second, kept, out)
 }
 
@@ -355,7 +352,7 @@ pub fn measure_set<'a>(first: &'a [u8], second: &'a [u8], set: Attrs) -> Wrote
     ensures { λ r. ⌜ wrotePaper r ≡ onPaper (roomOrder (canon (meaningOf (two (now (first .entry)) (now (second .entry))) set)) maxText) (length (canon (meaningOf (two (now (first .entry)) (now (second .entry))) set)) ∷ []) ⌝ }
 {
     if 2 <= set.nclass {
-        let kept = once::classes_once(first, second, set);
+        let kept = set_once::classes_once(first, second, set);
         return measure_listed(first, second, kept);
     }
     measure_listed(first, second, set)
