@@ -11,7 +11,7 @@ use native.Mathlib.Numerals.{add-one}
 use lib.Dec.{eqb, leb}
 use lib.ListN.{length, getD, drop, drop-of-length-le}
 use lib.Seq.{drop-cons}
-use borrow.Author.Tests.{eqb-true, eqb-false, leb-true, leb-false}
+use borrow.Author.Tests.{eqb-true, eqb-false, leb-true, leb-false, not-false}
 use types.Run.{OneOf}
 use Rattle.base_lists.specs.Lists.{all, isIn, run}
 use Rattle.base_lists.proofs.More.{contra, not-in}
@@ -25,10 +25,7 @@ use Rattle.block_grammar.proofs.Close as close
 use Rattle.block_grammar.proofs.Close.{quote-lf}
 use Rattle.block_close.specs.Inner.{Shuts}
 use Rattle.block_close.proofs.Search as scans
-
--- the bytes that the search looks at
-abbrev pub specials : List ℕ
-specials = 34 ∷ 39 ∷ 92 ∷ 125 ∷ 10 ∷ []
+use Rattle.read_once.specs.Inner.{specials, isCalm}
 
 calm-step : (b : ℕ) → isIn specials b ≡ false → Scanned.on fresh ≡ scanStep fresh b
 unfolding scanStep turned isQuote isIn
@@ -69,6 +66,27 @@ module _ (f : ℕ → Bool) (c : all (λ x. not (f x)) specials ≡ true) (t : L
 
   pub calm : (i k : ℕ) {e : ℕ} → e ≡ i + k → k ≤ run f (drop i t) → findClose t e ≡ findClose t i
   calm i k is h = ap (findClose t) is ∙ calm-run k i h
+
+-- ---- the loop that passes a stretch of such bytes: it began at i and stands before byte k
+pub record Passes (t : List ℕ) (i k : ℕ) : Type 0 where
+  pub from : i ≤ k
+  pub close : findClose t k ≡ findClose t i
+
+pub passes-start : (t : List ℕ) (i : ℕ) → Passes t i i
+passes-start t i = record { from = omega arith; close = refl }
+
+pub passes-byte : (e : ℕ) {t : List ℕ} {i k : ℕ} {x : Bool} → Passes t i k → k < length t → x ≡ isCalm (getD t k 0) → not x ≡ false → e ≡ k + 1 → Passes t i e
+unfolding isCalm isIn all
+passes-byte e {t} {i} {k} {x} inv l is n q =
+    record { from = omega (arith, inv .from); close = ap (findClose t) q ∙ calm-one isCalm refl t k l (sym is ∙ not-false x n) ∙ inv .close }
+
+pub passed : {t : List ℕ} {i k : ℕ} → Passes t i k → (i ≤ k) × (findClose t k ≡ findClose t i)
+passed inv = (inv .from, inv .close)
+
+-- the search goes on behind it
+pub stretch : {t : List ℕ} {r : Place} {k e : ℕ} → close.Scans t r k fresh → findClose t e ≡ findClose t k → close.Scans t r e fresh
+unfolding findClose
+stretch inv h = record { rest = h ∙ inv .rest }
 
 -- ---- at the close, and before it
 module _ (t : List ℕ) where

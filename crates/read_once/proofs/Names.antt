@@ -30,7 +30,7 @@ use Rattle.block_tokens.specs.Inner.{startsEq, tagToken, idToken, classToken, q
 use Rattle.block_tokens.proofs.Words as words
 use Rattle.read_once.specs.declared.Sort.the-variants as sort
 use Rattle.read_once.specs.declared.Seen.{Seen}
-use Rattle.read_once.specs.Inner.{tokenSeen, isToken, isClosing, seenOf, Sees, Found}
+use Rattle.read_once.specs.Inner.{specials, tokenSeen, isToken, isClosing, seenOf, Sees, Found}
 use Rattle.read_once.proofs.Calm as calm
 use Rattle.read_once.proofs.Cuts as cuts
 use Rattle.read_once.proofs.Cuts.{Cut}
@@ -139,7 +139,7 @@ module _ (t : List ℕ) (i : ℕ) (m : Mode) {r : Seen} where
   }
 
   -- `:`, `#` or `.`
-  at-sign : (b : ℕ) → isIn calm.specials b ≡ false → (b ≡ 125 → ⊥) → (f : List ℕ → tokens.Token) → ((s : List ℕ) → i < length s → getD s i 0 ≡ b → f s ≡ tokenAt m s i) → i < length t → getD t i 0 ≡ b → Sees t i (i + 1) (λ c. f (take c t)) r → Found m t i r
+  at-sign : (b : ℕ) → isIn specials b ≡ false → (b ≡ 125 → ⊥) → (f : List ℕ → tokens.Token) → ((s : List ℕ) → i < length s → getD s i 0 ≡ b → f s ≡ tokenAt m s i) → i < length t → getD t i 0 ≡ b → Sees t i (i + 1) (λ c. f (take c t)) r → Found m t i r
   at-sign b q n f w l e s =
       at-token (λ z. n (sym e ∙ z))
       (look.further s (omega arith) (calm.calm-byte t i l (rw e q)) (λ c h u p. p ∙ w (take c t) (cuts.cut-lt u (omega arith)) (cuts.cut-byte u i (omega arith) ∙ e)))

@@ -6,7 +6,7 @@ use mathlib.Core.List.{List, [], _∷_, _++_, map}
 use lib.Dec.{eqb, leb, ltb}
 use lib.ListN.{length, take, drop}
 use lib.Seq.{slice}
-use Rattle.base_lists.specs.Lists.{run}
+use Rattle.base_lists.specs.Lists.{isIn, run}
 use Rattle.base_bytes.specs.declared.Mode.{Mode}
 use Rattle.base_bytes.specs.Bytes.{isBlank, isSpace, hyphen, lf}
 use Rattle.base_refusals.specs.declared.Refusal.the-variants.{NotUtf8, NoClose, NoReading, TooManyClasses, TooManyKeys, BadTag}
@@ -63,6 +63,14 @@ use Rattle.read_once.specs.declared.Moved.{Moved}
 -- a blank that is no LF
 unfoldable pub isGap : Mode → ℕ → Bool
 isGap m b = not (eqb b lf) && isBlank m b
+
+-- the bytes that the search for the close looks at
+abbrev pub specials : List ℕ
+specials = 34 ∷ 39 ∷ 92 ∷ 125 ∷ 10 ∷ []
+
+-- a byte that leaves it where it is
+unfoldable pub isCalm : ℕ → Bool
+isCalm b = not (isIn specials b)
 
 -- r, where the quote q closes from i on, or none if an LF or the text's end comes first
 pub record QuoteEnds (t : List ℕ) (q i : ℕ) (r : Place) : Type 0 where

@@ -38,7 +38,7 @@ ghost use Rattle.read_brace.specs.Brace.{bracePaper, placeSaid, placeAt, braceA
 ghost use Rattle.read_tags.specs.Tagged.{readTagged, taggedOrder, taggedPlaceAt};
 ghost use Rattle.read_tags.specs.Inner.{passesWith};
 ghost use Rattle.read_once.specs.declared.Sort.the-variants.{Wrong};
-ghost use Rattle.read_once.specs.Inner.{isGap, tagStop, tagEnds, QuoteEnds, tokenSeen, isToken, isClosing, seenOf, Spans, Sees, Found, Stands, restAt, classesIn, namedPuts, valueIn, nameBy, spanBytes, langBy, spanAllowed, asked, stopMove, putMove, pieceMove, Puts, Moves, unreadTo, verdictOf, isNext, noSet, onceTo};
+ghost use Rattle.read_once.specs.Inner.{isGap, isCalm, tagStop, tagEnds, QuoteEnds, tokenSeen, isToken, isClosing, seenOf, Spans, Sees, Found, Stands, restAt, classesIn, namedPuts, valueIn, nameBy, spanBytes, langBy, spanAllowed, asked, stopMove, putMove, pieceMove, Puts, Moves, unreadTo, verdictOf, isNext, noSet, onceTo};
 
 // What stands at a place: the close, bytes that no token has there, or a token.
 enum Sort {
@@ -235,7 +235,44 @@ fn quote_end(s: &[u8], i: usize, q: u8) -> Place
     }
 }
 
-// Behind a wrong byte only the close is still sought: the first `}` from `at` on that no quote and no backslash covers.
+// A byte that leaves the search for the close where it is.
+fn is_calm(b: u8) -> bool
+    ensures { λ r. ⌜ r ≡ isCalm b ⌝ }
+{
+    match b {
+        b'\n' | b'"' | b'\'' | b'\\' | b'}' => false,
+        _ => true,
+    }
+}
+
+// Past such bytes from i on, four a turn; the last three of the text may be left.
+fn calm_end(s: &[u8], i: usize) -> usize
+    ensures { λ r. ⌜ (i ≤ r) × (findClose (now (s .entry)) r ≡ findClose (now (s .entry)) i) ⌝ }
+{
+    let mut k = i;
+    while k < s.len() {
+        if s.len() - k < 4 {
+            return k;
+        }
+        if !is_calm(s[k]) {
+            return k;
+        }
+        if !is_calm(s[k + 1]) {
+            return k + 1;
+        }
+        if !is_calm(s[k + 2]) {
+            return k + 2;
+        }
+        if !is_calm(s[k + 3]) {
+            return k + 3;
+        }
+        k += 4;
+    }
+    k
+}
+
+// Behind a wrong byte only the close is still sought: the first `}` from `at` on that no quote and no backslash covers. Bytes that
+// leave the search where it is are passed by the stretch, behind one of them and behind a quote.
 fn close_behind(s: &[u8], at: usize) -> Place
     ensures { λ r. ⌜ r ≡ findClose (now (s .entry)) at ⌝ }
 {
@@ -256,12 +293,12 @@ fn close_behind(s: &[u8], at: usize) -> Place
             b'"' | b'\'' => match quote_end(s, i + 1, s[i]) {
                 Place::Nothing => break 'bytes Place::Nothing,
                 Place::At(e) => {
-                    i = e + 1;
+                    i = calm_end(s, e + 1);
                     continue 'bytes;
                 }
             },
             _ => {
-                i += 1;
+                i = calm_end(s, i + 1);
                 continue 'bytes;
             }
         }

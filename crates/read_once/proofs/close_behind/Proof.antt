@@ -8,6 +8,7 @@ use Rattle.block_grammar.specs.Close.{fresh}
 use Rattle.block_grammar.specs.ComputedClose.{findClose}
 use Rattle.block_grammar.proofs.Close as close
 use Rattle.block_close.proofs.Search as laws
+use Rattle.read_once.proofs.Calm as calm
 use Rattle.read_once.proofs.close_behind.Statement.{statement}
 use Rattle.read_once.proofs.close_behind.Tie as tie
 
@@ -58,27 +59,33 @@ enum-told c = search needs
 enum-known-e : tie.Need-enum-known-e Inv-bytes μ-bytes
 enum-known-e c = search needs
 
-add-i-2 : tie.Need-add-i-2 Inv-bytes μ-bytes
-add-i-2 c = omega (arith, c .before .before .before .quote-end .ensures .shuts .within _ (c .before .e .given .1))
+add-calm-end : tie.Need-add-calm-end Inv-bytes μ-bytes
+add-calm-end c = omega (arith, c .before .before .before .quote-end .ensures .shuts .within _ (c .before .e .given .1))
+
+calm-end-requires : tie.Need-calm-end-requires Inv-bytes μ-bytes
+calm-end-requires c κs = search needs
 
 bytes-less-2 : tie.Need-bytes-less-2 Inv-bytes μ-bytes
-bytes-less-2 c = omega (arith, c .before .before .before .quote-end .ensures .shuts .within _ (c .before .e .given .1))
+bytes-less-2 c = omega (arith, c .before .before .before .before .quote-end .ensures .shuts .within _ (c .before .before .e .given .1), c .calm-end .ensures .0)
 
 bytes-again-2 : tie.Need-bytes-again-2 Inv-bytes μ-bytes
 bytes-again-2 c =
-    let at5 = c .before .before .before .before .before in let at7 = at5 .before .before in let at8 = at7 .before in let at9 = at8 .before in
-    laws.passed (at9 .bytes .inv) (laws.here (at9 .bytes .inv) (at8 .goes-on .ensures) (at7 .if1 .left)) (at5 .match .keys3) (c .before .before .before .quote-end .ensures .shuts) (c .before .e .given .1)
+    let at6 = c .before .before .before .before .before .before in let at8 = at6 .before .before in let at9 = at8 .before in let at10 = at9 .before in
+    calm.stretch (laws.passed (at10 .bytes .inv) (laws.here (at10 .bytes .inv) (at9 .goes-on .ensures) (at8 .if1 .left)) (at6 .match .keys3) (c .before .before .before .before .quote-end .ensures .shuts) (c .before .before .e .given .1)) (c .calm-end .ensures .1)
 
-add-i-3 : tie.Need-add-i-3 Inv-bytes μ-bytes
-add-i-3 c = omega (arith, laws.here (c .before .before .before .before .bytes .inv) (c .before .before .before .goes-on .ensures) (c .before .before .if1 .left) .there)
+add-calm-end-2 : tie.Need-add-calm-end-2 Inv-bytes μ-bytes
+add-calm-end-2 c = omega (arith, laws.here (c .before .before .before .before .bytes .inv) (c .before .before .before .goes-on .ensures) (c .before .before .if1 .left) .there)
+
+calm-end-requires-2 : tie.Need-calm-end-requires-2 Inv-bytes μ-bytes
+calm-end-requires-2 c κs = search needs
 
 bytes-less-3 : tie.Need-bytes-less-3 Inv-bytes μ-bytes
-bytes-less-3 c = omega (arith, laws.here (c .before .before .before .before .bytes .inv) (c .before .before .before .goes-on .ensures) (c .before .before .if1 .left) .there)
+bytes-less-3 c = let at4 = c .before .before .before .before in let at5 = at4 .before in omega (arith, laws.here (at5 .bytes .inv) (at4 .goes-on .ensures) (c .before .before .before .if1 .left) .there, c .calm-end2 .ensures .0)
 
 bytes-again-3 : tie.Need-bytes-again-3 Inv-bytes μ-bytes
 bytes-again-3 c =
-    let at4 = c .before .before .before .before in
-    laws.byte (at4 .bytes .inv) (laws.here (at4 .bytes .inv) (c .before .before .before .goes-on .ensures) (c .before .before .if1 .left)) (c .match .rest .0 .0 .1) (c .match .rest .0 .1) (c .match .rest .1)
+    let at4 = c .before .before .before .before in let at5 = at4 .before in
+    calm.stretch (laws.byte (at5 .bytes .inv) (laws.here (at5 .bytes .inv) (at4 .goes-on .ensures) (c .before .before .before .if1 .left)) (c .before .match .rest .0 .0 .1) (c .before .match .rest .0 .1) (c .before .match .rest .1)) (c .calm-end2 .ensures .1)
 
 returns : tie.Need-returns Inv-bytes μ-bytes
 returns c = laws.ended (c .before .before .bytes .inv) (sym (c .before .goes-on .ensures) ∙ not-true _ (c .if1 .taken))
@@ -115,10 +122,12 @@ close-behind-spec =
     quote-end-requires
     enum-told
     enum-known-e
-    add-i-2
+    add-calm-end
+    calm-end-requires
     bytes-less-2
     bytes-again-2
-    add-i-3
+    add-calm-end-2
+    calm-end-requires-2
     bytes-less-3
     bytes-again-3
     returns
