@@ -1,3 +1,4 @@
 -- The laws of base_loans.
 pub mod Local
 pub mod Calls
+pub mod Lending

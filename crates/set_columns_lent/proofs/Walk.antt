@@ -43,7 +43,7 @@ abbrev pub Lends : Lft → RefT (List ℕ) → RefT (List ℕ) → Fml
 Lends κ t u = fsep (Text κ t) (Text κ u)
 
 module _ {M : Type 1} (𝓤 : URA M) (H : Heap 𝓤) (A : Atoms 𝓤) (W : Given 𝓤 H A) where
-  had-twice : (κ : Lft) (t u : RefT (List ℕ)) → ent 𝓤 (sem 𝓤 H A (Lends κ t u)) (sep 𝓤 (sem 𝓤 H A (Lends κ t u)) (sem 𝓤 H A (Lends κ t u)))
+  pub had-twice : (κ : Lft) (t u : RefT (List ℕ)) → ent 𝓤 (sem 𝓤 H A (Lends κ t u)) (sep 𝓤 (sem 𝓤 H A (Lends κ t u)) (sem 𝓤 H A (Lends κ t u)))
   had-twice κ t u =
       qed W (‵ (Lends κ t u) ∷ []) ∵ fsplit ! $ use1 W (‵ (Text κ t) ⊛ ‵ (Text κ t)) (shr-slice-copy 𝓤 H A W (named 0) κ u8 .twice t (slice-vals t)) $ split ! $
       move ! (2 ∷ []) $ use1 W (‵ (Text κ u) ⊛ ‵ (Text κ u)) (shr-slice-copy 𝓤 H A W (named 0) κ u8 .twice u (slice-vals u)) $ split ! $

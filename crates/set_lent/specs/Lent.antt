@@ -8,7 +8,9 @@ use Rattle.set_merge.specs.Merge.{mergeOf}
 use Rattle.set_loose.specs.declared.Did as dids
 use Rattle.set_loose.specs.declared.Did.the-variants as did
 use Rattle.set_loose.specs.declared.Consumed.{Consumed}
+use Rattle.set_loose.specs.Loose.{looseOf}
 use Rattle.set_lent.specs.declared.Both.{Both}
+use Rattle.set_lent.specs.declared.Left.{Left}
 
 -- "A refusal touches no other lent memory, a merge's target included."
 abbrev pub standing : outcomes.Outcome → Attrs → Attrs → Attrs
@@ -27,6 +29,10 @@ actedOn did.No was new = was
 
 unfoldable pub looseEnd : Attrs → Consumed → Attrs
 looseEnd was c = actedOn (c .did) was (c .set)
+
+-- the set a, lent for that
+unfoldable pub lentLoose : Texts → Attrs → Left
+lentLoose t a = record { did = looseOf t a .did; set = looseEnd a (looseOf t a) }
 
 -- a leading set merged into a, and then an incoming one
 abbrev pub lentFrom : Texts → Attrs → Filled → Attrs → Both

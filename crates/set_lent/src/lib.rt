@@ -12,12 +12,18 @@ ghost use Rattle.set_table.specs.Types.{two};
 ghost use Rattle.set_table.specs.Rows.{meaningOf};
 ghost use Rattle.set_merge.specs.Merge.{mergeOf, mergeOrder};
 ghost use Rattle.set_loose.specs.Loose.{isLoose, looseOf, looseOrder, actedNo, didPaper};
-ghost use Rattle.set_lent.specs.Lent.{endOf, looseEnd, lentBoth};
+ghost use Rattle.set_lent.specs.Lent.{endOf, looseEnd, lentBoth, lentLoose};
 
 // What becomes of a lent set into which one set is merged from before and another from behind.
 pub struct Both {
     pub led: Outcome,
     pub merged: Outcome,
+    pub set: Attrs,
+}
+
+// What becomes of a lent set out of which the key `loose` is taken: the answer, and what the set then holds.
+pub struct Left {
+    pub did: Did,
     pub set: Attrs,
 }
 
@@ -98,4 +104,13 @@ pub fn consume_loose_in<'a>(first: &'a [u8], second: &'a [u8], set: &mut Attrs) 
     let consumed = set_loose::consume_loose(first, second, was);
     *set = loose_end(was, consumed);
     consumed.did
+}
+
+// A set of one's own lent for that: the answer, and what it holds afterwards.
+pub fn consume_loose_lent<'a>(first: &'a [u8], second: &'a [u8], set: Attrs) -> Left
+    ensures { λ r. ⌜ (r ≡ lentLoose (two (now (first .entry)) (now (second .entry))) set) × (didPaper (r .did) ≡ onPaper (looseOrder (two (now (first .entry)) (now (second .entry))) set) (actedNo (isLoose (meaningOf (two (now (first .entry)) (now (second .entry))) set)) ∷ [])) ⌝ }
+{
+    let mut held = set;
+    let did = consume_loose_in(first, second, &mut held);
+    Left { did, set: held }
 }

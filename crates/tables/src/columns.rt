@@ -1,16 +1,18 @@
-// The columns of hand-made tables: lists of either text, values that no reading makes, and each refusal.
+// The columns of hand-made tables, by value and laid into a lent table: lists of either text, values that no reading makes, and each refusal.
 use crate::good::plain;
 use crate::good::plain_of;
 use crate::good::quoted;
 use crate::good::quoted_of;
 use crate::good::row;
 use crate::good::slot;
+use crate::same::same_tables;
 use crate::say;
 use crate::say_number;
 use base_refusals::Outcome;
 use set_columns::Align;
 use set_columns::Column;
 use set_columns::Columns;
+use set_columns::Made;
 use set_columns::Valign;
 use set_columns::Width;
 use set_table::Attrs;
@@ -27,6 +29,7 @@ pub(crate) fn run() {
     values(t, u);
     refusals(t, u);
     limits(t);
+    lent_tables(t, u);
 }
 
 fn bare() -> Value {
@@ -103,6 +106,14 @@ fn refusals<'a>(t: &'a [u8], u: &'a [u8]) {
     );
 }
 
+// "1": a text of 65,536 bytes.
+pub(crate) fn too_long(long: &[u8]) {
+    let t = b"alignsvalignswidthsleft,right1\\,2\\\\,3";
+    let s = three(plain(19, 29), bare(), quoted(29, 37));
+    told(b"columns of a first text of 65,536 bytes", long, b"", s);
+    told(b"columns of a second text of 65,536 bytes", t, long, s);
+}
+
 fn limits(t: &[u8]) {
     let u = b",,,,,,,,,,,,,,,,,,,,,,,,,,,,,,,,";
     told(
@@ -125,12 +136,74 @@ fn limits(t: &[u8]) {
     );
 }
 
-// One line: the count, each column, and whether those behind them are zero.
+// A table that has all its columns, each with an align, a vertical align and a width.
+fn all_columns() -> Columns {
+    let c = Column {
+        align: Align::Center,
+        valign: Valign::Bottom,
+        width: Width::Range(Origin::Second, 7, 9),
+    };
+    let columns = [c; Columns::MOST];
+    Columns {
+        columns: columns,
+        count: Columns::MOST as u8,
+    }
+}
+
+// The lent table itself, which had all its columns before: filled, with none past the count, or as it was.
+fn lent_tables<'a>(t: &'a [u8], u: &'a [u8]) {
+    let a = plain(19, 29);
+    let v = plain_of(Origin::Second, 0, 10);
+    let s = three(a, v, quoted(29, 37));
+    lent(b"lent, three columns over all", t, u, s);
+    lent(
+        b"lent, one column over all",
+        t,
+        u,
+        three(bare(), bare(), bare()),
+    );
+    lent(b"lent, no column over all", t, u, Attrs::empty());
+    lent(b"lent, a text that isn't UTF-8", t, b"\xFF", s);
+    lent(
+        b"lent, aligns past the text's end",
+        t,
+        u,
+        three(plain(19, 40), bare(), bare()),
+    );
+}
+
+fn lent<'a>(name: &'a [u8], first: &'a [u8], second: &'a [u8], set: Attrs) {
+    say(name);
+    let was = all_columns();
+    let laid = set_columns_lent::table_columns_lent(first, second, was, set);
+    let outcome = laid.outcome;
+    let table = laid.table;
+    say_outcome(outcome, table);
+    let columns = table.columns;
+    say_columns(columns, table.count as usize);
+    let made = set_columns::table_columns(first, second, set);
+    let by_value = made.table;
+    say_stands(table, was, by_value);
+    say(b"\n");
+}
+
+// One line: the count, each column, whether those behind them are zero, and what becomes of a lent table without a column and of one with all.
 fn told<'a>(name: &'a [u8], first: &'a [u8], second: &'a [u8], set: Attrs) {
     say(name);
     let made = set_columns::table_columns(first, second, set);
     let outcome = made.outcome;
     let table = made.table;
+    say_outcome(outcome, table);
+    let columns = table.columns;
+    say_columns(columns, table.count as usize);
+    say(b", lent empty: ");
+    say_lent(first, second, Columns::empty(), set, made);
+    say(b", lent full: ");
+    say_lent(first, second, all_columns(), set, made);
+    say(b"\n");
+}
+
+fn say_outcome(outcome: Outcome, table: Columns) {
     match outcome {
         Outcome::Refused(r) => {
             say(b": refused ");
@@ -141,9 +214,39 @@ fn told<'a>(name: &'a [u8], first: &'a [u8], second: &'a [u8], set: Attrs) {
             say_number(table.count as usize);
         }
     }
-    let columns = table.columns;
-    say_columns(columns, table.count as usize);
-    say(b"\n");
+}
+
+// The same asked of a lent table that holds `was`.
+fn say_lent<'a>(first: &'a [u8], second: &'a [u8], was: Columns, set: Attrs, made: Made) {
+    let laid = set_columns_lent::table_columns_lent(first, second, was, set);
+    let outcome = laid.outcome;
+    let table = laid.table;
+    let by_value = made.table;
+    match outcome {
+        Outcome::Refused(r) => {
+            say(b"refused ");
+            say_number(base_refusals::number(r) as usize);
+        }
+        Outcome::Passed => say(b"yes"),
+    }
+    say_stands(table, was, by_value);
+}
+
+// Whether a table is to its last row what it was before, or what is made by value.
+fn say_stands(now: Columns, was: Columns, by_value: Columns) {
+    if same_tables(now, was) {
+        say(b", as it was");
+    } else {
+        say_new(now, by_value);
+    }
+}
+
+fn say_new(now: Columns, by_value: Columns) {
+    if same_tables(now, by_value) {
+        say(b", as by value");
+    } else {
+        say(b", LAID OTHERWISE");
+    }
 }
 
 fn say_columns(columns: [Column; Columns::MOST], n: usize) {

@@ -1,4 +1,4 @@
-// The key `loose` taken out of hand-made tables: rows and slots behind it, the row and the slot that become free, and each refusal.
+// The key `loose` taken out of hand-made tables, by value and lent: rows and slots behind it, the row and the slot that become free, and each refusal.
 use crate::MARK;
 use crate::full;
 use crate::good::plain;
@@ -7,9 +7,11 @@ use crate::good::quoted;
 use crate::good::row;
 use crate::good::row_of;
 use crate::good::slot;
+use crate::same::same_sets;
 use crate::say;
 use crate::say_number;
 use crate::say_wrote;
+use set_loose::Consumed;
 use set_loose::Did;
 use set_table::Attrs;
 use set_table::Name;
@@ -28,6 +30,7 @@ pub(crate) fn run() {
     names(t, u);
     refusals(t, u);
     limits();
+    lent_sets();
 }
 
 fn bare() -> Value {
@@ -106,6 +109,14 @@ fn refusals<'a>(t: &'a [u8], u: &'a [u8]) {
     told(b"two slots of one row", t, u, two);
 }
 
+// "1": a text of 65,536 bytes.
+pub(crate) fn too_long(long: &[u8]) {
+    let t = b"looseloose-listLOOSEabc";
+    let s = three(row(0, 5, bare()));
+    told(b"loose of a first text of 65,536 bytes", long, b"", s);
+    told(b"loose of a second text of 65,536 bytes", t, long, s);
+}
+
 // As many keys as a set has, `loose` the first, one in the middle and the last of the rows.
 fn limits() {
     let t = b"abcdefghijklmnopqrstuvwxyzABCDEFGHIJKLMNOPQRSTUVWXYZacegikmoqsuwyAloose";
@@ -120,28 +131,123 @@ fn limits() {
     told(b"the last of all keys", t, b"", s);
 }
 
-// One line: the answer, the names of the rows, the slots, whether what became free is zero, and what the writer answers.
+// The slots stand the other way round: the last key's first, the id's last.
+fn reversed() -> Attrs {
+    let mut s = full::full(false);
+    s.order[Attrs::KEYS] = slot(Slot::Class);
+    s.order[Attrs::KEYS + 1] = slot(Slot::Id);
+    let mut k: u8 = 0;
+    while k < Attrs::KEYS as u8 {
+        s.order[k as usize] = slot(Slot::Key(Attrs::KEYS as u8 - 1 - k));
+        k += 1;
+    }
+    s
+}
+
+// As many keys as a set has, in a lent set: `loose` the first of the rows and the last of the keys' slots, in the middle, and the last row and the first slot.
+fn lent_sets() {
+    let t = b"abcdefghijklmnopqrstuvwxyzABCDEFGHIJKLMNOPQRSTUVWXYZacegikmoqsuwyAloose";
+    let mut s = reversed();
+    s.keys[0] = row(66, 71, bare());
+    lent(b"lent, the first row and the last slot", t, b"", s);
+    let mut s = reversed();
+    s.keys[Attrs::KEYS / 2] = row(66, 71, quoted(7, 7));
+    lent(b"lent, in the middle", t, b"", s);
+    let mut s = reversed();
+    s.keys[Attrs::KEYS - 1] = row(66, 71, plain(7, 7));
+    lent(b"lent, the last row and the first slot", t, b"", s);
+    lent_kept(t);
+}
+
+// "it acts only if the key's unescaped value is empty": else, and on each refusal, a lent set stays as it was to its last row.
+fn lent_kept(t: &[u8]) {
+    let mut s = reversed();
+    s.keys[Attrs::KEYS - 1] = row(66, 71, plain(0, 1));
+    lent(b"lent, a value", t, b"", s);
+    s.order[0] = slot(Slot::Key(0));
+    lent(b"lent, two slots of one row", t, b"", s);
+    let s = three(row(0, 5, plain(20, 21)));
+    let t = b"looseloose-listLOOSEabc";
+    lent(b"lent, a value, and rows past the counts", t, b"", s);
+    lent(b"lent, a text that isn't UTF-8", t, b"\xFF", s);
+    let past = three(row(19, 24, bare()));
+    lent(b"lent, a name past the text's end", t, b"", past);
+}
+
+// One line: what is answered of a lent set, its rows and its slots afterwards, those past the counts too.
+fn lent<'a>(name: &'a [u8], first: &'a [u8], second: &'a [u8], set: Attrs) {
+    say(name);
+    say(b": ");
+    let left = set_lent::consume_loose_lent(first, second, set);
+    let did = left.did;
+    let now = left.set;
+    say_did(did);
+    let keys = now.keys;
+    let order = now.order;
+    say_rows(first, second, keys, now.nkey as usize);
+    say_slots(order, now.norder as usize);
+    let consumed = set_loose::consume_loose(first, second, set);
+    let by_value = consumed.set;
+    say_stands(now, set, by_value);
+    say(b"\n");
+}
+
+// One line: the answer, the names of the rows, the slots, whether what became free is zero, what the writer answers, and what becomes of a lent set.
 fn told<'a>(name: &'a [u8], first: &'a [u8], second: &'a [u8], set: Attrs) {
     let mut out = [MARK; 600];
     say(name);
+    say(b": ");
     let consumed = set_loose::consume_loose(first, second, set);
     let did = consumed.did;
     let left = consumed.set;
-    match did {
-        Did::Refused(r) => {
-            say(b": refused ");
-            say_number(base_refusals::number(r) as usize);
-        }
-        Did::Yes => say(b": yes"),
-        Did::No => say(b": no"),
-    }
+    say_did(did);
     let keys = left.keys;
     let order = left.order;
     say_rows(first, second, keys, left.nkey as usize);
     say_slots(order, left.norder as usize);
     let wrote = set_writer::write_attrs(first, second, left, &mut out);
     say_wrote(wrote, &out);
+    say_lent(first, second, set, consumed);
     say(b"\n");
+}
+
+fn say_did(did: Did) {
+    match did {
+        Did::Refused(r) => {
+            say(b"refused ");
+            say_number(base_refusals::number(r) as usize);
+        }
+        Did::Yes => say(b"yes"),
+        Did::No => say(b"no"),
+    }
+}
+
+// The same asked of a lent set.
+fn say_lent<'a>(first: &'a [u8], second: &'a [u8], set: Attrs, consumed: Consumed) {
+    let left = set_lent::consume_loose_lent(first, second, set);
+    let did = left.did;
+    let now = left.set;
+    let by_value = consumed.set;
+    say(b", lent: ");
+    say_did(did);
+    say_stands(now, set, by_value);
+}
+
+// Whether a set is to its last row what it was before, or what is left by value.
+fn say_stands(now: Attrs, was: Attrs, by_value: Attrs) {
+    if same_sets(now, was) {
+        say(b", as it was");
+    } else {
+        say_new(now, by_value);
+    }
+}
+
+fn say_new(now: Attrs, by_value: Attrs) {
+    if same_sets(now, by_value) {
+        say(b", as by value");
+    } else {
+        say(b", LEFT OTHERWISE");
+    }
 }
 
 // The names of the first n rows, and whether those behind them are zero.

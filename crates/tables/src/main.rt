@@ -8,6 +8,7 @@ mod good;
 mod loose;
 mod pairs;
 mod repeats;
+mod same;
 mod texts;
 
 use base_refusals::Outcome;
@@ -128,6 +129,12 @@ fn two(first: &[u8]) {
     repeats::run(first, second);
 }
 
+fn long_texts() {
+    let long = [b'a'; 65536];
+    loose::too_long(&long);
+    columns::too_long(&long);
+}
+
 // 0 `v17`, 4 `wheel`, 10 `side`, 15 `left`, 20 `id`, 23 `class`, 29 `9x`, 32 `a`, 34 `b`, 35 a character of two bytes, 37 LF, 38 a double
 // quote, 39 a backslash, 40 a space, 41 `lang`.
 fn main() {
@@ -138,4 +145,5 @@ fn main() {
     two(text);
     loose::run();
     columns::run();
+    long_texts();
 }
