@@ -21,12 +21,15 @@ int main(int words, char **word)
     size_t n = fread(text, 1, sizeof text, stdin); /* one byte more than a text may have, so that a longer one is refused */
     uint8_t number = bridlesnow_read_attrs_at(text, n, place, 0, out, sizeof out, told, 3);
     if (number == 0) {
-        printf("%.*s\n", (int)told[1], (const char *)out);
+        fwrite(out, 1, told[1], stdout);
+        putchar('\n');
         return 0;
     }
     printf("refused\t%d", number);
-    if (number == BRIDLESNOW_NO_READING)
-        printf("\t%.*s", (int)(1 + told[2]), (const char *)text + place); /* the brace, and what is counted from behind it */
-    printf("\n");
+    if (number == BRIDLESNOW_NO_READING) {
+        putchar('\t');
+        fwrite(text + place, 1, 1 + told[2], stdout); /* the brace, and what is counted from behind it */
+    }
+    putchar('\n');
     return 1;
 }

@@ -29,9 +29,10 @@ int main(int words, char **word)
         const uint8_t *over = column[2] == 3 ? join : text; /* a wrapped block's widths stand in what was joined */
         printf("%s\t%s\t", aligns[column[0]], valigns[column[1]]);
         if (column[2] == 0)
-            printf("-\n");
+            putchar('-');
         else
-            printf("%.*s\n", (int)(column[4] - column[3]), (const char *)over + column[3]);
+            fwrite(over + column[3], 1, column[4] - column[3], stdout);
+        putchar('\n');
     }
     return 0;
 }

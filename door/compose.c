@@ -34,6 +34,7 @@ int main(int words, char **word)
         printf("refused\tall\t%d\n", number);
         return 1;
     }
-    printf("%.*s\n", (int)told[0], (const char *)out);
+    fwrite(out, 1, told[0], stdout);
+    putchar('\n');
     return 0;
 }

@@ -33,6 +33,8 @@ int main(int words, char **word)
         printf("refused\t%d\n", number);
         return 1;
     }
-    printf("%zu\t%zu\t%.*s\n", found[1], found[2], (int)told[4], (const char *)out);
+    printf("%zu\t%zu\t", found[1], found[2]);
+    fwrite(out, 1, told[4], stdout);
+    putchar('\n');
     return 0;
 }

@@ -27,6 +27,10 @@ int main(int words, char **word)
         }
         if (item >= told[0])
             return 0;
-        printf("%.*s\t%.*s\n", (int)told[1], (const char *)out, (int)told[2], (const char *)out + told[1]);
+        /* Written by their lengths: no NUL ends a text, and one may stand in a value. */
+        fwrite(out, 1, told[1], stdout);
+        putchar('\t');
+        fwrite(out + told[1], 1, told[2], stdout);
+        putchar('\n');
     }
 }

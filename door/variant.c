@@ -25,6 +25,7 @@ int main(int words, char **word)
         printf("refused\t%s\t%d\n", steps[told[0]], number);
         return 1;
     }
-    printf("%.*s\n", (int)told[1], (const char *)out);
+    fwrite(out, 1, told[1], stdout);
+    putchar('\n');
     return 0;
 }
