@@ -172,9 +172,10 @@ uint8_t bridlesnow_wrapped_attrs_run_at(const uint8_t *text, size_t text_len, si
                                         uint8_t *join, size_t join_len,
                                         uint8_t *out, size_t out_len, size_t *told, size_t told_len);
 
-/* The same for a block whose first line begins at byte `at`: for going through a text that bridlesnow_check_text took once. It looks at no byte
- * outside its lines, so only 1 and no 2 is given. A place within a line is taken as the beginning of one; over bytes that aren't UTF-8 `out` isn't
- * UTF-8 either. Tells as above: behind a refusal but 6, 7 and 10 the place is `at` itself, or 0 where `at` is at or past the text's end or 1 is given. */
+/* Reads the block of one or more lines whose first line begins at byte `at`, as bridlesnow_parse_standalone_attrs_block does by the line's number: for
+ * going through a text that bridlesnow_check_text took once. It looks at no byte outside its lines, so only 1 and no 2 is given. A place within a line is
+ * taken as the beginning of one; over bytes that aren't UTF-8 `out` isn't UTF-8 either. Tells as above: behind a refusal but 6, 7 and 10 the place is
+ * `at` itself, or 0 where `at` is at or past the text's end or 1 is given. */
 uint8_t bridlesnow_read_block_at(const uint8_t *text, size_t text_len, size_t at,
                                  uint8_t *join, size_t join_len,
                                  uint8_t *out, size_t out_len, size_t *told, size_t told_len);
@@ -203,7 +204,8 @@ uint8_t bridlesnow_consume_loose(const uint8_t *text, size_t text_len, size_t li
  *
  * bridlesnow_item_at reads the block of one or more lines that begins at a line, as bridlesnow_parse_standalone_attrs_block does, and lays its item `n`, counted
  * from 0, at the front of `out`: the name, and the value right behind it.
- * Order: the numbers of the block, then 10 where `out` is too short for both.
+ * Order: the numbers of the block up to 7, then 10 where `out` is too short for both. That the canonical text of the whole block would have more than
+ * BRIDLESNOW_MAX bytes refuses nothing here.
  * Tells: how many items there are, so that item `n` is there where `n` is less; the lengths of its name and of its value, 0 and 0 where it isn't there, and told
  * with 10 too; the block's lines, the place behind it, the lookahead, and how many bytes were joined, each as bridlesnow_parse_standalone_attrs_block tells them.
  * A block that is refused has no items.
@@ -240,8 +242,8 @@ enum {
     BRIDLESNOW_TOKEN_END
 };
 
-/* Whether a token of a payload stands at byte `at`, blanks before it passed over; `loose` as for bridlesnow_read_attrs_at. To walk over a payload, pass its bytes
- * alone, 0 at first, and then the place that was told last.
+/* Whether a token of a payload stands at byte `at`, blanks before it passed over; `loose` as for bridlesnow_read_attrs_at, but that here an LF is a blank
+ * too. To walk over a payload, pass its bytes alone, 0 at first, and then the place that was told last.
  * Tells: what stands there; from where to where its name stands, which is what follows `:`, `#` or `.`, the key before a `=`, or the bare name; the place behind the
  * token. A value without quotes stands from one byte behind the key's end up to that place, one in quotes from two bytes behind it up to one before that place.
  * Where no token stands: BRIDLESNOW_TOKEN_END or BRIDLESNOW_TOKEN_BAD, twice the place of the end or the one at which the bytes stop being a token, and the place
