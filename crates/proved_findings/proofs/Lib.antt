@@ -2,3 +2,5 @@
 pub mod Findings
 pub mod Braces
 pub mod Stops
+pub mod Sources
+pub mod Quotes

@@ -1,3 +1,5 @@
 -- What is proved of the findings of a sheet.
 pub mod Findings
 pub mod Stops
+pub mod Sources
+pub mod Quotes
