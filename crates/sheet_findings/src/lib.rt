@@ -18,8 +18,8 @@ ghost use Rattle.sheet_findings.specs.Findings.{kindNo, isClear, here, o
 ghost use Rattle.sheet_findings.specs.declared.Told.the-variants.{Refused, Done};
 
 // What is wrong with a line: nothing; its block is refused by a limit; a byte order mark, or a space or a tab, stands before its brace; the payload goes wrong; text
-// stands behind the last brace; the block is never closed; a quote is left open; a blank line stands in it; a line of it isn't indented far enough, be it that it is
-// the only mistake; a line of it isn't whole entries.
+// stands behind the last brace; the block is never closed; a quote is left open; a blank line stands in it; a line of it isn't indented far enough (`Left`), or that is
+// all that is wrong with it (`Shallow`); a line of it isn't whole entries.
 pub enum Kind {
     Clear,
     Limit,
