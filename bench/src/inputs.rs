@@ -157,23 +157,41 @@ pub fn one_line(size: usize) -> Vec<u8> {
     filled(size - 1, |n| if n == 0 { "{k=1}".into() } else { "{k=2}".into() })
 }
 
-/// As many classes as a set holds, in one block, from `next`, which is handed the number and how many bytes a class may take.
-fn classes(room: usize, next: impl Fn(usize, usize) -> String) -> Vec<u8> {
-    const LIMIT: usize = 64;
-    let classes: Vec<String> = (0..LIMIT).map(|n| next(n, room / LIMIT)).collect();
+/// The names of so many keys or classes, as short as they can be.
+fn names(limit: usize) -> impl Iterator<Item = String> {
+    let letters = || ('a'..='z').chain('A'..='Z').map(String::from);
+    letters().chain(letters().map(|name| name + "0")).take(limit)
+}
+
+/// A block of so many keys on every line.
+pub fn key_blocks(limit: usize, size: usize) -> Vec<u8> {
+    filled(size, |_| format!("{{{}}}\n", names(limit).collect::<Vec<_>>().join(" ")))
+}
+
+/// A block of so many classes on every line.
+pub fn class_blocks(limit: usize, size: usize) -> Vec<u8> {
+    filled(size, |_| format!("{{{}}}\n", names(limit).map(|name| format!(".{name}")).collect::<Vec<_>>().join(" ")))
+}
+
+/// How many classes a set holds.
+pub const LIMIT: usize = 64;
+
+/// So many classes in one block, from `next`, which is handed the number and how many bytes a class may take.
+fn classes(limit: usize, room: usize, next: impl Fn(usize, usize) -> String) -> Vec<u8> {
+    let classes: Vec<String> = (0..limit).map(|n| next(n, room / limit)).collect();
     format!("{{{}}}\n", classes.join(" ")).into_bytes()
 }
 
 /// Classes as long as their canonical text allows, alike but for the last bytes.
-pub fn alike_classes(size: usize) -> Vec<u8> {
+pub fn alike_classes(limit: usize, size: usize) -> Vec<u8> {
     // In the canonical text a class takes 9 bytes more, ` class=""`, and the braces one.
-    classes(size - 1, |n, room| format!(".{}{n:02}", "a".repeat(room - 11)))
+    classes(limit, size - 1, |n, room| format!(".{}{n:02}", "a".repeat(room - 11)))
 }
 
 /// Classes in quotes with an escape at each byte, alike but for the last two; here the text itself is as long as it may be.
-pub fn alike_escaped(size: usize) -> Vec<u8> {
+pub fn alike_escaped(limit: usize, size: usize) -> Vec<u8> {
     const LAST: [&str; 8] = ["!", "#", "$", "%", "&", "*", "/", "~"];
-    classes(size - 2, |n, room| {
+    classes(limit, size - 2, |n, room| {
         // Around its bytes a class has ` class=""`.
         let alike = "\\.".repeat((room - 9) / 2 - 2);
         format!("class=\"{alike}\\{}\\{}\"", LAST[n / 8], LAST[n % 8])

@@ -265,8 +265,8 @@ const HOSTILE: [(&str, Make, f64); 10] = [
     ("one unclosed run", inputs::unclosed_run, 0.0),
     ("the longest tag", inputs::longest_tag, 0.0),
     ("13,000 blocks on one line", inputs::one_line, 0.0),
-    ("long classes alike but for the last bytes", inputs::alike_classes, 0.0),
-    ("long classes with an escape at each byte", inputs::alike_escaped, 0.0),
+    ("long classes alike but for the last bytes", |size| inputs::alike_classes(inputs::LIMIT, size), 0.0),
+    ("long classes with an escape at each byte", |size| inputs::alike_escaped(inputs::LIMIT, size), 0.0),
 ];
 
 /// Both sides write the same report; it has so many lines.
