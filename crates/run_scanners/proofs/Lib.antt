@@ -1,2 +1,3 @@
 -- What callers of run_scanners cite beyond the contracts.
 pub mod Laws
+pub mod Quick

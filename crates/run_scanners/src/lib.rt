@@ -1,14 +1,15 @@
 // The scanners of wrapped runs: the quote left open, the column of the last open brace, whether a block is still open.
 ghost use mathlib.Core.Path.{_≡_};
-ghost use Rattle.base_lists.specs.Lists.{isIn};
+ghost use mathlib.Core.Bool.{not, _&&_, _||_};
+ghost use Rattle.base_lists.specs.Lists.{all, isIn};
 ghost use Rattle.text_tabs.specs.Columns.{capped};
 ghost use Rattle.block_grammar.specs.Close.{turned};
-ghost use Rattle.run_scanners.specs.Scanners.{takes, passed, isBare, openQuoteAtEnd, columnBehind, seekStep, lastOpenBrace, cappedAt, heldStep, holdFrom, holdStart, isHeld, holdsOpen, quotePaper, scanPaper, columnPaper, holdPaper};
-ghost use Rattle.run_scanners.specs.Inner.{cappedSeek};
+ghost use Rattle.run_scanners.specs.Scanners.{inQuote, takes, passed, isBare, openQuoteAtEnd, columnBehind, seekStep, lastOpenBrace, cappedAt, heldStep, holdFrom, holdStart, isHeld, holdsOpen, quotePaper, scanPaper, columnPaper, holdPaper};
+ghost use Rattle.run_scanners.specs.Inner.{cappedSeek, LastBrace};
 use block_grammar::Place;
 use block_grammar::Quote;
 use block_grammar::Scan;
-ghost use Rattle.base_bytes.specs.Bytes.{closeBrace};
+ghost use Rattle.base_bytes.specs.Bytes.{isQuote, closeBrace};
 
 // Where the search for the last open brace stands: the column of the next byte, and the brace found so far.
 pub struct Seek {
@@ -102,10 +103,32 @@ pub fn is_bare(st: Scan, b: u8, c: u8) -> bool
     }
 }
 
-// The quote that is left open at the end.
-pub fn open_quote_at_end(s: &[u8]) -> Quote
+// Whether a quote was met before, or this byte is one.
+fn or_quote(met: bool, b: u8) -> bool
+    ensures { λ r. ⌜ r ≡ (met || isQuote b) ⌝ }
+{
+    if met {
+        return met;
+    }
+    base_bytes::is_quote(b)
+}
+
+// Whether no quote stands in s: a loop without a way out, so that many bytes are told at once.
+fn lacks_quotes(s: &[u8]) -> bool
+    ensures { λ r. ⌜ r ≡ all (λ b. not (isQuote b)) (now (s .entry)) ⌝ }
+{
+    let mut met = false;
+    let mut i = 0;
+    while i < s.len() {
+        met = or_quote(met, s[i]);
+        i += 1;
+    }
+    !met
+}
+
+// The quote that is left open at the end, byte by byte.
+fn scan_quotes(s: &[u8]) -> Quote
     ensures { λ r. ⌜ r ≡ openQuoteAtEnd (now (s .entry)) ⌝ }
-    ensures { λ r. ⌜ quotePaper r ≡ quotePaper (openQuoteAtEnd (now (s .entry))) ⌝ }
 {
     let mut st = Scan {
         quote: Quote::Out,
@@ -117,6 +140,17 @@ pub fn open_quote_at_end(s: &[u8]) -> Quote
         i += 1;
     }
     st.quote
+}
+
+// The quote that is left open at the end; where there is no quote, none is.
+pub fn open_quote_at_end(s: &[u8]) -> Quote
+    ensures { λ r. ⌜ r ≡ openQuoteAtEnd (now (s .entry)) ⌝ }
+    ensures { λ r. ⌜ quotePaper r ≡ quotePaper (openQuoteAtEnd (now (s .entry))) ⌝ }
+{
+    if lacks_quotes(s) {
+        return Quote::Out;
+    }
+    scan_quotes(s)
 }
 
 // The column behind the byte b at column c, where a backslash may cover it.
@@ -155,10 +189,9 @@ fn seek_step(k: Seek, b: u8) -> Seek
     }
 }
 
-// The column of the last `{` outside quotes, where the line's first byte stands in column `start` and in the quote `quote`.
-pub fn last_open_brace_column(line: &[u8], quote: Quote, start: usize) -> Place
+// The column of the last `{` outside quotes, byte by byte.
+fn seek_brace(line: &[u8], quote: Quote, start: usize) -> Place
     ensures { λ r. ⌜ r ≡ cappedAt (lastOpenBrace quote start (now (line .entry))) ⌝ }
-    ensures { λ r. ⌜ columnPaper r ≡ columnPaper (cappedAt (lastOpenBrace quote start (now (line .entry)))) ⌝ }
 {
     let mut k = Seek {
         scan: Scan {
@@ -174,6 +207,47 @@ pub fn last_open_brace_column(line: &[u8], quote: Quote, start: usize) -> Place
         i += 1;
     }
     k.found
+}
+
+// The place behind the last `{`, 0 where there is none.
+fn behind_brace(s: &[u8]) -> usize
+    ensures { λ r. ⌜ LastBrace (now (s .entry)) r ⌝ }
+{
+    let mut i = s.len();
+    while 0 < i {
+        if s[i - 1] == b'{' {
+            return i;
+        }
+        i -= 1;
+    }
+    0
+}
+
+// Whether a scan that begins in the quote `quote` is outside quotes behind every byte of `front`, since no quote is there.
+fn stays_out(quote: Quote, front: &[u8]) -> bool
+    ensures { λ r. ⌜ r ≡ (not (inQuote quote) && all (λ b. not (isQuote b)) (now (front .entry))) ⌝ }
+{
+    match quote {
+        Quote::Out => lacks_quotes(front),
+        Quote::In(_open) => false,
+    }
+}
+
+// The column of the last `{` outside quotes, where the line's first byte stands in column `start` and in the quote `quote`. Only bytes before the last `{`
+// matter, and where no quote is among them it is the one.
+pub fn last_open_brace_column(line: &[u8], quote: Quote, start: usize) -> Place
+    ensures { λ r. ⌜ r ≡ cappedAt (lastOpenBrace quote start (now (line .entry))) ⌝ }
+    ensures { λ r. ⌜ columnPaper r ≡ columnPaper (cappedAt (lastOpenBrace quote start (now (line .entry)))) ⌝ }
+{
+    let e = behind_brace(line);
+    if e == 0 {
+        return Place::Nothing;
+    }
+    let front = &line[..e - 1];
+    if stays_out(quote, front) {
+        return Place::At(text_tabs::columns(start, front));
+    }
+    seek_brace(line, quote, start)
 }
 
 // A byte of the scan for an open block.

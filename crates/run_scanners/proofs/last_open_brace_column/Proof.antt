@@ -1,52 +1,53 @@
-use mathlib.Core.Path.{refl}
-use Prim.Native.Nat.{_-_}
+use mathlib.Core.Path.{refl, sym, _∙_, ap}
 use native.Mathlib.Omega.{arith}
-use lib.ListN.{length}
-use Rattle.text_tabs.proofs.Laws.{capped-id}
+use borrow.Author.Needs.{needs}
+use lib.Seq.{length-take-le}
 use Rattle.base_refusals.proofs.Said.{said}
-use Rattle.run_scanners.specs.Scanners.{lastOpenBrace, cappedAt, seekFrom, columnPaper}
-use Rattle.run_scanners.proofs.Laws as laws
+use Rattle.block_grammar.specs.declared.Place.the-variants.{At}
+use Rattle.run_scanners.specs.Scanners.{cappedAt, columnPaper}
+use Rattle.run_scanners.proofs.Quick as laws
 use Rattle.run_scanners.proofs.last_open_brace_column.Statement.{statement}
 use Rattle.run_scanners.proofs.last_open_brace_column.Tie as tie
 
-abbrev Inv-loop : tie.InvT-loop
-Inv-loop line start k₀ i₀ k i = laws.Seeks line (cappedAt (seekFrom k₀ line .found)) i k
+behind-brace-requires : tie.Need-behind-brace-requires
+behind-brace-requires c κs = search needs
 
-abbrev μ-loop : tie.MeasureT-loop
-μ-loop line start k₀ i₀ k i = length line - i
+returns : tie.Need-returns
+returns c = said columnPaper refl (ap cappedAt (laws.no-brace (c .before .behind-brace .ensures) _ _ (c .if1 .taken)))
 
-loop-holds : tie.Need-loop-holds Inv-loop μ-loop
-loop-holds c = laws.seeks-start _ _ (rw (capped-id (c .before .args .start) (omega arith)))
+sub-front : tie.Need-sub-front
+sub-front c = omega arith
 
-shared-slice-read-seek-step : tie.Need-shared-slice-read-seek-step Inv-loop μ-loop
-shared-slice-read-seek-step c = omega arith
+slice-aggregate-front : tie.Need-slice-aggregate-front
+slice-aggregate-front c = sym (length-take-le _ _ (omega (arith, c .before .before .behind-brace .ensures .within)))
 
-seek-step-requires : tie.Need-seek-step-requires Inv-loop μ-loop
-seek-step-requires c κs = (c .before .before .loop .inv .small)
+stays-out-requires : tie.Need-stays-out-requires
+stays-out-requires c κs = search needs
 
-add-i : tie.Need-add-i Inv-loop μ-loop
-add-i c = omega arith
+columns-requires : tie.Need-columns-requires
+columns-requires c κs = search needs
 
-loop-less : tie.Need-loop-less Inv-loop μ-loop
-loop-less c = omega arith
+returns-2 : tie.Need-returns-2
+returns-2 c =
+    let at5 = c .before .before .before .before .before in
+    said columnPaper refl (ap (λ n. At n) (c .columns .ensures) ∙ ap cappedAt (laws.last-brace (at5 .behind-brace .ensures) _ _ (omega arith) (sym (c .before .before .stays-out .ensures) ∙ (c .before .if2 .taken))))
 
-loop-again : tie.Need-loop-again Inv-loop μ-loop
-loop-again c = laws.seeks-go (c .before .before .before .loop .inv) (omega arith) (c .seek-step .ensures)
+seek-brace-requires : tie.Need-seek-brace-requires
+seek-brace-requires c κs = search needs
 
-returns : tie.Need-returns Inv-loop μ-loop
-unfolding lastOpenBrace
-returns c = said columnPaper refl (laws.seeks-end (c .before .loop .inv) (omega arith))
+returns-3 : tie.Need-returns-3
+returns-3 c = said columnPaper refl (c .seek-brace .ensures)
 
 pub last-open-brace-column-spec : {M : Type 1} → statement M
 last-open-brace-column-spec =
     tie.close
     (tie.spec
-    Inv-loop
-    μ-loop
-    loop-holds
-    shared-slice-read-seek-step
-    seek-step-requires
-    add-i
-    loop-less
-    loop-again
-    returns)
+    behind-brace-requires
+    returns
+    sub-front
+    slice-aggregate-front
+    stays-out-requires
+    columns-requires
+    returns-2
+    seek-brace-requires
+    returns-3)

@@ -1,52 +1,23 @@
-use mathlib.Core.Path.{refl}
-use Prim.Native.Nat.{_-_}
-use native.Mathlib.Omega.{arith}
+use mathlib.Core.Path.{refl, sym, _∙_}
 use borrow.Author.Needs.{needs}
-use lib.ListN.{length}
 use Rattle.base_refusals.proofs.Said.{said}
-use Rattle.run_scanners.specs.Scanners.{openQuoteAtEnd, quotePaper}
-use Rattle.run_scanners.proofs.Laws as laws
+use Rattle.run_scanners.specs.Scanners.{quotePaper}
+use Rattle.run_scanners.proofs.Quick as laws
 use Rattle.run_scanners.proofs.open_quote_at_end.Statement.{statement}
 use Rattle.run_scanners.proofs.open_quote_at_end.Tie as tie
 
-abbrev Inv-loop : tie.InvT-loop
-Inv-loop s st₀ i₀ st i = laws.Opens s (openQuoteAtEnd s) i st
+lacks-quotes-requires : tie.Need-lacks-quotes-requires
+lacks-quotes-requires c κs = search needs
 
-abbrev μ-loop : tie.MeasureT-loop
-μ-loop s st₀ i₀ st i = length s - i
+returns : tie.Need-returns
+returns c = said quotePaper refl (laws.none-open _ (sym (c .before .lacks-quotes .ensures) ∙ (c .if1 .taken)))
 
-loop-holds : tie.Need-loop-holds Inv-loop μ-loop
-unfolding openQuoteAtEnd
-loop-holds c = record { rest = refl }
+scan-quotes-requires : tie.Need-scan-quotes-requires
+scan-quotes-requires c κs = search needs
 
-shared-slice-read-pass : tie.Need-shared-slice-read-pass Inv-loop μ-loop
-shared-slice-read-pass c = omega arith
-
-pass-requires : tie.Need-pass-requires Inv-loop μ-loop
-pass-requires c κs = search needs
-
-add-i : tie.Need-add-i Inv-loop μ-loop
-add-i c = omega arith
-
-loop-less : tie.Need-loop-less Inv-loop μ-loop
-loop-less c = omega arith
-
-loop-again : tie.Need-loop-again Inv-loop μ-loop
-loop-again c = laws.opens-go (c .before .before .before .loop .inv) (omega arith) (c .pass .ensures .0)
-
-returns : tie.Need-returns Inv-loop μ-loop
-returns c = said quotePaper refl (laws.opens-end (c .before .loop .inv) (omega arith))
+returns-2 : tie.Need-returns-2
+returns-2 c = said quotePaper refl (c .scan-quotes .ensures)
 
 pub open-quote-at-end-spec : {M : Type 1} → statement M
 open-quote-at-end-spec =
-    tie.close
-    (tie.spec
-    Inv-loop
-    μ-loop
-    loop-holds
-    shared-slice-read-pass
-    pass-requires
-    add-i
-    loop-less
-    loop-again
-    returns)
+    tie.close (tie.spec lacks-quotes-requires returns scan-quotes-requires returns-2)
