@@ -16,7 +16,7 @@ use Rattle.base_lists.proofs.Steady.{steady, values}
 use Rattle.base_bytes.specs.Bytes.{isTail, within}
 use Rattle.text_utf8.specs.Computed.{Want, Follows, isUtf8, octetsFrom, leadOf, afterOf, owesNone, want, goOnChar}
 use Rattle.text_utf8.specs.Utf8.{isBoundary, charCount}
-use Rattle.text_utf8.specs.Inner.{NoneAbove, Same, PassedTo, Begins}
+use Rattle.text_utf8.specs.Inner.{Ascii, Same, PassedTo, Begins}
 
 -- ---- where nothing is owed, the range does not matter
 pub idle : (s : List ℕ) (w : Want) → w .owed ≡ 0 → octetsFrom s w ≡ octetsFrom s owesNone
@@ -24,7 +24,7 @@ unfolding octetsFrom afterOf
 idle [] w o = eq-eqb (w .owed) 0 o
 idle (a ∷ s) w o = rw (eq-eqb (w .owed) 0 o)
 
--- ---- a block of ASCII is passed at once
+-- ---- ASCII is passed at once
 pub past-ascii : (a : ℕ) (s : List ℕ) → a ≤ 0x7F → octetsFrom (a ∷ s) owesNone ≡ octetsFrom s owesNone
 unfolding octetsFrom afterOf leadOf
 past-ascii a s h = rw (le-leb a 0x7F h)
@@ -39,11 +39,11 @@ skipped (suc n) s i h low =
     ∙ skipped n s (suc i) (omega arith) (λ k a b. low k (omega arith) (omega arith))
     ∙ ap (λ (m : ℕ). octetsFrom (drop m s) owesNone) z
 
-pub low-same : {s : List ℕ} {i e m : ℕ} → i ≤ e → e ≤ length s → NoneAbove s i e m → m ≤ 0x7F → Same s i e
-low-same {s} {i} {e} {m} o b low h =
-    let z : i + (e - i) ≡ e = omega arith in
-    let p = skipped (e - i) s i (omega arith) (λ k a l. let q = low .below k a (omega arith) in omega arith) in
-    record { onward = o; inside = b; same = rw z at p }
+pub ascii-same : {s : List ℕ} {i e : ℕ} → Ascii s i e → Same s i e
+ascii-same {s} {i} {e} a =
+    let z : i + (e - i) ≡ e = omega (arith, a .onward) in
+    let p = skipped (e - i) s i (omega (arith, a .onward, a .inside)) (λ k x l. a .low k x (omega (arith, a .onward))) in
+    record { onward = a .onward; inside = a .inside; same = rw z at p }
 
 -- ---- passing one piece and then another
 pub same-start : (s : List ℕ) (i : ℕ) → i ≤ length s → Same s i i
@@ -140,12 +140,10 @@ pub no-lead : {s : List ℕ} {i : ℕ} (a m : ℕ) → i < length s → values l
 unfolding octetsFrom afterOf
 no-lead {s} {i} a m h e l u = not-passed (rw (drop-cons s i 0 h, sym (steady leadOf Follows.bad a m (getD s i 0) e l u)))
 
-pub past-leads : {s : List ℕ} {i : ℕ} → i < length s → 0xF4 < getD s i 0 → PassedTo s i 0
-unfolding octetsFrom afterOf leadOf
-past-leads {s} {i} h l =
-    let b = getD s i 0 in
-    not-passed (rw (
-      drop-cons s i 0 h,
+pub no-lead-above : (b : ℕ) → 0xF4 < b → leadOf b ≡ Follows.bad
+unfolding leadOf
+no-lead-above b l =
+    rw (
       lt-leb b 0x7F (omega arith),
       lt-leb b 0xC1 (omega arith),
       lt-leb b 0xDF (omega arith),
@@ -156,7 +154,11 @@ past-leads {s} {i} h l =
       lt-leb b 0xF0 (omega arith),
       lt-leb b 0xF3 (omega arith),
       lt-leb b 0xF4 (omega arith),
-    ))
+    )
+
+pub past-leads : {s : List ℕ} {i : ℕ} → i < length s → 0xF4 < getD s i 0 → PassedTo s i 0
+unfolding octetsFrom afterOf
+past-leads {s} {i} h l = not-passed (rw (drop-cons s i 0 h, no-lead-above (getD s i 0) l))
 
 -- ---- the whole text
 pub whole-end : {s : List ℕ} {i : ℕ} → Same s 0 i → length s ≤ i → true ≡ isUtf8 s
@@ -166,20 +168,6 @@ whole-end {s} p h = sym (rw (drop-of-length-le s h) at (p .same))
 pub whole-fails : {s : List ℕ} {i j : ℕ} → Same s 0 i → PassedTo s i j → j ≡ 0 → false ≡ isUtf8 s
 unfolding isUtf8
 whole-fails p q z = sym (fails p q z .off refl)
-
--- ---- none of the bytes from i to before k is above m
-pub tops-start : (s : List ℕ) (i : ℕ) → NoneAbove s i i 0
-tops-start s i = record { below = λ j h l. absurd (omega arith) }
-
-pub tops-go : {s : List ℕ} {i m n k : ℕ} → NoneAbove s i k m → (m ≤ n) × (getD s k 0 ≤ n) → NoneAbove s i (k + 1) n
-tops-go {s} {i} {m} {n} {k} inv le = record { below = λ j h l. at j h l (eqb j k) refl }
-  where
-    at : (j : ℕ) → i ≤ j → j < k + 1 → (b : Bool) → eqb j k ≡ b → getD s j 0 ≤ n
-    at j h l true e = let z = eqb-true j k e in rw z (le .1)
-    at j h l false e = let z = eqb-false j k e in let y : j < k = omega arith in omega (arith, inv .below j h y)
-
-pub tops-end : {s : List ℕ} {i m k e : ℕ} → NoneAbove s i k m → e ≤ k → NoneAbove s i e m
-tops-end inv h = record { below = λ j a l. inv .below j a (omega arith) }
 
 -- ---- the place i, past the last byte or at one
 pub past-end : (s : List ℕ) (i : ℕ) → length s ≤ i → eqb i (length s) ≡ isBoundary s i

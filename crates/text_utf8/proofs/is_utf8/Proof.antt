@@ -1,56 +1,22 @@
-use native.Mathlib.Omega.{arith}
-use Rattle.text_utf8.proofs.Laws as laws
-use Prim.Native.Nat.{_-_}
-use lib.ListN.{length}
-use Rattle.text_utf8.specs.Inner.{Same}
+use borrow.Author.Needs.{needs}
 use Rattle.text_utf8.proofs.is_utf8.Statement.{statement}
 use Rattle.text_utf8.proofs.is_utf8.Tie as tie
 
-abbrev Inv-loop : tie.InvT-loop
-Inv-loop s i₀ i = Same s 0 i
+is-short-requires : tie.Need-is-short-requires
+is-short-requires c κs = search needs
 
-abbrev μ-loop : tie.MeasureT-loop
-μ-loop s i₀ i = length s - i
+by-chars-requires : tie.Need-by-chars-requires
+by-chars-requires c κs = search needs
 
-loop-holds : tie.Need-loop-holds Inv-loop μ-loop
-loop-holds c = laws.same-start _ _ (omega arith)
+in-parts-requires : tie.Need-in-parts-requires
+in-parts-requires c κs = c .before .is-short .ensures (c .if1 .left)
 
-past-blocks-requires : tie.Need-past-blocks-requires Inv-loop μ-loop
-past-blocks-requires c κs = omega arith
+returns : tie.Need-returns
+returns c = search needs
 
-returns : tie.Need-returns Inv-loop μ-loop
-returns c = laws.whole-end (laws.same-then (c .before .before .before .loop .inv) (c .before .past-blocks .ensures)) (omega arith)
-
-block-end-requires : tie.Need-block-end-requires Inv-loop μ-loop
-block-end-requires c κs = omega (arith, (c .before .past-blocks .ensures))
-
-past-parts-requires : tie.Need-past-parts-requires Inv-loop μ-loop
-past-parts-requires c κs = (c .block-end .ensures)
-
-returns-2 : tie.Need-returns-2 Inv-loop μ-loop
-returns-2 c = let at4 = c .before .before .before .before in let at6 = at4 .before .before in laws.whole-fails (laws.same-then (at6 .loop .inv) (at4 .past-blocks .ensures)) (c .before .past-parts .ensures) (c .if2 .taken)
-
-loop-less : tie.Need-loop-less Inv-loop μ-loop
-loop-less c = omega (arith, (c .before .before .before .before .past-blocks .ensures) .onward, (c .before .past-parts .ensures) .on (omega arith) .0)
-
-loop-again : tie.Need-loop-again Inv-loop μ-loop
-loop-again c = let at4 = c .before .before .before .before in let at6 = at4 .before .before in laws.same-on (laws.same-then (at6 .loop .inv) (at4 .past-blocks .ensures)) (c .before .past-parts .ensures) (omega arith)
-
-returns-3 : tie.Need-returns-3 Inv-loop μ-loop
-returns-3 c = laws.whole-end (c .before .loop .inv) (omega arith)
+returns-2 : tie.Need-returns-2
+returns-2 c = search needs
 
 pub is-utf8-spec : {M : Type 1} → statement M
 is-utf8-spec =
-    tie.close
-    (tie.spec
-    Inv-loop
-    μ-loop
-    loop-holds
-    past-blocks-requires
-    returns
-    block-end-requires
-    past-parts-requires
-    returns-2
-    loop-less
-    loop-again
-    returns-3)
+    tie.close (tie.spec is-short-requires by-chars-requires in-parts-requires returns returns-2)

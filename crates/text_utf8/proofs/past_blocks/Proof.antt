@@ -1,28 +1,28 @@
 use native.Mathlib.Omega.{arith}
-use Rattle.text_utf8.proofs.Laws as laws
+use Rattle.text_utf8.proofs.Pieces as laws
 use Prim.Native.Nat.{_-_}
 use lib.ListN.{length}
-use Rattle.text_utf8.specs.Inner.{Same}
+use Rattle.text_utf8.specs.Inner.{Ascii}
 use Rattle.text_utf8.proofs.past_blocks.Statement.{statement}
 use Rattle.text_utf8.proofs.past_blocks.Tie as tie
 
 abbrev Inv-loop : tie.InvT-loop
-Inv-loop s i k₀ k = Same s i k
+Inv-loop s i k₀ k = Ascii s i k
 
 abbrev μ-loop : tie.MeasureT-loop
 μ-loop s i k₀ k = length s - k
 
 loop-holds : tie.Need-loop-holds Inv-loop μ-loop
-loop-holds c = laws.same-start _ _ (omega arith)
+loop-holds c = laws.ascii-start _ _ (omega arith)
 
 sub-loop : tie.Need-sub-loop Inv-loop μ-loop
 sub-loop c = omega arith
 
-add-greatest : tie.Need-add-greatest Inv-loop μ-loop
-add-greatest c = omega arith
+add-wides : tie.Need-add-wides Inv-loop μ-loop
+add-wides c = omega arith
 
-greatest-requires : tie.Need-greatest-requires Inv-loop μ-loop
-greatest-requires c κs = omega arith
+wides-requires : tie.Need-wides-requires Inv-loop μ-loop
+wides-requires c κs = omega arith
 
 returns : tie.Need-returns Inv-loop μ-loop
 returns c = (c .before .before .before .loop .inv)
@@ -34,7 +34,7 @@ loop-less : tie.Need-loop-less Inv-loop μ-loop
 loop-less c = omega arith
 
 loop-again : tie.Need-loop-again Inv-loop μ-loop
-loop-again c = laws.same-then (c .before .before .before .loop .inv) (laws.low-same (omega arith) (omega arith) (c .before .greatest .ensures) (omega arith))
+loop-again c = laws.ascii-then (c .before .before .before .loop .inv) (laws.ascii-of (c .before .wides .ensures) (c .if1 .left) (omega arith) (omega arith) (omega arith))
 
 returns-2 : tie.Need-returns-2 Inv-loop μ-loop
 returns-2 c = (c .before .loop .inv)
@@ -47,8 +47,8 @@ past-blocks-spec =
     μ-loop
     loop-holds
     sub-loop
-    add-greatest
-    greatest-requires
+    add-wides
+    wides-requires
     returns
     add-k
     loop-less
