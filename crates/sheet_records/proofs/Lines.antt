@@ -18,7 +18,7 @@ use Rattle.base_refusals.specs.declared.Refusal.the-variants.{NotAnIndex, Anoth
 use Rattle.base_refusals.specs.declared.Outcome.the-variants as outcome
 use Rattle.base_bytes.specs.Bytes.{lf, tab}
 use Rattle.text_digits.specs.Decimal.{decimal, places, placesIn}
-use Rattle.text_digits.proofs.Decimals.{decimal-le}
+use Rattle.text_digits.proofs.Decimals.{decimal-le, decimal-length, fewest-is}
 use Rattle.text_escapes.specs.Unescape.{unescape, fits, writtenTo, contentOf}
 use Rattle.text_escapes.specs.declared.Written.{Written}
 use Rattle.text_escapes.specs.declared.Written.the-variants.{Full, To}
@@ -134,6 +134,10 @@ decimal-short {n} e h = omega (arith, e, decimal-le n 20 (omega arith) (omega ar
 pub numbers-long : (l c o : ℕ) → length (numbersText l c o) ≡ length (decimal l) + (length (tab ∷ decimal c) + length (tab ∷ decimal o))
 unfolding numbersText
 numbers-long l c o = rw (length-append (decimal l) ((tab ∷ decimal c) ++ (tab ∷ decimal o)), length-append (tab ∷ decimal c) (tab ∷ decimal o))
+
+-- as many digits as there are by the powers of ten on both sides
+pub digits-are : (n k : ℕ) → 1 ≤ k → n < 10 ^ k → (1 < k → 10 ^ (k - 1) ≤ n) → k ≤ 20 → (k ≡ length (decimal n)) × (k ≤ 20)
+digits-are n k a b d h = (fewest-is n k (a, b, d) ∙ sym (decimal-length n), h)
 
 pub numbers-short : (l c o : ℕ) → l < 2 ^ 64 → c < 2 ^ 64 → o < 2 ^ 64 → length (numbersText l c o) ≤ 62
 numbers-short l c o hl hc ho = omega (arith, numbers-long l c o, decimal-le l 20 (omega arith) (omega arith), decimal-le c 20 (omega arith) (omega arith), decimal-le o 20 (omega arith) (omega arith))

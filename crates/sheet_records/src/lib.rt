@@ -1,22 +1,23 @@
 // Records of an index: reading the one at a place, writing one, the first line, and the rows of a lent table.
 use base_refusals::Outcome;
 use base_refusals::Refusal;
-use text_digits::Decimal;
-use text_digits::Digits;
 use text_escapes::Written;
 ghost use mathlib.Core.Path.{_≡_};
 ghost use Prim.Native.Nat.{_≤_, _<_, _+_};
 ghost use lib.Dec.{leb};
-ghost use lib.ListN.{length};
+ghost use lib.ListN.{length, drop};
 ghost use lib.Seq.{sets};
 ghost use Rattle.base_refusals.specs.Numbers.{outcomeNo};
 ghost use Rattle.base_refusals.specs.Orders.{orderNo};
-ghost use Rattle.text_digits.specs.Digits.{readOut};
+ghost use Rattle.base_bytes.specs.Bytes.{isDigit};
+ghost use Rattle.text_digits.specs.Decimal.{decimal};
+ghost use Rattle.text_digits.specs.declared.Decimal.the-variants.{Is};
+ghost use Rattle.text_digits.specs.declared.Digits.the-variants.{Zero, Number};
 ghost use Rattle.set_marks.specs.Marks.{bytesIn};
-ghost use Rattle.sheet_records.specs.Records.{numbersText, indexVersion, indexHeader};
+ghost use Rattle.sheet_records.specs.Records.{mostNumber, numbersText, indexVersion, indexHeader};
 ghost use Rattle.sheet_records.specs.Computed.{leastNumber, fieldAt, idEnd, idAt, endAt, offsetAt, countAt, recordAt, rowPaper, isHeaded, isNumbered, isOther, headOrder, headOf};
 ghost use Rattle.sheet_records.specs.Writing.{rawId, putOf, lineOver, putPaper, rowOver};
-ghost use Rattle.sheet_records.specs.Inner.{lineSize, endText, rowTo};
+ghost use Rattle.sheet_records.specs.Inner.{onward, lineSize, endText, rowTo};
 
 // A number and the place behind it.
 pub enum NumberAt {
@@ -45,38 +46,75 @@ pub enum PutLine {
     Row(IndexRow),
 }
 
-// The number that was read, from `least` on, and the place behind it.
-fn close(d: Digits, least: usize, next: usize) -> NumberAt
-    ensures { λ r. ⌜ r ≡ leastNumber least next (readOut d) ⌝ }
+// A digit, by its range: the table that tells all kinds of bytes is made anew wherever one is asked.
+fn is_digit(b: u8) -> bool
+    ensures { λ r. ⌜ r ≡ isDigit b ⌝ }
 {
-    let n = text_digits::read_out(d);
-    match n {
-        Decimal::None => NumberAt::Unread,
-        Decimal::Is(n) => {
-            let k = n as usize;
-            if k < least {
-                return NumberAt::Unread;
-            }
-            NumberAt::Read(k, next)
-        }
+    if b < b'0' {
+        return false;
     }
+    b <= b'9'
+}
+
+// A number that was read, from `least` on, and the place behind it.
+fn up_from(n: usize, least: usize, next: usize) -> NumberAt
+    ensures { λ r. ⌜ r ≡ leastNumber least next (Is n) ⌝ }
+{
+    if n < least {
+        return NumberAt::Unread;
+    }
+    NumberAt::Read(n, next)
+}
+
+// The number behind a zero, which is alone.
+fn zero_to(index: &[u8], next: usize, least: usize) -> NumberAt
+    ensures { λ r. ⌜ r ≡ onward least Zero next (drop next (now (index .entry))) ⌝ }
+{
+    if index.len() <= next {
+        return up_from(0, least, next);
+    }
+    if is_digit(index[next]) {
+        return NumberAt::Unread;
+    }
+    up_from(0, least, next)
+}
+
+// The number whose digits before a place are `first`.
+fn number_to(index: &[u8], from: usize, first: usize, least: usize) -> NumberAt
+    requires { ⌜ first ≤ mostNumber ⌝ }
+    ensures { λ r. ⌜ r ≡ onward least (Number first) from (drop from (now (index .entry))) ⌝ }
+{
+    let mut n = first;
+    let mut i = from;
+    while i < index.len() {
+        let b = index[i];
+        if !is_digit(b) {
+            return up_from(n, least, i);
+        }
+        n = n * 10 + (b - b'0') as usize;
+        if 65535 < n {
+            return NumberAt::Unread;
+        }
+        i += 1;
+    }
+    up_from(n, least, i)
 }
 
 // The number whose digits stand at a place.
 fn field_at(index: &[u8], at: usize, least: usize) -> NumberAt
     ensures { λ r. ⌜ r ≡ fieldAt (now (index .entry)) at least ⌝ }
 {
-    let mut d = Digits::NoDigit;
-    let mut i = at;
-    while i < index.len() {
-        let b = index[i];
-        if !base_letters::is_digit(b) {
-            return close(d, least, i);
-        }
-        d = text_digits::step(d, b, 65535);
-        i += 1;
+    if index.len() <= at {
+        return NumberAt::Unread;
     }
-    close(d, least, i)
+    let b = index[at];
+    if !is_digit(b) {
+        return NumberAt::Unread;
+    }
+    if b == b'0' {
+        return zero_to(index, at + 1, least);
+    }
+    number_to(index, at + 1, (b - b'0') as usize, least)
 }
 
 // Where an id ends: at LF, or where the text does.
@@ -261,12 +299,41 @@ fn lay_numbers(out: &mut [u8], line: usize, count: usize, offset: usize) -> usiz
     b + text_digits::put_field(out, b, offset as u64)
 }
 
+// How many digits a number has; those of a record have at most five.
+fn digits_len(n: usize) -> usize
+    ensures { λ r. ⌜ (r ≡ length (decimal n)) × (r ≤ 20) ⌝ }
+{
+    if n < 10 {
+        return 1;
+    }
+    if n < 100 {
+        return 2;
+    }
+    if n < 1000 {
+        return 3;
+    }
+    if n < 10000 {
+        return 4;
+    }
+    if n < 100000 {
+        return 5;
+    }
+    let mut digits = [0u8; 20];
+    text_digits::put_decimal(&mut digits, 0, n as u64)
+}
+
+// How many bytes the numbers of a record take, which are not written for it.
+fn numbers_size(line: usize, count: usize, offset: usize) -> usize
+    ensures { λ r. ⌜ (r ≡ length (numbersText line count offset)) × (r ≤ 62) ⌝ }
+{
+    digits_len(line) + digits_len(count) + digits_len(offset) + 2
+}
+
 // How many bytes the numbers of a record take.
 pub fn numbers_len(line: usize, count: usize, offset: usize) -> usize
     ensures { λ r. ⌜ r ≡ length (numbersText line count offset) ⌝ }
 {
-    let mut front = [0u8; FRONT];
-    lay_numbers(&mut front, line, count, offset)
+    numbers_size(line, count, offset)
 }
 
 // How many bytes an id has, quoted or not.
@@ -372,11 +439,12 @@ pub fn put_record(
     ensures { λ _. ⌜ now (out .exit) ≡ lineOver (now (out .entry)) at (record { line = line; count = count; offset = offset; id = rawId given quoted (now (raw .entry)) }) ⌝ }
     ensures { λ r. ⌜ putPaper r ≡ putPaper (putOf (length (now (out .entry))) at (record { line = line; count = count; offset = offset; id = rawId given quoted (now (raw .entry)) })) ⌝ }
 {
-    let mut front = [0u8; FRONT];
-    let n = lay_numbers(&mut front, line, count, offset);
+    let n = numbers_size(line, count, offset);
     if !has_room(out.len(), at, n, given, id_len(quoted, raw)) {
         return PutLine::NoRoom;
     }
+    let mut front = [0u8; FRONT];
+    lay_numbers(&mut front, line, count, offset);
     base_lists::put_bytes(out, at, set_table::bytes_of(&front, 0, n));
     let next = put_end(out, at + n, given, quoted, raw);
     PutLine::Row(row_of(line, count, offset, at + n, given, next))

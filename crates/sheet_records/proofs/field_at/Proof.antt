@@ -1,67 +1,61 @@
--- `field_at` reads digits until another byte or the end. Assumes nothing.
-use Prim.Native.Nat.{_-_}
 use mathlib.Core.Path.{sym, _∙_}
 use native.Mathlib.Omega.{arith}
 use borrow.Author.Tests.{not-true, not-false}
-use borrow.Author.Needs.{needs}
-use lib.ListN.{length}
+use Rattle.text_digits.proofs.Steps.{digit-range}
 use Rattle.sheet_records.proofs.Places as laws
+use borrow.Author.Needs.{needs}
 use Rattle.sheet_records.proofs.field_at.Statement.{statement}
 use Rattle.sheet_records.proofs.field_at.Tie as tie
 
-abbrev Inv-loop : tie.InvT-loop
-Inv-loop index at least d₀ i₀ d i = laws.Numbers index at least d i
+returns : tie.Need-returns
+returns c = laws.field-past _ _ _ (omega (arith, c .if1 .taken))
 
-abbrev μ-loop : tie.MeasureT-loop
-μ-loop index at least d₀ i₀ d i = length index - i
+shared-slice-read-b : tie.Need-shared-slice-read-b
+shared-slice-read-b c = search needs
 
-loop-holds : tie.Need-loop-holds Inv-loop μ-loop
-loop-holds c = laws.numbers-start _ _ _
-
-shared-slice-read-b : tie.Need-shared-slice-read-b Inv-loop μ-loop
-shared-slice-read-b c = omega arith
-
-is-digit-requires : tie.Need-is-digit-requires Inv-loop μ-loop
+is-digit-requires : tie.Need-is-digit-requires
 is-digit-requires c κs = search needs
 
-close-requires : tie.Need-close-requires Inv-loop μ-loop
-close-requires c κs = search needs
+returns-2 : tie.Need-returns-2
+returns-2 c = laws.field-other _ _ _ (omega (arith, c .before .before .before .if1 .left)) (sym (c .before .is-digit .ensures) ∙ not-true _ (c .if2 .taken))
 
-returns : tie.Need-returns Inv-loop μ-loop
-returns c = c .close .ensures ∙ laws.numbers-stop (c .before .before .before .before .before .loop .inv) (omega arith) (sym (c .before .before .is-digit .ensures) ∙ not-true _ (c .before .if1 .taken))
+add-zero-to : tie.Need-add-zero-to
+add-zero-to c = search needs
 
-step-requires : tie.Need-step-requires Inv-loop μ-loop
-step-requires c κs = search needs
+zero-to-requires : tie.Need-zero-to-requires
+zero-to-requires c κs = search needs
 
-add-i : tie.Need-add-i Inv-loop μ-loop
-add-i c = omega arith
+returns-3 : tie.Need-returns-3
+returns-3 c = laws.field-zero _ _ _ (omega (arith, c .before .before .before .before .before .if1 .left)) (sym (c .before .before .before .is-digit .ensures) ∙ not-false _ (c .before .before .if2 .left)) (omega (arith, c .before .if3 .taken)) (c .zero-to .ensures)
 
-loop-less : tie.Need-loop-less Inv-loop μ-loop
-loop-less c = omega arith
+add-number-to : tie.Need-add-number-to
+add-number-to c = search needs
 
-loop-again : tie.Need-loop-again Inv-loop μ-loop
-loop-again c = rw (c .step .ensures .0) (laws.numbers-go (c .before .before .before .before .before .loop .inv) (omega arith) (sym (c .before .before .is-digit .ensures) ∙ not-false _ (c .before .if1 .left)))
+sub-number-to : tie.Need-sub-number-to
+sub-number-to c = omega (arith, digit-range _ (sym (c .before .before .is-digit .ensures) ∙ not-false _ (c .before .if2 .left)))
 
-close-requires-2 : tie.Need-close-requires-2 Inv-loop μ-loop
-close-requires-2 c κs = search needs
+cast-number-to : tie.Need-cast-number-to
+cast-number-to c = omega (arith, digit-range _ (sym (c .before .before .is-digit .ensures) ∙ not-false _ (c .before .if2 .left)))
 
-returns-2 : tie.Need-returns-2 Inv-loop μ-loop
-returns-2 c = c .close2 .ensures ∙ laws.numbers-end (c .before .before .loop .inv) (omega arith)
+number-to-requires : tie.Need-number-to-requires
+number-to-requires c κs = omega (arith, digit-range _ (sym (c .before .before .is-digit .ensures) ∙ not-false _ (c .before .if2 .left)))
+
+returns-4 : tie.Need-returns-4
+returns-4 c = laws.field-number _ _ _ (omega (arith, c .before .before .before .before .before .if1 .left)) (sym (c .before .before .before .is-digit .ensures) ∙ not-false _ (c .before .before .if2 .left)) (λ z. omega (arith, c .before .if3 .left)) (c .number-to .ensures)
 
 pub field-at-spec : {M : Type 1} → statement M
 field-at-spec =
     tie.close
     (tie.spec
-    Inv-loop
-    μ-loop
-    loop-holds
+    returns
     shared-slice-read-b
     is-digit-requires
-    close-requires
-    returns
-    step-requires
-    add-i
-    loop-less
-    loop-again
-    close-requires-2
-    returns-2)
+    returns-2
+    add-zero-to
+    zero-to-requires
+    returns-3
+    add-number-to
+    sub-number-to
+    cast-number-to
+    number-to-requires
+    returns-4)
