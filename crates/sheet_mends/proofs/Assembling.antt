@@ -268,10 +268,10 @@ module _ (old new : List ℕ) (p e n : ℕ) (index join : List ℕ) (seen : Seen
     again-join j₀ h = h ∙ ap (λ (s : List ℕ). joinBehind j₀ (triesAt s maxText 1 0)) et
 
     pub measured : (t₀ o₀ : List ℕ) {u : Telling}
-        → u ≡ tellAll index (record { so = record { good = true; records = seen .records; next = seen .from }; table = t₀; out = o₀ }) (textAndRest (seen .line) p text rest)
+        → u ≡ tellAll index (record { so = record { good = false; records = seen .records; next = seen .from }; table = t₀; out = o₀ }) (textAndRest (seen .line) p text rest)
         → (u .so .records ≡ length (recordsOf new)) × (u .so .next ≡ length (indexText (recordsOf new)))
     measured t₀ o₀ {u} h =
-        let s : Telling = record { so = record { good = true; records = seen .records; next = seen .from }; table = t₀; out = o₀ } in
+        let s : Telling = record { so = record { good = false; records = seen .records; next = seen .from }; table = t₀; out = o₀ } in
         let f : u ≡ tellAll index s fresh = rw fresh-is at h in
         let a : u .so .records ≡ seen .records + length fresh = ap (λ (x : Telling). x .so .records) f ∙ tell-count index s fresh in
         let b : u .so .next ≡ seen .from + length (linesText fresh) = ap (λ (x : Telling). x .so .next) f ∙ tell-next index s fresh in
@@ -280,10 +280,10 @@ module _ (old new : List ℕ) (p e n : ℕ) (index join : List ℕ) (seen : Seen
         (omega (arith, a, ap (λ (x : Seen). x .records) (w .is), c), omega (arith, b, from-is, index-long (recordsOf new), d))
 
     module _ (table out : List ℕ) {head first : List ℕ} (ef : first ≡ slice 0 p old) (seats : length (recordsOf new) ≤ tableSize (length table)) (room : length (indexText (recordsOf new)) ≤ length out) (h : head ≡ sets out 0 indexHeader)
-        {u v : Telling} (a : u ≡ tellAll index (record { so = record { good = true; records = 0; next = 19 }; table = table; out = head }) (map (movedOn 0 0) (recordsOf first)))
+        {u v : Telling} (a : u ≡ tellAll index (record { so = record { good = false; records = 0; next = 19 }; table = table; out = head }) (map (movedOn 0 0) (recordsOf first)))
         (b : v ≡ tellAll index u (textAndRest (seen .line) p text rest)) where
       abbrev begin : Telling
-      begin = record { so = record { good = true; records = 0; next = 19 }; table = table; out = head }
+      begin = record { so = record { good = false; records = 0; next = 19 }; table = table; out = head }
 
       laid : v ≡ tellAll index begin (recordsOf new)
       laid = rw new-is (told-on index begin front fresh (rw (ef, later-none front) at a) (rw fresh-is at b))
@@ -303,7 +303,7 @@ module _ (old new : List ℕ) (p e n : ℕ) (index join : List ℕ) (seen : Seen
   pub still : {join′ : List ℕ} → maxText ≤ length join′ → MayMend old new p e n index join′ seen
   still h = record { old-short = w .old-short; old-in = w .old-in; new-short = w .new-short; wide = h; again = w .again; own = w .own; short = w .short; few = w .few; is = w .is }
 
-  pub so-far : soFar (record { good = true; records = seen .records; next = seen .from })
+  pub so-far : soFar (record { good = false; records = seen .records; next = seen .from })
   so-far = (omega (arith, w .few), omega (arith, index-room .1, w .short))
 
 -- ---- the old text was compared

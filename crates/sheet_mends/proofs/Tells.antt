@@ -56,10 +56,10 @@ module _ (at l c o : ℕ) (given quoted : Bool) (s : List ℕ) {n : ℕ} (e : n 
   unfolding rowAt
   row-none g = rw (g, e, add-one (at + length (numbersText l c o)))
 
-pub told : (index : List ℕ) (t : Telling) (r : Record) {row : IndexRow} {g b : Bool} {table out : List ℕ} → row ≡ rowAt (t .so .next) r → g ≡ standsAt index (t .so .next) (recordLine r) → b ≡ (t .so .good && g)
+pub told : (index : List ℕ) (t : Telling) (r : Record) {row : IndexRow} {g : Bool} {table out : List ℕ} → row ≡ rowAt (t .so .next) r → g ≡ (t .so .good && standsAt index (t .so .next) (recordLine r))
     → table ≡ rowOver (t .table) (t .so .records) row → out ≡ lineOver (t .out) (t .so .next) r
-    → _≡_ {A = Telling} (record { so = record { good = b; records = t .so .records + 1; next = row .next }; table = table; out = out }) (tellOne index t r)
-told index t r e f g h i = rw (h, i, g, f, e, row-next (t .so .next) r)
+    → _≡_ {A = Telling} (record { so = record { good = g; records = t .so .records + 1; next = row .next }; table = table; out = out }) (tellOne index t r)
+told index t r e f g h = rw (g, h, f, e, row-next (t .so .next) r)
 
 -- table and buffer keep their lengths
 module _ (index : List ℕ) where

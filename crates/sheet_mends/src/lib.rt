@@ -20,10 +20,11 @@ ghost use Rattle.text_lines.specs.Lines.{lines};
 ghost use Rattle.set_marks.specs.Marks.{bytesIn};
 ghost use Rattle.set_table.specs.Types.{two};
 ghost use Rattle.sheet_blocks.specs.Sheets.{triesAt, joinBehind};
-ghost use Rattle.sheet_records.specs.Records.{AllIn, rowAt, indexText, indexRows, tableNumbers};
+ghost use Rattle.sheet_records.specs.Records.{AllIn, recordLine, rowAt, indexText, indexRows, tableNumbers};
 ghost use Rattle.sheet_records.specs.Listed.{recordsOf};
 ghost use Rattle.sheet_records.specs.Computed.{idIn};
 ghost use Rattle.sheet_records.specs.Writing.{rawId, tableSize};
+ghost use Rattle.sheet_stands.specs.Stands.{standsAt};
 ghost use Rattle.sheet_index.specs.Inner.{setRecord, blockAdds, linesText, mostLine};
 ghost use Rattle.sheet_index.specs.Building.{roomFor, builtPaper};
 ghost use Rattle.sheet_splits.specs.Parting.{movedOn};
@@ -94,6 +95,26 @@ fn row_of(
     }
 }
 
+// Whether the lines so far stand in the index, and this record's too; where one doesn't, no other is compared.
+fn stands_too<'a>(
+    good: bool,
+    index: &'a [u8],
+    at: usize,
+    line: usize,
+    count: usize,
+    offset: usize,
+    given: bool,
+    quoted: bool,
+    raw: &'a [u8],
+) -> bool
+    ensures { λ r. ⌜ r ≡ good && standsAt (now (index .entry)) at (recordLine (record { line = line; count = count; offset = offset; id = rawId given quoted (now (raw .entry)) })) ⌝ }
+{
+    if good {
+        return sheet_stands::line_stands(index, at, line, count, offset, given, quoted, raw);
+    }
+    false
+}
+
 // Tells one record: its line is compared with the index, and its row and line are put where they have room.
 fn tell<'a>(
     index: &'a [u8],
@@ -111,11 +132,21 @@ fn tell<'a>(
     ensures { λ r. ⌜ record { so = r; table = now (table .exit); out = now (out .exit) } ≡ tellOne (now (index .entry)) (record { so = so; table = now (table .entry); out = now (out .entry) }) (record { line = line; count = count; offset = offset; id = rawId given quoted (now (raw .entry)) }) ⌝ }
 {
     let row = row_of(so.next, line, count, offset, given, quoted, raw);
-    let stands = sheet_stands::line_stands(index, so.next, line, count, offset, given, quoted, raw);
+    let good = stands_too(
+        so.good,
+        index,
+        so.next,
+        line,
+        count,
+        offset,
+        given,
+        quoted,
+        raw,
+    );
     sheet_records::put_row(table, so.records, row);
     sheet_records::put_record(out, so.next, line, count, offset, given, quoted, raw);
     Progress {
-        good: both(so.good, stands),
+        good,
         records: so.records + 1,
         next: row.next,
     }
@@ -392,7 +423,7 @@ fn measure_mended<'a>(
     let text = set_table::bytes_of(new, p, n);
     let rest = set_table::bytes_of(old, e, old.len());
     let so = Progress {
-        good: true,
+        good: false,
         records: seen.records,
         next: seen.from,
     };
@@ -436,7 +467,7 @@ fn lay_mended<'a>(
     let text = set_table::bytes_of(new, p, n);
     let rest = set_table::bytes_of(old, e, old.len());
     let start = Progress {
-        good: true,
+        good: false,
         records: 0,
         next: sheet_records::HEADER,
     };
