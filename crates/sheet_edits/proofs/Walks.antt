@@ -2,8 +2,9 @@
 -- Assumes nothing.
 use mathlib.Core.Path.{_≡_, refl, sym, _∙_, ap}
 use mathlib.Core.Bool.{Bool, true, false, cond, not}
-use mathlib.Core.List.{List, [], _∷_}
+use mathlib.Core.List.{List, [], _∷_, _++_}
 use Prim.Native.Nat.{ℕ, suc, _+_, _-_, _<_, _≤_}
+use native.Mathlib.Nat.{add-zero}
 use native.Mathlib.Numerals.{add-one}
 use native.Mathlib.Omega.{arith}
 use borrow.Author.Tests.{le-leb, lt-leb, leb-true, not-true, not-false}
@@ -12,13 +13,16 @@ use Rattle.base_bytes.specs.Bytes.{isIndent}
 use Rattle.sheet_edits.specs.declared.Again.the-variants as again
 use lib.Dec.{eqb}
 use lib.ListN.{length, getD, take, drop, drop-of-length-le, length-drop, length-take}
-use lib.Seq.{slice, drop-cons, take-all}
+use lib.Seq.{slice, drop-cons, take-all, take-suc, take-length, length-take-le, getD-take}
 use Rattle.base_lists.specs.Lists.{same}
-use Rattle.text_lines.specs.Lines.{lines, lineFrom}
+use Rattle.text_lines.specs.Lines.{lines, lineFrom, lineOf}
+use Rattle.text_lines.specs.declared.Range.{Range}
 use Rattle.text_lines.specs.declared.LineEnd.{LineEnd}
+use Rattle.text_lines.specs.declared.Line.the-variants as place
+use Rattle.sheet_edits.specs.declared.Span.the-variants as span
 use Rattle.text_lines.proofs.Lines.{lines-end, line-at, next-beyond, next-le}
 use Rattle.sheet_splits.specs.Parting.{isWhole}
-use Rattle.sheet_edits.specs.Edits.{isFlat, flatFrom, lastFlat, tillFlat, keeps, againIn}
+use Rattle.sheet_edits.specs.Edits.{spanTo, isFlat, flatFrom, lastFlat, tillFlat, keeps, againIn}
 
 -- ---- whether a text is empty or ends in an LF
 
@@ -33,19 +37,74 @@ unfolding isWhole
 whole-empty [] h = refl
 whole-empty (b ∷ s) h = absurd (omega arith)
 
--- ---- the last line that begins with neither space nor tab
+-- ---- the last line that begins with neither space nor tab, sought from the end
 
-pub record Lasts (t : List ℕ) (last : ℕ) (fresh : Bool) (i : ℕ) : Type 0 where
-  pub rest : flatFrom fresh i last (drop i t) ≡ lastFlat t
+-- whether the byte behind x begins a line
+unfoldable freshBehind : Bool → List ℕ → Bool
+freshBehind fresh [] = fresh
+freshBehind fresh (b ∷ x) = freshBehind (eqb b 10) x
 
-module _ {t : List ℕ} {last : ℕ} {fresh : Bool} {i : ℕ} (inv : Lasts t last fresh i) where
-  pub lasts-on : {next : ℕ} → i < length t → next ≡ cond (isFlat fresh (getD t i 0)) i last → Lasts t next (eqb (getD t i 0) 10) (i + 1)
-  unfolding flatFrom
-  lasts-on h e = record { rest = rw (e, add-one i) (rw (drop-cons t i 0 h) at (inv .rest)) }
+fresh-whole : (b : ℕ) (x : List ℕ) → freshBehind (eqb b 10) x ≡ isWhole (b ∷ x)
+unfolding isWhole freshBehind
+fresh-whole b [] = refl
+fresh-whole b (c ∷ x) = fresh-whole c x
 
-  pub lasts-end : length t ≤ i → last ≡ lastFlat t
-  unfolding flatFrom
-  lasts-end h = rw (drop-of-length-le t {i = i} h) at (inv .rest)
+fresh-is : (x : List ℕ) → freshBehind true x ≡ isWhole x
+unfolding isWhole freshBehind
+fresh-is [] = refl
+fresh-is (b ∷ x) = fresh-whole b x
+
+flat-snoc : (fresh : Bool) (at last : ℕ) (x : List ℕ) (b : ℕ) → flatFrom fresh at last (x ++ (b ∷ [])) ≡ cond (isFlat (freshBehind fresh x) b) (at + length x) (flatFrom fresh at last x)
+unfolding flatFrom freshBehind
+flat-snoc fresh at last [] b = rw (add-zero at)
+flat-snoc fresh at last (c ∷ x) b = let z : at + suc (length x) ≡ suc at + length x = omega arith in rw z (flat-snoc (eqb c 10) (suc at) (cond (isFlat fresh c) at last) x b)
+
+flat-cut : (t : List ℕ) (i : ℕ) → i < length t → lastFlat (take (suc i) t) ≡ cond (isFlat (isWhole (take i t)) (getD t i 0)) i (lastFlat (take i t))
+flat-cut t i h =
+    let l : 0 + length (take i t) ≡ i = omega (arith, length-take-le i t (omega arith)) in
+    rw (take-suc t i 0 h) (flat-snoc true 0 0 (take i t) (getD t i 0) ∙ rw (fresh-is (take i t), l))
+
+-- the byte before a place behind the front tells whether a line begins there
+whole-before : (t : List ℕ) (i : ℕ) → 0 < i → i < length t → isWhole (take i t) ≡ eqb (getD t (i - 1) 0) 10
+whole-before t i h k =
+    let l : length (take i t) ≡ i = length-take-le i t (omega arith) in
+    let z : i - 1 < i = omega arith in
+    sym (whole-last (take i t) (omega (arith, l))) ∙ rw (l, getD-take)
+
+-- at the front or none
+short-last : (s : List ℕ) → length s ≤ 1 → 0 ≡ lastFlat s
+unfolding flatFrom
+short-last [] k = refl
+short-last (b ∷ []) k = go (isFlat true b)
+  where
+    go : (p : Bool) → _≡_ {A = ℕ} 0 (cond p 0 0)
+    go true = refl
+    go false = refl
+short-last (b ∷ c ∷ s) k = absurd (omega arith)
+
+-- no such line begins from place i on
+pub record Lasts (t : List ℕ) (i : ℕ) : Type 0 where
+  pub within : i ≤ length t
+  pub rest : lastFlat (take i t) ≡ lastFlat t
+
+pub lasts-start : (t : List ℕ) → Lasts t (length t)
+lasts-start t = record { within = omega arith; rest = rw (take-length t) }
+
+module _ {t : List ℕ} {i : ℕ} (inv : Lasts t i) where
+  module _ (h : 1 < i) {x : Bool} (e : x ≡ isFlat (eqb (getD t (i - 1 - 1) 0) 10) (getD t (i - 1) 0)) where
+    here : cond x (i - 1) (lastFlat (take (i - 1) t)) ≡ lastFlat t
+    here =
+        let k : suc (i - 1) ≡ i = omega arith in
+        rw (e, ← whole-before t (i - 1) (omega arith) (omega (arith, inv .within))) (sym (flat-cut t (i - 1) (omega (arith, inv .within))) ∙ rw k (inv .rest))
+
+    pub lasts-stop : x ≡ true → i - 1 ≡ lastFlat t
+    lasts-stop y = rw y at here
+
+    pub lasts-on : x ≡ false → Lasts t (i - 1)
+    lasts-on y = record { within = omega (arith, inv .within); rest = rw y at here }
+
+  pub lasts-end : i ≤ 1 → 0 ≡ lastFlat t
+  lasts-end h = short-last (take i t) (omega (arith, length-take-le i t (inv .within))) ∙ inv .rest
 
 -- ---- the first
 
@@ -152,3 +211,9 @@ module _ (old new : List ℕ) (from to : ℕ) {k : Bool} (e : k ≡ keeps old ne
     again-lines i f j g l h =
         let z = rw (j, take-all (length old) old (omega arith), f, i) at g in
         rw (← e, not-false k y, z, h, l)
+
+-- ---- the lines of an edit
+
+pub one-line : (t : List ℕ) (a b : ℕ) {r : Range} {l : LineEnd} → lineOf a t ≡ place.At r → a ≡ b → l ≡ lineFrom t (r .from) → span.At (r .from) (l .next) ≡ spanTo t (r .from) b
+unfolding spanTo
+one-line t a b e f g = rw (← f, e, g)

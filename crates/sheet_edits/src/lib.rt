@@ -1,12 +1,13 @@
 // Lines of a text that were replaced: where they stood, and which lines have to be read again.
 use text_lines::Line;
 ghost use mathlib.Core.Path.{_≡_};
-ghost use lib.ListN.{length};
+ghost use lib.ListN.{length, getD};
 ghost use Rattle.text_lines.specs.Lines.{lines};
 ghost use Rattle.sheet_splits.specs.Parting.{isWhole};
 ghost use Rattle.sheet_edits.specs.Edits.{spanTo, spanOf, keeps, isFlat, lastFlat, tillFlat, againIn, againOf, againPaper};
-ghost use mathlib.Core.Bool.{cond};
-ghost use Prim.Native.Nat.{_≤_};
+ghost use Prim.Native.Nat.{_-_, _<_, _≤_};
+ghost use lib.Dec.{eqb};
+ghost use Rattle.base_bytes.specs.Bytes.{lf};
 
 // Where the first of some lines begins and where the line behind the last does; or that they aren't lines of the text.
 enum Span {
@@ -43,7 +44,13 @@ fn span_of(text: &[u8], a: usize, b: usize) -> Span
     }
     match text_lines::line_of(text, a) {
         Line::Missing => Span::Missing,
-        Line::At(l) => span_to(text, l.from, b),
+        Line::At(l) => {
+            if a == b {
+                let e = text_lines::line_from(text, l.from);
+                return Span::At(l.from, e.next);
+            }
+            span_to(text, l.from, b)
+        }
     }
 }
 
@@ -92,30 +99,26 @@ fn is_flat(fresh: bool, b: u8) -> bool
     !base_bytes::is_indent(b)
 }
 
-// This place, if such a line begins at it, else the last one.
-fn later_place(last: usize, at: usize, fresh: bool, b: u8) -> usize
-    ensures { λ r. ⌜ r ≡ cond (isFlat fresh b) at last ⌝ }
+// Whether a line that begins with neither space nor tab begins at a place behind the front.
+fn begins_flat(text: &[u8], at: usize) -> bool
+    requires { ⌜ (0 < at) × (at < length (now text)) ⌝ }
+    ensures { λ r. ⌜ r ≡ isFlat (eqb (getD (now (text .entry)) (at - 1) 0) lf) (getD (now (text .entry)) at 0) ⌝ }
 {
-    if is_flat(fresh, b) {
-        return at;
-    }
-    last
+    is_flat(text[at - 1] == b'\n', text[at])
 }
 
-// The place of the last line that begins with neither space nor tab, 0 where there is none.
+// The place of the last line that begins with neither space nor tab, 0 where there is none: sought from the end.
 fn last_flat(text: &[u8]) -> usize
     ensures { λ r. ⌜ r ≡ lastFlat (now (text .entry)) ⌝ }
 {
-    let mut last = 0;
-    let mut fresh = true;
-    let mut i = 0;
-    while i < text.len() {
-        let b = text[i];
-        last = later_place(last, i, fresh, b);
-        fresh = b == b'\n';
-        i += 1;
+    let mut i = text.len();
+    while 1 < i {
+        i -= 1;
+        if begins_flat(text, i) {
+            return i;
+        }
     }
-    last
+    0
 }
 
 // How many bytes stand before the first line that begins with neither space nor tab, all where there is none; a line begins at the front if it is fresh.
