@@ -25,7 +25,10 @@ line-from-requires c κs = search needs
 
 returns-2 : tie.Need-returns-2
 unfolding spanOf
-returns-2 c = rw (le-ltb (c .before .before .before .before .before .before .before .before .args .b) (c .before .before .before .before .before .before .before .before .args .a) (omega arith), ← (c .before .before .before .before .before .line-of .ensures .0), (c .before .before .before .l .given .1)) (laws.one-line _ _ _ (sym (c .before .before .before .before .before .line-of .ensures .0) ∙ c .before .before .before .l .given .1) (c .before .if2 .taken) (c .line-from .ensures))
+returns-2 c =
+    rw
+    (le-ltb (c .before .before .before .before .before .before .before .before .args .b) (c .before .before .before .before .before .before .before .before .args .a) (omega arith), ← (c .before .before .before .before .before .line-of .ensures .0), (c .before .before .before .l .given .1))
+    (laws.one-line _ _ _ (sym (c .before .before .before .before .before .line-of .ensures .0) ∙ c .before .before .before .l .given .1) (c .before .if2 .taken) (c .line-from .ensures))
 
 span-to-requires : tie.Need-span-to-requires
 span-to-requires c κs = search needs
@@ -36,7 +39,10 @@ returns-3 c = rw (le-ltb (c .before .before .before .before .before .args .b) (c
 
 returns-4 : tie.Need-returns-4
 unfolding spanOf
-returns-4 c = rw (le-ltb (c .before .before .before .before .before .before .before .before .args .b) (c .before .before .before .before .before .before .before .before .args .a) (omega arith), ← (c .before .before .before .before .before .line-of .ensures .0), (c .before .before .before .l .given .1)) (c .span-to .ensures)
+returns-4 c =
+    rw
+    (le-ltb (c .before .before .before .before .before .before .before .before .args .b) (c .before .before .before .before .before .before .before .before .args .a) (omega arith), ← (c .before .before .before .before .before .line-of .ensures .0), (c .before .before .before .l .given .1))
+    (c .span-to .ensures)
 
 pub span-of-spec : {M : Type 1} → statement M
 span-of-spec =

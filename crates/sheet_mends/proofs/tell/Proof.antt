@@ -26,7 +26,13 @@ same-length-2 : tie.Need-same-length-2
 same-length-2 c = search needs
 
 returns : tie.Need-returns
-returns c = let start = c .before .before .before .before .before .before .before .before .before .before .before .before .before .before .before in laws.told (start .args .index .now) (record { so = start .args .so; table = start .args .table .now; out = start .args .out .now }) (record { line = start .args .line; count = start .args .count; offset = start .args .offset; id = rawId (start .args .given) (start .args .quoted) (start .args .raw .now) }) (c .before .before .before .before .before .before .before .before .before .before .row-of .ensures) (c .before .before .before .before .before .before .before .before .before .stands-too .ensures) (c .before .before .before .before .before .before .before .put-row .ensures) (c .before .before .before .put-record .ensures .1 .0)
+returns c =
+    let start = c .before .before .before .before .before .before .before .before .before .before .before .before .before .before .before in
+    laws.told (start .args .index .now) (record { so = start .args .so; table = start .args .table .now; out = start .args .out .now })
+    (record { line = start .args .line; count = start .args .count; offset = start .args .offset; id = rawId (start .args .given) (start .args .quoted) (start .args .raw .now) })
+    (c .before .before .before .before .before .before .before .before .before .before .row-of .ensures)
+    (c .before .before .before .before .before .before .before .before .before .stands-too .ensures) (c .before .before .before .before .before .before .before .put-row .ensures)
+    (c .before .before .before .put-record .ensures .1 .0)
 
 pub tell-spec : {M : Type 1} → statement M
 tell-spec =

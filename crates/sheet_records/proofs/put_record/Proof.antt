@@ -17,7 +17,10 @@ has-room-requires : tie.Need-has-room-requires
 has-room-requires c κs = search needs
 
 returns : tie.Need-returns
-returns c = let start = c .before .before .before .before .before .before in laws.put-no (start .args .line) (start .args .count) (start .args .offset) (start .args .given) (start .args .quoted) (start .args .raw .now) (start .args .out .now) (start .args .at) (c .before .before .before .numbers-size .ensures .0) (c .before .before .id-len .ensures) (c .before .has-room .ensures) (not-true _ (c .if1 .taken))
+returns c =
+    let start = c .before .before .before .before .before .before in
+    laws.put-no (start .args .line) (start .args .count) (start .args .offset) (start .args .given) (start .args .quoted) (start .args .raw .now) (start .args .out .now)
+    (start .args .at) (c .before .before .before .numbers-size .ensures .0) (c .before .before .id-len .ensures) (c .before .has-room .ensures) (not-true _ (c .if1 .taken))
 
 slice-aggregate-lay-numbers : tie.Need-slice-aggregate-lay-numbers
 slice-aggregate-lay-numbers c = search needs
@@ -35,22 +38,47 @@ put-bytes-requires : tie.Need-put-bytes-requires
 put-bytes-requires c κs = search needs
 
 add-put-end : tie.Need-add-put-end
-add-put-end c = let start = c .before .before .before .before .before .before .before .before .before .before .before .before .before .before .before .before in omega (arith, laws.line-room (start .args .line) (start .args .count) (start .args .offset) (start .args .given) (start .args .quoted) (start .args .raw .now) (start .args .out .now) (start .args .at) (c .before .before .before .before .before .before .before .before .before .before .before .before .before .numbers-size .ensures .0) (c .before .before .before .before .before .before .before .before .before .before .before .before .id-len .ensures) (c .before .before .before .before .before .before .before .before .before .before .before .has-room .ensures) (not-false _ (c .before .before .before .before .before .before .before .before .before .before .if1 .left)))
+add-put-end c =
+    let start = c .before .before .before .before .before .before .before .before .before .before .before .before .before .before .before .before in
+    let k =
+    laws.line-room (start .args .line) (start .args .count) (start .args .offset) (start .args .given) (start .args .quoted) (start .args .raw .now) (start .args .out .now)
+    (start .args .at) (c .before .before .before .before .before .before .before .before .before .before .before .before .before .numbers-size .ensures .0) (c .before .before .before .before .before .before .before .before .before .before .before .before .id-len .ensures) (c .before .before .before .before .before .before .before .before .before .before .before .has-room .ensures)
+    (not-false _ (c .before .before .before .before .before .before .before .before .before .before .if1 .left)) in
+    omega (arith, k)
 
 put-end-requires : tie.Need-put-end-requires
-put-end-requires c κs = let start = c .before .before .before .before .before .before .before .before .before .before .before .before .before .before .before .before in let k = laws.line-room (start .args .line) (start .args .count) (start .args .offset) (start .args .given) (start .args .quoted) (start .args .raw .now) (start .args .out .now) (start .args .at) (c .before .before .before .before .before .before .before .before .before .before .before .before .before .numbers-size .ensures .0) (c .before .before .before .before .before .before .before .before .before .before .before .before .id-len .ensures) (c .before .before .before .before .before .before .before .before .before .before .before .has-room .ensures) (not-false _ (c .before .before .before .before .before .before .before .before .before .before .if1 .left)) in rw (c .before .before .before .put-bytes .ensures, length-sets) k
+put-end-requires c κs =
+    let start = c .before .before .before .before .before .before .before .before .before .before .before .before .before .before .before .before in
+    let k = laws.line-room (start .args .line) (start .args .count) (start .args .offset) (start .args .given) (start .args .quoted) (start .args .raw .now) (start .args .out .now)
+    (start .args .at) (c .before .before .before .before .before .before .before .before .before .before .before .before .before .numbers-size .ensures .0)
+    (c .before .before .before .before .before .before .before .before .before .before .before .before .id-len .ensures)
+    (c .before .before .before .before .before .before .before .before .before .before .before .has-room .ensures)
+    (not-false _ (c .before .before .before .before .before .before .before .before .before .before .if1 .left)) in
+    rw (c .before .before .before .put-bytes .ensures, length-sets) k
 
 add-row-of : tie.Need-add-row-of
 add-row-of c = search needs
 
 row-of-requires : tie.Need-row-of-requires
-row-of-requires c κs = let start = c .before .before .before .before .before .before .before .before .before .before .before .before .before .before .before .before .before .before .before in omega (arith, c .before .before .put-end .ensures .0, laws.end-long (rawId (start .args .given) (start .args .quoted) (start .args .raw .now)))
+row-of-requires c κs =
+    let start = c .before .before .before .before .before .before .before .before .before .before .before .before .before .before .before .before .before .before .before in
+    omega (arith, c .before .before .put-end .ensures .0, laws.end-long (rawId (start .args .given) (start .args .quoted) (start .args .raw .now)))
 
 same-length : tie.Need-same-length
 same-length c = search needs
 
 returns-2 : tie.Need-returns-2
-returns-2 c = let start = c .before .before .before .before .before .before .before .before .before .before .before .before .before .before .before .before .before .before .before .before in let size = c .before .before .before .before .before .before .before .before .before .before .before .before .before .before .before .before .before .numbers-size .ensures in let laid = c .before .before .before .before .before .before .before .before .before .before .before .before .lay-numbers .ensures in laws.put-yes (start .args .line) (start .args .count) (start .args .offset) (start .args .given) (start .args .quoted) (start .args .raw .now) (start .args .out .now) (start .args .at) (size .0) (c .before .before .before .before .before .before .before .before .before .before .before .before .before .before .before .before .id-len .ensures) (c .before .before .before .before .before .before .before .before .before .before .before .before .before .before .before .has-room .ensures) (not-false _ (c .before .before .before .before .before .before .before .before .before .before .before .before .before .before .if1 .left)) (laws.laid-numbers (start .args .line) (start .args .count) (start .args .offset) (size, laid .1) (c .before .before .before .before .before .before .before .before .bytes-of .ensures)) (c .before .before .before .before .before .before .before .put-bytes .ensures) (c .before .before .before .put-end .ensures .0) (c .before .before .before .put-end .ensures .1) (c .row-of .ensures)
+returns-2 c =
+    let start = c .before .before .before .before .before .before .before .before .before .before .before .before .before .before .before .before .before .before .before .before in
+    let size = c .before .before .before .before .before .before .before .before .before .before .before .before .before .before .before .before .before .numbers-size .ensures in
+    let laid = c .before .before .before .before .before .before .before .before .before .before .before .before .lay-numbers .ensures in
+    laws.put-yes (start .args .line) (start .args .count) (start .args .offset) (start .args .given) (start .args .quoted) (start .args .raw .now) (start .args .out .now)
+    (start .args .at) (size .0) (c .before .before .before .before .before .before .before .before .before .before .before .before .before .before .before .before .id-len .ensures)
+    (c .before .before .before .before .before .before .before .before .before .before .before .before .before .before .before .has-room .ensures)
+    (not-false _ (c .before .before .before .before .before .before .before .before .before .before .before .before .before .before .if1 .left))
+    (laws.laid-numbers (start .args .line) (start .args .count) (start .args .offset) (size, laid .1) (c .before .before .before .before .before .before .before .before .bytes-of .ensures))
+    (c .before .before .before .before .before .before .before .put-bytes .ensures) (c .before .before .before .put-end .ensures .0) (c .before .before .before .put-end .ensures .1)
+    (c .row-of .ensures)
 
 pub put-record-spec : {M : Type 1} → statement M
 put-record-spec =
