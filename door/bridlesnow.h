@@ -173,7 +173,7 @@ uint8_t bridlesnow_wrapped_attrs_run_at(const uint8_t *text, size_t text_len, si
                                         uint8_t *out, size_t out_len, size_t *told, size_t told_len);
 
 /* Reads the block of one or more lines whose first line begins at byte `at`, as bridlesnow_parse_standalone_attrs_block does by the line's number: for
- * going through a text that bridlesnow_check_text took once. It looks at no byte outside its lines, so only 1 and no 2 is given. A place within a line is
+ * going through a text that bridlesnow_check_text took once. No byte outside its lines counts, so only 1 and no 2 is given. A place within a line is
  * taken as the beginning of one; over bytes that aren't UTF-8 `out` isn't UTF-8 either. Tells as above: behind a refusal but 6, 7 and 10 the place is
  * `at` itself, or 0 where `at` is at or past the text's end or 1 is given. */
 uint8_t bridlesnow_read_block_at(const uint8_t *text, size_t text_len, size_t at,
