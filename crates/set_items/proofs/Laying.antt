@@ -12,6 +12,7 @@ use lib.ListN.{length, drop, length-append}
 use lib.Seq.{sets, sets-eq}
 use Rattle.base_lists.specs.Lists.{over}
 use Rattle.base_lists.proofs.Sets.{sets-append}
+use Rattle.base_refusals.specs.Orders.{inOrder, orderNo}
 use Rattle.base_refusals.specs.declared.Refusal.{Refusal}
 use Rattle.base_refusals.specs.declared.Refusal.the-variants.{CanonTooLong}
 use Rattle.base_refusals.specs.declared.Outcome.{Outcome}
@@ -28,7 +29,7 @@ use Rattle.set_table.specs.declared.Value.{Value}
 use Rattle.set_marks.specs.Marks.{rawBytes, isQuoted, bytesIn}
 use Rattle.set_marks.proofs.Values.{raw-value}
 use Rattle.set_items.specs.declared.Laid.{Laid}
-use Rattle.set_items.specs.Items.{named, laidOf, laidIn}
+use Rattle.set_items.specs.Items.{named, laidBytes, laidOf, laidIn, laidPaper, numberedLaid}
 
 -- what has room is written
 pub has-room : (buf : List ℕ) (at : ℕ) (xs : List ℕ) → at + length xs ≤ length buf → contentOf buf at xs ≡ sets buf at xs
@@ -98,3 +99,18 @@ lang-name t e = rw e
 pub none-laid : (c : Outcome) (buf : List ℕ) → (record { outcome = c; name = 0; value = 0 } ≡ laidOf c (length buf) []) × (buf ≡ laidIn c buf [])
 none-laid Passed buf = (rw (le-leb 0 (length buf) (omega arith)), rw (le-leb 0 (length buf) (omega arith)))
 none-laid (Refused r) buf = (refl, refl)
+
+-- ---- on paper: what was refused before, else 10, and both lengths
+
+laid-no : (c : Outcome) (size : ℕ) (ps : List Pair) → laidPaper (laidOf c size ps) ≡ numberedLaid c size ps
+unfolding orderNo inOrder
+laid-no (Refused r) size ps = refl
+laid-no Passed size ps = go (leb (length (laidBytes ps)) size) refl
+  where
+    go : (x : Bool) → leb (length (laidBytes ps)) size ≡ x → laidPaper (laidOf Passed size ps) ≡ numberedLaid Passed size ps
+    go true e = rw e
+    go false e = rw e
+
+module _ (c : Outcome) (buf : List ℕ) (ps : List Pair) {r : Laid} {d : List ℕ} where
+  pub said : (r ≡ laidOf c (length buf) ps) × (d ≡ laidIn c buf ps) → (r ≡ laidOf c (length buf) ps) × ((d ≡ laidIn c buf ps) × (laidPaper r ≡ numberedLaid c (length buf) ps))
+  said (e, f) = (e, (f, ap laidPaper e ∙ laid-no c (length buf) ps))

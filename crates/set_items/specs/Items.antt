@@ -4,6 +4,8 @@ use mathlib.Core.List.{List, [], _∷_, _++_, map}
 use lib.Dec.{leb}
 use lib.ListN.{length, take, drop}
 use Rattle.base_lists.specs.Lists.{over}
+use Rattle.base_refusals.specs.Numbers.{outcomeNo, Paper}
+use Rattle.base_refusals.specs.Orders.{Ground, orderNo, met}
 use Rattle.base_refusals.specs.declared.Refusal.the-variants.{CanonTooLong}
 use Rattle.base_refusals.specs.declared.Outcome.{Outcome}
 use Rattle.text_checks.specs.Outcomes.{orLeft, unless, orElse}
@@ -58,3 +60,15 @@ laidOf c size ps =
 -- "A refusal touches no other lent memory": else the bytes stand at its front, the rest of it untouched
 abbrev pub laidIn : Outcome → List ℕ → List Pair → List ℕ
 laidIn c buf ps = orLeft (laidOf c (length buf) ps .outcome) buf (over (laidBytes ps) buf)
+
+-- ---- on paper: the number of an answer, and the lengths of the name and of the value, which a refusal has too
+
+abbrev pub laidPaper : Laid → Paper
+laidPaper l = record { number = outcomeNo (l .outcome); values = l .name ∷ l .value ∷ [] }
+
+-- "10" behind what was refused before
+abbrev pub layOrder : Outcome → ℕ → List Pair → List Ground
+layOrder c size ps = met c ++ (Ground.lacking CanonTooLong (leb (length (laidBytes ps)) size) ∷ [])
+
+abbrev pub numberedLaid : Outcome → ℕ → List Pair → Paper
+numberedLaid c size ps = record { number = orderNo (layOrder c size ps); values = length (nameOf ps) ∷ length (valueOf ps) ∷ [] }

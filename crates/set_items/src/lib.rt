@@ -21,7 +21,7 @@ ghost use Rattle.set_table.specs.Types.{two, zeroRow, nameBytes, valueBytes, ma
 ghost use Rattle.set_table.specs.Rows.{rowsIn, meaningOf};
 ghost use Rattle.set_marks.specs.Marks.{bytesIn};
 ghost use Rattle.set_items.specs.declared.Item.the-variants.{Missing, Class};
-ghost use Rattle.set_items.specs.Items.{nth, itemAs, named, unnamed, valuesUnder, laidOf, laidIn};
+ghost use Rattle.set_items.specs.Items.{nth, itemAs, named, unnamed, valuesUnder, laidOf, laidIn, laidPaper, numberedLaid};
 ghost use Rattle.set_items.specs.Inner.{slotItems, itemsIn, itemOf, slotNamed, firstSlot};
 
 // An item of a set by what it is of, or that there is none.
@@ -347,6 +347,7 @@ pub fn lay_item<'a>(
 ) -> Laid
     ensures { λ r. ⌜ r ≡ laidOf c (length (now (out .entry))) (itemAs named (two (now (first .entry)) (now (second .entry))) item) ⌝ }
     ensures { λ r. ⌜ now (out .exit) ≡ laidIn c (now (out .entry)) (itemAs named (two (now (first .entry)) (now (second .entry))) item) ⌝ }
+    ensures { λ r. ⌜ laidPaper r ≡ numberedLaid c (length (now (out .entry))) (itemAs named (two (now (first .entry)) (now (second .entry))) item) ⌝ }
 {
     match item {
         Item::Missing => Laid {
@@ -370,6 +371,7 @@ pub fn lay_value<'a>(
 ) -> Laid
     ensures { λ r. ⌜ r ≡ laidOf c (length (now (out .entry))) (itemAs unnamed (two (now (first .entry)) (now (second .entry))) item) ⌝ }
     ensures { λ r. ⌜ now (out .exit) ≡ laidIn c (now (out .entry)) (itemAs unnamed (two (now (first .entry)) (now (second .entry))) item) ⌝ }
+    ensures { λ r. ⌜ laidPaper r ≡ numberedLaid c (length (now (out .entry))) (itemAs unnamed (two (now (first .entry)) (now (second .entry))) item) ⌝ }
 {
     match item {
         Item::Missing => Laid {

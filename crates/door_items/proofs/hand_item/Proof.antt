@@ -56,7 +56,7 @@ returns c =
     let at30 = at28 .before .before in let at34 = at30 .before .before .before .before in
     let a = at34 .args in
     laws.read-item (a .text .now) (a .out .now) (a .told .now) (a .read) (a .n) (at30 .check-by .ensures) (at9 .next-of .ensures) (at4 .place-of .ensures) (at28 .item-at .ensures)
-    (at25 .lay-item .ensures) (told-5 _ _ _ _ _ _ (at21 .tell .ensures) (at17 .tell2 .ensures) (at13 .tell3 .ensures) (at8 .tell4 .ensures) (at3 .tell5 .ensures))
+    (at25 .lay-item .ensures .0, at25 .lay-item .ensures .1 .0) (told-5 _ _ _ _ _ _ (at21 .tell .ensures) (at17 .tell2 .ensures) (at13 .tell3 .ensures) (at8 .tell4 .ensures) (at3 .tell5 .ensures))
     (c .outcome-number .ensures)
 
 pub hand-item-spec : {M : Type 1} → statement M

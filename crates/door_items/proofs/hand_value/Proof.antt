@@ -53,7 +53,7 @@ returns c =
     let at31 = at26 .before .before .before .before .before in
     let a = at31 .args in
     laws.read-value (a .text .now) (a .out .now) (a .told .now) (a .read) (a .n) (at26 .check-by .ensures) (at9 .next-of .ensures) (at4 .place-of .ensures)
-    (a .name .now) (at24 .value-at .ensures) (at21 .lay-value .ensures) (told-4 _ _ _ _ _ (at17 .tell .ensures) (at13 .tell2 .ensures) (at8 .tell3 .ensures) (at3 .tell4 .ensures))
+    (a .name .now) (at24 .value-at .ensures) (at21 .lay-value .ensures .0, at21 .lay-value .ensures .1 .0) (told-4 _ _ _ _ _ (at17 .tell .ensures) (at13 .tell2 .ensures) (at8 .tell3 .ensures) (at3 .tell4 .ensures))
     (c .outcome-number .ensures)
 
 pub hand-value-spec : {M : Type 1} → statement M

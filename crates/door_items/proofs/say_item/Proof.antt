@@ -50,7 +50,7 @@ returns c =
     let at19 = at15 .before .before .before .before in let at23 = at19 .before .before .before .before in let at27 = at23 .before .before .before .before in
     let at31 = at27 .before .before .before .before in let at33 = at31 .before .before in let at34 = at33 .before in let at39 = at34 .before .before .before .before .before in
     let a = at39 .args in
-    laws.block-item (a .out .now) (a .told .now) (a .block) (a .n) (ap (two (a .text .now)) (at34 .bytes-of .ensures)) (at33 .item-at .ensures) (at31 .lay-item .ensures)
+    laws.block-item (a .out .now) (a .told .now) (a .block) (a .n) (ap (two (a .text .now)) (at34 .bytes-of .ensures)) (at33 .item-at .ensures) (at31 .lay-item .ensures .0, at31 .lay-item .ensures .1 .0)
     (laws.told-7 _ _ _ _ _ _ _ _ (at27 .tell .ensures) (at23 .tell2 .ensures) (at19 .tell3 .ensures) (at15 .tell4 .ensures) (at11 .tell5 .ensures) (at7 .tell6 .ensures) (at3 .tell7 .ensures))
     (c .outcome-number .ensures)
 

@@ -48,7 +48,7 @@ returns c =
     let at30 = at29 .before in let at36 = at30 .before .before .before .before .before .before in
     let a = at36 .args in
     laws.block-value (a .out .now) (a .told .now) (a .block) (a .n) (ap (two (a .text .now)) (at30 .bytes-of .ensures)) (a .name .now) (at29 .value-at .ensures)
-    (at27 .lay-value .ensures) (laws.told-6 _ _ _ _ _ _ _ (at23 .tell .ensures) (at19 .tell2 .ensures) (at15 .tell3 .ensures) (at11 .tell4 .ensures) (at7 .tell5 .ensures) (at3 .tell6 .ensures))
+    (at27 .lay-value .ensures .0, at27 .lay-value .ensures .1 .0) (laws.told-6 _ _ _ _ _ _ _ (at23 .tell .ensures) (at19 .tell2 .ensures) (at15 .tell3 .ensures) (at11 .tell4 .ensures) (at7 .tell5 .ensures) (at3 .tell6 .ensures))
     (c .outcome-number .ensures)
 
 pub say-value-spec : {M : Type 1} → statement M

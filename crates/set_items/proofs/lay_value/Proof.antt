@@ -1,5 +1,7 @@
+use mathlib.Core.List.{[]}
 use Rattle.set_items.proofs.Laying as laws
-use Rattle.set_items.specs.Items.{itemAs}
+use Rattle.set_table.specs.Types.{two}
+use Rattle.set_items.specs.Items.{itemAs, unnamed}
 use borrow.Author.Needs.{needs}
 use Rattle.set_items.proofs.lay_value.Statement.{statement}
 use Rattle.set_items.proofs.lay_value.Tie as tie
@@ -38,28 +40,34 @@ returns : tie.Need-returns
 unfolding itemAs
 returns c =
     let start = c .before .before .before .before .before in
-    rw (c .enum-told .given .1) (laws.none-laid (start .args .c) (start .args .out .now))
+    rw (c .enum-told .given .1) (laws.said (start .args .c) (start .args .out .now) [] (laws.none-laid (start .args .c) (start .args .out .now)))
 
 same-length : tie.Need-same-length
 same-length c = search needs
 
 returns-2 : tie.Need-returns-2
 unfolding itemAs
-returns-2 c = rw (c .before .before .before .before .before .before .item .given .1) (c .before .before .lay-pair .ensures)
+returns-2 c =
+    let a = c .before .before .before .before .before .before .before .before .before .before .before .args in
+    laws.said (a .c) (a .out .now) (itemAs unnamed (two (a .first .now) (a .second .now)) (a .item)) (rw (c .before .before .before .before .before .before .item .given .1) (c .before .before .lay-pair .ensures))
 
 same-length-2 : tie.Need-same-length-2
 same-length-2 c = search needs
 
 returns-3 : tie.Need-returns-3
 unfolding itemAs
-returns-3 c = rw (c .before .before .before .before .before .before .item2 .given .1) (c .before .before .lay-pair2 .ensures)
+returns-3 c =
+    let a = c .before .before .before .before .before .before .before .before .before .before .before .args in
+    laws.said (a .c) (a .out .now) (itemAs unnamed (two (a .first .now) (a .second .now)) (a .item)) (rw (c .before .before .before .before .before .before .item2 .given .1) (c .before .before .lay-pair2 .ensures))
 
 same-length-3 : tie.Need-same-length-3
 same-length-3 c = search needs
 
 returns-4 : tie.Need-returns-4
 unfolding itemAs
-returns-4 c = rw (c .before .before .before .before .before .before .before .item3 .given .1) (c .before .before .lay-pair3 .ensures)
+returns-4 c =
+    let a = c .before .before .before .before .before .before .before .before .before .before .before .before .args in
+    laws.said (a .c) (a .out .now) (itemAs unnamed (two (a .first .now) (a .second .now)) (a .item)) (rw (c .before .before .before .before .before .before .before .item3 .given .1) (c .before .before .lay-pair3 .ensures))
 
 pub lay-value-spec : {M : Type 1} → statement M
 lay-value-spec =
