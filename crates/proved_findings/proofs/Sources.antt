@@ -3,8 +3,8 @@
 use mathlib.Core.Path.{_≡_, refl, sym, _∙_, ap}
 use mathlib.Core.Bool.{Bool, true, false, cond}
 use mathlib.Core.List.{List, [], _∷_, _++_}
-use Prim.Native.Nat.{ℕ, zero, suc, _+_, _-_, _<_, _≤_}
-use native.Mathlib.Nat.{add-zero, zero-add}
+use Prim.Native.Nat.{ℕ, zero, suc, _+_, _-_, _<_, _≤_, zero-le}
+use native.Mathlib.Nat.{add-zero, zero-add, add-suc}
 use native.Mathlib.Omega.{arith}
 use borrow.Author.Tests.{ltb-true, ltb-false, leb-true, leb-false}
 use lib.Dec.{leb, ltb}
@@ -23,7 +23,7 @@ use Rattle.run_stops.specs.declared.Source.{Source}
 use Rattle.run_stops.specs.Stops.{sourceFrom, sourceOf}
 use Rattle.proved_runs.specs.Lookaheads.{eachSpaced, oneSpaced}
 use Rattle.proved_runs.proofs.Joined.{run-joins}
-use Rattle.proved_findings.specs.Sources.{Sourced, TrueSources}
+use Rattle.proved_findings.specs.Sources.{taken, lineBehind, Sourced, TrueSources, OnlySource}
 
 part-byte : (a e : ℕ) (s : List ℕ) (k : ℕ) → k < e - a → getD (slice a e s) k 0 ≡ getD s (a + k) 0
 part-byte a e s k h = rw (slice-part a e s) (getD-take (e - a) (drop a s) k 0 h ∙ getD-drop a s k 0)
@@ -72,10 +72,16 @@ module _ (t : List ℕ) where
 
   -- ---- so many lines
 
+  -- the first of them counted by itself
+  first-taken : (at r : ℕ) → taken t at (suc r) ≡ suc (length (trim (lineAt t at))) + taken t (frontOf t at .next) r
+  unfolding taken pastLines frontOf
+  first-taken at zero = omega arith
+  first-taken at (suc r) = omega (arith, first-taken at r)
+
   record Goes (n row at k : ℕ) (s : Source) : Type 0 where
     r : ℕ
     counted : s .row ≡ row + r
-    lies : Sourced t (joinedOf n at) k (pastLines r t at) (s .place)
+    lies : Sourced t (joinedOf n at) at k r (s .place)
 
   module _ (n row at k : ℕ) (b : at < length t) (h : k < length (joinedOf (suc n) at)) where
     abbrev more : List (List ℕ)
@@ -85,14 +91,15 @@ module _ (t : List ℕ) where
     bytes = rw (joined-on n at b) (length-append (trim (lineAt t at)) (eachSpaced more))
 
     in-line : k < length (trim (lineAt t at)) → Goes (suc n) row at k (record { row = row; place = frontOf t at .from + k })
-    unfolding pastLines
+    unfolding pastLines taken
     in-line l =
         record {
           r = 0;
           counted = sym (add-zero row);
           lies =
               record {
-                behind = omega arith;
+                above = zero-le;
+                place = omega arith;
                 within = omega (arith, front-end at, l);
                 byte = λ _. front-byte at k l ∙ sym (List·getD-append (trim (lineAt t at)) (eachSpaced more) 0 k l) ∙ ap (λ s. getD s k 0) (sym (joined-on n at b));
                 joint = λ e. absurd (omega (arith, e, front-end at, l));
@@ -100,14 +107,15 @@ module _ (t : List ℕ) where
         }
 
     at-joint : k ≡ length (trim (lineAt t at)) → Goes (suc n) row at k (record { row = row; place = frontOf t at .from + k })
-    unfolding pastLines
+    unfolding pastLines taken
     at-joint l =
         record {
           r = 0;
           counted = sym (add-zero row);
           lies =
               record {
-                behind = omega arith;
+                above = zero-le;
+                place = omega arith;
                 within = omega (arith, front-end at, l);
                 byte = λ e. absurd (omega (arith, e, front-end at, l));
                 joint = λ _. rw (joined-on n at b, each-one more (omega (arith, h, bytes, l)), l) (getD-append-seam (trim (lineAt t at)) space (oneSpaced more) 0);
@@ -126,7 +134,14 @@ module _ (t : List ℕ) where
         record {
           r = suc (g .r);
           counted = omega (arith, g .counted);
-          lies = record { behind = g .lies .behind; within = g .lies .within; byte = λ e. g .lies .byte e ∙ same; joint = λ e. sym same ∙ g .lies .joint e };
+          lies =
+              record {
+                above = omega (arith, first-taken at (g .r), g .lies .above, l);
+                place = omega (arith, first-taken at (g .r), g .lies .place, g .lies .above, l);
+                within = g .lies .within;
+                byte = λ e. g .lies .byte e ∙ same;
+                joint = λ e. sym same ∙ g .lies .joint e;
+              };
         }
       where
         same : getD (joinedOf n (frontOf t at .next)) (k - suc (length (trim (lineAt t at)))) 0 ≡ getD (joinedOf (suc n) at) k 0
@@ -167,3 +182,28 @@ true-sources t cap at k h =
     let j = run-joins cap 0 t at in
     let g = goes t (runAt cap 0 t at .lines) 0 at k (rw (j .spaced) at h) in
     rw (j .spaced, g .counted, zero-add) (g .lies)
+
+-- ---- one line and place alone
+
+module _ (t joined : List ℕ) (at k : ℕ) where
+  more-taken : (r d : ℕ) → taken t at r ≤ taken t at (r + d)
+  unfolding taken
+  more-taken r zero = rw (add-zero r) (omega arith)
+  more-taken r (suc d) = rw (add-suc r d) (omega (arith, more-taken r d))
+
+  not-above : {r s p q : ℕ} → Sourced t joined at k r p → Sourced t joined at k s q → r < s → {A : Type 0} → A
+  unfolding taken
+  not-above {r} {s} a b h =
+      let z : suc r + (s - suc r) ≡ s = omega (arith, h) in
+      absurd (omega (arith, rw z at (more-taken (suc r) (s - suc r)), front-end t (pastLines r t at), a .place, a .within, a .above, b .above))
+
+pub only-source : OnlySource
+only-source t joined at k r p s q a b = go (ltb r s) refl (ltb s r) refl
+  where
+    same : r ≡ s → (r ≡ s) × (p ≡ q)
+    same e = (e, a .place ∙ ap (λ i. lineBehind t at i .from + (k - taken t at i)) e ∙ sym (b .place))
+
+    go : (x : Bool) → ltb r s ≡ x → (y : Bool) → ltb s r ≡ y → (r ≡ s) × (p ≡ q)
+    go true e y f = not-above t joined at k a b (ltb-true r s e)
+    go false e true f = not-above t joined at k b a (ltb-true s r f)
+    go false e false f = same (omega (arith, ltb-false r s e, ltb-false s r f))
