@@ -4,6 +4,7 @@
 BEGIN {
     FS = "\t"
     name = ENVIRON["NAME"]
+    for (i = 1; i < 256; i++) value[sprintf("%c", i)] = i
     split("limit byte-order-mark indented mistake text-behind never-closed open-quote blank-line not-indented too-far-left not-entries", kinds, " ")
     while ((getline row < words) > 0) { split(row, part, "\t"); means[part[1]] = part[2] }
     bold = colour ? "\033[1m" : ""
@@ -81,15 +82,35 @@ function text(l, from, to,   out, i, c, j, s) {
     return out
 }
 
-function quoted(s,   out, i, c) {
+# How many bytes of s, from i on, go on with a character of more than one byte; `whole` is then 1 if they are one, else no character begins so.
+function reach(s, i,   b, need, low, high, d, k) {
+    b = value[substr(s, i, 1)]
+    need = b < 194 || b > 244 ? 1 : b < 224 ? 2 : b < 240 ? 3 : 4
+    low = b == 224 ? 160 : b == 240 ? 144 : 128
+    high = b == 237 ? 159 : b == 244 ? 143 : 191
+    for (k = 1; k < need; k++) {
+        d = value[substr(s, i + k, 1)] + 0
+        if (d < low || d > high) break
+        low = 128; high = 191
+    }
+    whole = need > 1 && k == need
+    return k
+}
+
+# A string of JSON: control characters are escaped, and bytes that aren't UTF-8, as a file's name may have them, stand as U+FFFD.
+function quoted(s,   out, i, c, b, k) {
     out = "\""
-    for (i = 1; i <= length(s); i++) {
-        c = substr(s, i, 1)
-        if (c == "\\" || c == "\"") out = out "\\" c
-        else if (c == "\n") out = out "\\n"
-        else if (c == "\t") out = out "\\t"
-        else if (c < " ") out = out sprintf("\\u%04x", index("\001\002\003\004\005\006\007\010\011\012\013\014\015\016\017\020\021\022\023\024\025\026\027\030\031\032\033\034\035\036\037", c))
-        else out = out c
+    for (i = 1; i <= length(s); i += k) {
+        c = substr(s, i, 1); b = value[c]; k = 1
+        if (b == 34 || b == 92) out = out "\\" c
+        else if (b == 10) out = out "\\n"
+        else if (b == 9) out = out "\\t"
+        else if (b < 32 || b == 127) out = out sprintf("\\u%04x", b)
+        else if (b < 128) out = out c
+        else {
+            k = reach(s, i); c = substr(s, i, k)
+            out = out (!whole ? "\\ufffd" : b == 194 && value[substr(c, 2)] < 160 ? sprintf("\\u%04x", value[substr(c, 2)]) : c)
+        }
     }
     return out "\""
 }
