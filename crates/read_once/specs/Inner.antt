@@ -8,7 +8,7 @@ use lib.ListN.{length, take, drop}
 use lib.Seq.{slice}
 use Rattle.base_lists.specs.Lists.{isIn, run}
 use Rattle.base_bytes.specs.declared.Mode.{Mode}
-use Rattle.base_bytes.specs.Bytes.{isBlank, isSpace, hyphen, lf}
+use Rattle.base_bytes.specs.Bytes.{isBlank, isSpace, apostrophe, backslash, closeBrace, hyphen, lf, quote}
 use Rattle.base_refusals.specs.declared.Refusal.the-variants.{NotUtf8, NoClose, NoReading, TooManyClasses, TooManyKeys, BadTag}
 use Rattle.text_utf8.specs.Computed.{isUtf8}
 use Rattle.text_names.specs.Computed.{tagPasses}
@@ -66,7 +66,7 @@ isGap m b = not (eqb b lf) && isBlank m b
 
 -- the bytes that the search for the close looks at
 abbrev pub specials : List ℕ
-specials = 34 ∷ 39 ∷ 92 ∷ 125 ∷ 10 ∷ []
+specials = quote ∷ apostrophe ∷ backslash ∷ closeBrace ∷ lf ∷ []
 
 -- a byte that leaves it where it is
 unfoldable pub isCalm : ℕ → Bool

@@ -422,6 +422,7 @@ fn measure_mended<'a>(
     let mut out = [0u8; 1];
     let text = set_table::bytes_of(new, p, n);
     let rest = set_table::bytes_of(old, e, old.len());
+    // These records are only measured: where what comes before isn't good, none is compared with the index.
     let so = Progress {
         good: false,
         records: seen.records,
@@ -466,6 +467,7 @@ fn lay_mended<'a>(
     let front = set_table::bytes_of(old, 0, p);
     let text = set_table::bytes_of(new, p, n);
     let rest = set_table::bytes_of(old, e, old.len());
+    // These records are only laid: where what comes before isn't good, none is compared with the index.
     let start = Progress {
         good: false,
         records: 0,
