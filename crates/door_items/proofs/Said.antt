@@ -1,7 +1,7 @@
 -- The answers of a block's items and values one by one, made of what the parts promise.
 -- Assumes nothing.
 use mathlib.Core.Path.{_≡_, ap, _∙_}
-use mathlib.Core.List.{List, [], _∷_, _++_}
+use mathlib.Core.List.{List, [], _∷_}
 use Prim.Native.Nat.{ℕ}
 use lib.ListN.{length, set}
 use lib.Seq.{slice}

@@ -36,7 +36,6 @@ use Rattle.set_keyed.specs.declared.Keyed.the-variants.{Missing, Given}
 use Rattle.set_commas.specs.Commas.{cutsOf}
 use Rattle.set_commas.specs.Rules.{Parted}
 use Rattle.set_commas.proofs.Only.{cuts-order}
-use Rattle.set_columns.specs.declared.Width.{Width}
 use Rattle.set_columns.specs.declared.Width.the-variants as width
 use Rattle.set_columns.specs.Columns.{widthAt, widthsBy, foundWidths}
 use Rattle.proved_texts.proofs.Utf8Boundaries.{before-ascii, after-ascii}

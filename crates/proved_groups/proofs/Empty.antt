@@ -1,18 +1,16 @@
 -- With one or two of three sets empty, the meaning is that of the others merged, however they are grouped.
 -- Assumes nothing.
-use mathlib.Core.Path.{_≡_, refl, sym, _∙_, ap}
+use mathlib.Core.Path.{_≡_, sym, _∙_, ap}
 use mathlib.Core.Bool.{true}
 use mathlib.Core.List.{List, [], _∷_, _++_, append-nil, flatMap}
 use Rattle.base_lists.specs.Lists.{all}
 use Rattle.base_lists.proofs.Scan.{both}
-use Rattle.base_refusals.specs.declared.Outcome.the-variants.{Passed}
 use Rattle.block_grammar.specs.Meaning.{Entry, classesOnce}
 use Rattle.proved_grammar.specs.Meaning.{puts}
 use Rattle.set_table.specs.Types.{Texts}
 use Rattle.set_table.specs.Rows.{listedOf, meaningOf}
 use Rattle.set_table.specs.declared.Attrs.{Attrs}
 use Rattle.set_wellformed.specs.WellFormed.{wellFormed}
-use Rattle.set_merge.specs.Merge.{mergeOf}
 use Rattle.proved_sets.specs.Formed.{HasNothing}
 use Rattle.proved_sets.specs.Merged.{mergeMeaning}
 use Rattle.proved_sets.proofs.MergeMeans.{merge-gives}

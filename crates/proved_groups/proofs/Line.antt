@@ -1,9 +1,9 @@
 -- Canonical texts back to back are read as one line, and mean the merge.
 -- Assumes nothing.
 use mathlib.Core.Path.{_≡_, refl, sym, _∙_, ap}
-use mathlib.Core.Bool.{Bool, true, false}
+use mathlib.Core.Bool.{true}
 use mathlib.Core.List.{List, [], _∷_, _++_, append-nil, map, map-append, flatMap}
-use Prim.Native.Nat.{ℕ, _+_, _≤_}
+use Prim.Native.Nat.{ℕ, _+_}
 use native.Mathlib.Omega.{arith}
 use lib.ListN.{length}
 use lib.Seq.{slice}
@@ -11,7 +11,6 @@ use Rattle.base_lists.specs.Lists.{all}
 use Rattle.base_lists.proofs.Each.{all-map}
 use Rattle.base_bytes.specs.declared.Mode.{Mode}
 use Rattle.base_bytes.specs.declared.Mode.the-variants.{Loose}
-use Rattle.base_refusals.specs.Numbers.{maxText}
 use Rattle.base_refusals.specs.declared.Outcome.the-variants.{Passed}
 use Rattle.text_utf8.specs.Computed.{isUtf8}
 use Rattle.proved_texts.proofs.Utf8Grammar as utf8

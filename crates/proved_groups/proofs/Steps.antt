@@ -1,11 +1,10 @@
 -- No step of a merge is refused where the whole is within the limits, and only there; the grouping changes nothing.
 -- Assumes nothing.
 use mathlib.Core.Path.{_≡_, refl, sym, _∙_, ap}
-use mathlib.Core.Bool.{true, _&&_}
+use mathlib.Core.Bool.{true}
 use mathlib.Core.List.{List, [], _∷_, _++_, append-nil, flatMap}
-use Prim.Native.Nat.{ℕ, _+_, _≤_}
+use Prim.Native.Nat.{ℕ, _+_}
 use native.Mathlib.Omega.{arith}
-use lib.ListN.{length}
 use Rattle.base_lists.specs.Lists.{all}
 use Rattle.base_lists.proofs.Scan.{both}
 use Rattle.base_refusals.specs.declared.Refusal.{Refusal}
@@ -18,11 +17,11 @@ use Rattle.proved_grammar.specs.Meaning.{puts, distinct}
 use Rattle.proved_grammar.specs.Merged.{joinedMeaning}
 use Rattle.proved_grammar.proofs.Merged.{put-associative}
 use Rattle.proved_grammar.proofs.Views.{puts-append}
-use Rattle.set_table.specs.Types.{Texts, maxClasses, maxKeys}
+use Rattle.set_table.specs.Types.{Texts}
 use Rattle.set_table.specs.Rows.{rowsIn, meant, listedOf, meaningOf}
 use Rattle.set_table.specs.declared.Attrs.{Attrs}
 use Rattle.set_table.specs.declared.Filled.{Filled}
-use Rattle.set_wellformed.specs.WellFormed.{wellFormed, tableOk}
+use Rattle.set_wellformed.specs.WellFormed.{wellFormed}
 use Rattle.set_wellformed.proofs.Shape.{shaped}
 use Rattle.set_merge.specs.Merge.{mergeOf}
 use Rattle.set_merge.proofs.Whole.{few}

@@ -1,36 +1,35 @@
 -- When nothing is left, that a second call answers no, and that no bytes are no raw bytes.
 -- Assumes nothing.
 use mathlib.Core.Path.{_≡_, refl, sym, _∙_, ap}
-use mathlib.Core.Bool.{Bool, true, false, cond, not, _&&_}
+use mathlib.Core.Bool.{Bool, true, false, cond, not}
 use mathlib.Core.List.{List, [], _∷_}
 use Prim.Native.Nat.{ℕ}
 use native.Mathlib.Omega.{arith}
 use borrow.Author.Tests.{not-true}
-use lib.ListN.{length}
 use Rattle.base_lists.specs.Lists.{all, same, isSome}
 use Rattle.base_lists.proofs.Scan.{both}
-use Rattle.base_lists.proofs.Same.{same-true, same-refl}
+use Rattle.base_lists.proofs.Same.{same-true}
 use Rattle.base_lists.proofs.More.{contra}
 use Rattle.base_refusals.specs.declared.Refusal.the-variants.{EmptySet}
 use Rattle.text_escapes.specs.Unescape.{unescape, unescapeFrom}
 use Rattle.block_grammar.specs.Meaning.{Entry, lookup}
 use Rattle.set_table.specs.Types.{Texts, emptySet}
-use Rattle.set_table.specs.Rows.{Rows, noRows, rowsIn, tableOf, meaningOf}
+use Rattle.set_table.specs.Rows.{noRows, rowsIn, tableOf, meaningOf}
 use Rattle.set_table.specs.declared.Attrs.{Attrs}
 use Rattle.set_table.proofs.Whole.{rows-table}
-use Rattle.set_wellformed.specs.WellFormed.{tableOk, wellFormed}
+use Rattle.set_wellformed.specs.WellFormed.{wellFormed}
 use Rattle.set_writer.specs.Write.{writable, attrsWrote}
 use Rattle.set_writer.specs.declared.Wrote.the-variants as wrote
 use Rattle.set_loose.specs.declared.Did.the-variants.{Yes, No}
 use Rattle.set_loose.specs.declared.Consumed.{Consumed}
-use Rattle.set_loose.specs.Loose.{looseName, isLoose, withoutLoose, consumedBy, looseOf}
+use Rattle.set_loose.specs.Loose.{looseName, isLoose, withoutLoose, looseOf}
 use Rattle.set_loose.proofs.Whole.{some-raw}
 use Rattle.proved_grammar.specs.Meaning.{absent, distinct}
 use Rattle.proved_sets.specs.Formed.{entryOk, wf}
-use Rattle.proved_sets.proofs.WellFormedShape.{formed-parts, formed-whole, both-pass}
+use Rattle.proved_sets.proofs.WellFormedShape.{formed-parts, both-pass}
 use Rattle.proved_sets.proofs.WellFormedMeans.{means-wf, means-none}
 use Rattle.proved_sets.proofs.TableWhole.{empty-table, empty-means}
-use Rattle.proved_loose.specs.Loose.{withoutName, SaysLoose, EmptyLeft, LooseEmpty, LooseOnce, NoBytesRaw}
+use Rattle.proved_loose.specs.Loose.{withoutName, LooseEmpty, LooseOnce, NoBytesRaw}
 use Rattle.proved_loose.proofs.Means.{answer, when-yes, left-yes, left-formed, means-left, stays-left, loose-means}
 
 -- ---- a meaning without a name

@@ -1,14 +1,14 @@
 -- What the answer means, which rows stay, and that the set handed out is well-formed.
 -- Assumes nothing.
 use mathlib.Core.Path.{_≡_, refl, sym, _∙_, ap}
-use mathlib.Core.Bool.{Bool, true, false, cond, not, _&&_}
-use mathlib.Core.List.{List, [], _∷_, map}
-use Prim.Native.Nat.{ℕ, zero, suc, _+_, _<_, _≤_}
+use mathlib.Core.Bool.{Bool, true, false, cond}
+use mathlib.Core.List.{List, [], _∷_}
+use Prim.Native.Nat.{ℕ, zero, suc, _<_}
 use native.Mathlib.Omega.{arith}
-use borrow.Author.Tests.{ltb-true, lt-ltb, not-true}
+use borrow.Author.Tests.{ltb-true, lt-ltb}
 use lib.Dec.{ltb}
 use lib.ListN.{length, getD}
-use Rattle.base_lists.specs.Lists.{all, same, isSome}
+use Rattle.base_lists.specs.Lists.{all, same}
 use Rattle.base_lists.proofs.Scan.{both}
 use Rattle.base_lists.proofs.More.{contra}
 use Rattle.base_refusals.specs.declared.Refusal.{Refusal}
@@ -16,10 +16,10 @@ use Rattle.base_refusals.specs.declared.Refusal.the-variants.{NotWellFormed}
 use Rattle.base_refusals.specs.declared.Outcome.{Outcome}
 use Rattle.base_refusals.specs.declared.Outcome.the-variants as outcome
 use Rattle.text_checks.specs.Check.{bothOf}
-use Rattle.block_grammar.specs.Meaning.{Entry, lookup, isClass, onceIn, classesOnce}
-use Rattle.set_table.specs.Types.{Texts, valueBytes, zeroRow, emptySet, maxClasses, maxKeys}
+use Rattle.block_grammar.specs.Meaning.{Entry, lookup, onceIn, classesOnce}
+use Rattle.set_table.specs.Types.{Texts, valueBytes, zeroRow, emptySet}
 use Rattle.set_table.specs.Rows.{Rows, rowsIn, tableOf, meant, listedOf, meaningOf}
-use Rattle.set_table.specs.Shape.{isFree, times, Shaped}
+use Rattle.set_table.specs.Shape.{isFree, times}
 use Rattle.set_table.specs.declared.Slot.the-variants.{Key}
 use Rattle.set_table.specs.declared.Attrs.{Attrs}
 use Rattle.set_table.proofs.Whole.{rows-table}
@@ -31,16 +31,16 @@ use Rattle.set_lent.specs.Lent.{looseEnd}
 use Rattle.set_loose.specs.declared.Consumed.{Consumed}
 use Rattle.set_loose.specs.declared.Did.{Did}
 use Rattle.set_loose.specs.declared.Did.the-variants.{Refused, Yes, No}
-use Rattle.set_loose.specs.Without.{withoutAt, slotsWithout, withoutRow}
+use Rattle.set_loose.specs.Without.{withoutAt, withoutRow}
 use Rattle.set_loose.specs.Loose.{looseName, isNoBytes, isLoose, rowNamed, withoutLoose, consumedBy, notConsumed, looseBy, looseOf}
 use Rattle.set_loose.proofs.Without.{gone-length, low, high}
 use Rattle.set_loose.proofs.Walk.{slots-left}
 use Rattle.set_loose.proofs.Keys.{table-named}
 use Rattle.proved_sets.proofs.WellFormedShape.{passed-rows, shaped-apart, shaped-slots, formed-parts, formed-whole, both-pass}
 use Rattle.proved_sets.proofs.PutsKept.{table-ok}
-use Rattle.proved_sets.proofs.TableWhole.{table-lists, table-means, empty-table}
+use Rattle.proved_sets.proofs.TableWhole.{table-lists, table-means}
 use Rattle.proved_sets.proofs.Zeroed.{Zeroed, table-zeroed, empty-zeroed}
-use Rattle.proved_loose.specs.Loose.{withoutName, SaysLoose, ActsRight, LooseMeans, ActsByMeaning, RowsStay, OthersKept, AllKept, LooseZeroed, RefusedEmpty, LentStays, LentGoes}
+use Rattle.proved_loose.specs.Loose.{withoutName, SaysLoose, LooseMeans, ActsByMeaning, RowsStay, OthersKept, AllKept, LooseZeroed, RefusedEmpty, LentStays, LentGoes}
 use Rattle.proved_loose.proofs.Without.{shaped-without, without-means}
 
 -- ---- answers differ

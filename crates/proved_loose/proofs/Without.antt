@@ -8,7 +8,7 @@ use native.Mathlib.Omega.{arith}
 use borrow.Author.Tests.{eqb-true, eqb-false, eq-eqb, ne-eqb, ltb-true, ltb-false, le-ltb, lt-ltb}
 use lib.Dec.{eqb, ltb}
 use lib.ListN.{length, getD}
-use Rattle.base_lists.specs.Lists.{same, all}
+use Rattle.base_lists.specs.Lists.{all}
 use Rattle.base_lists.proofs.Scan.{both}
 use Rattle.set_table.specs.Types.{Texts, zeroRow}
 use Rattle.set_table.specs.Rows.{Rows, slotEntry, meant}

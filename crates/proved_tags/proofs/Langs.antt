@@ -1,8 +1,8 @@
 -- The value that is looked at is the one that the meaning has under `lang`.
 -- Assumes nothing.
-use mathlib.Core.Path.{_≡_, refl, sym, _∙_, ap}
-use mathlib.Core.Bool.{Bool, true, false, cond, _&&_}
-use mathlib.Core.List.{List, [], _∷_, foldl}
+use mathlib.Core.Path.{_≡_, refl, sym, _∙_}
+use mathlib.Core.Bool.{Bool, true, false, cond}
+use mathlib.Core.List.{List, [], _∷_}
 use Prim.Native.Nat.{ℕ}
 use Rattle.base_lists.specs.Lists.{all, same}
 use Rattle.base_lists.proofs.Same.{same-true}
@@ -14,7 +14,7 @@ use Rattle.text_langtags.specs.Computed.{isAllowed}
 use Rattle.text_langtags.proofs.Sound.{allowed-sound}
 use Rattle.text_langtags.proofs.Complete.{allowed-complete}
 use Rattle.block_grammar.specs.Grammar.{Item, Placed}
-use Rattle.block_grammar.specs.Meaning.{Entry, idName, className, langName, isClass, lookup, classesOnce}
+use Rattle.block_grammar.specs.Meaning.{Entry, idName, className, langName, isClass, lookup}
 use Rattle.block_grammar.proofs.Once.{once-lookup}
 use Rattle.proved_grammar.specs.Meaning.{valuesOf, said, put, puts, entriesOf, listed, meaning}
 use Rattle.proved_grammar.proofs.Views.{put-same, put-other}

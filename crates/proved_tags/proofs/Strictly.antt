@@ -15,9 +15,8 @@ use Rattle.base_lists.specs.Lists.{same}
 use Rattle.text_langtags.specs.Grammar.{Allowed}
 use Rattle.block_grammar.specs.Meaning.{langName, isClass, lookup}
 use Rattle.proved_grammar.specs.Meaning.{absent, meaning}
-use Rattle.set_table.specs.Types.{Texts, one, emptySet}
+use Rattle.set_table.specs.Types.{one, emptySet}
 use Rattle.set_table.specs.Rows.{meaningOf}
-use Rattle.set_table.specs.declared.Attrs.{Attrs}
 use Rattle.set_wellformed.specs.WellFormed.{wellFormed}
 use Rattle.read_brace.specs.Brace.{bracePaper, refusingRead, readAttrsAt}
 use Rattle.read_brace.specs.declared.Answer.the-variants.{Refused, Unread, Next}
@@ -26,13 +25,12 @@ use Rattle.proved_sets.proofs.MergeMeans.{merge-gives}
 use Rattle.proved_reading.proofs.Meaning.{read-means, none-reads, refused-empty, five-has-place}
 use Rattle.proved_reading.proofs.Agrees.{read-well}
 use Rattle.proved_reading.proofs.HandedOut.{handed-out-ok}
-use Rattle.proved_demands.specs.Demands.{canonOf, CanonFits}
+use Rattle.proved_demands.specs.Demands.{canonOf}
 use Rattle.proved_demands.proofs.Canonical.{texts-equal, reads-back}
 use Rattle.read_tags.specs.Tagged.{tagAt, readTagged}
-use Rattle.read_tags.specs.declared.Tags.{Tags}
 use Rattle.read_tags.specs.declared.Tags.the-variants.{Any, WellFormed}
 use Rattle.proved_tags.specs.Rules.{LangAllowed}
-use Rattle.proved_tags.specs.Strictly.{strictSet, ReadStrictly, AnyIsOrdinary, Ordinary, StrictIsOrdinary, StrictRefused, StrictPlaces, StrictFits, StrictTextsEqual, StrictReadsBack, BackStrictly, CanonBackStrictly, StrictBackStrictly, MergePasses, StrictMergePasses}
+use Rattle.proved_tags.specs.Strictly.{strictSet, ReadStrictly, AnyIsOrdinary, StrictIsOrdinary, StrictRefused, StrictPlaces, StrictFits, StrictTextsEqual, StrictReadsBack, CanonBackStrictly, StrictBackStrictly, MergePasses, StrictMergePasses}
 use Rattle.proved_tags.proofs.Langs.{passes-allowed, allowed-passes}
 use Rattle.proved_tags.proofs.Rules.{strict-passes, reads-tag, unread-tag}
 

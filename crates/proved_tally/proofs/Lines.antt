@@ -26,7 +26,7 @@ use Rattle.sheet_verdicts.specs.Verdicts.{printable, blockVerdict, verdictAt}
 use Rattle.sheet_report.specs.Report.{blockWord, refusedWord, reportLine, refusedLine, canonLine, lineBy, blockLine}
 use Rattle.proved_sheets.specs.Report.{meantBy}
 use Rattle.proved_valves.proofs.Numbers.{decimal-apart}
-use Rattle.proved_tally.specs.Lines.{LineTells, VerdictLines}
+use Rattle.proved_tally.specs.Lines.{VerdictLines}
 
 -- ---- the last field of a line, and its word
 

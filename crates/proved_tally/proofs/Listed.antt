@@ -1,9 +1,9 @@
 -- The counts of a block's set are those of what it lists.
 -- Assumes nothing.
-use mathlib.Core.Path.{_≡_, refl, sym, _∙_, ap}
+use mathlib.Core.Path.{_≡_, refl, sym, _∙_}
 use mathlib.Core.Bool.{Bool, true, false, cond, _&&_}
-use mathlib.Core.List.{List, [], _∷_, _++_, map}
-use Prim.Native.Nat.{ℕ, zero, suc, _+_, _-_, _≤_, zero-le}
+use mathlib.Core.List.{List, [], _∷_, map}
+use Prim.Native.Nat.{ℕ, _-_, _≤_, zero-le}
 use native.Mathlib.Omega.{arith}
 use lib.ListN.{length, take, drop, length-append, length-map, length-take, length-drop, replicate}
 use lib.Seq.{length-take-le}
@@ -17,7 +17,6 @@ use Rattle.base_refusals.specs.declared.Outcome.the-variants.{Passed, Refused}
 use Rattle.text_checks.specs.Check.{checkOf, isText}
 use Rattle.text_checks.proofs.Texts.{passed}
 use Rattle.text_lines.specs.Lines.{lineAt, ranges}
-use Rattle.block_grammar.specs.Meaning.{Entry}
 use Rattle.block_trimmed_line.specs.Fronts.{frontOf, beginsIndented}
 use Rattle.proved_grammar.specs.Meaning.{distinct}
 use Rattle.set_table.specs.Types.{Texts, emptySet, maxClasses, maxKeys, zeroValue, zeroRow}
@@ -31,7 +30,7 @@ use Rattle.set_wellformed.proofs.Shape.{shaped}
 use Rattle.read_blocks.specs.Blocks.{Found, nothing, textsIn, filledFound, blockOf, found}
 use Rattle.read_lengths.specs.Lengths.{flushLeft}
 use Rattle.sheet_blocks.specs.Sheets.{Try, triesFrom}
-use Rattle.sheet_tally.specs.Counts.{triesBy, triesIn, classesAt, keysAt}
+use Rattle.sheet_tally.specs.Counts.{triesBy, triesIn}
 use Rattle.proved_sets.specs.Formed.{wf, entryOk}
 use Rattle.proved_sets.specs.HandedOut.{Settled}
 use Rattle.proved_sets.specs.Limits.{classCount, keyCount}

@@ -1,15 +1,15 @@
 -- The measuring runs of a sheet don't overlap, so they join no line twice.
 -- Assumes nothing.
-use mathlib.Core.Path.{_≡_, refl, sym, _∙_, ap}
+use mathlib.Core.Path.{_≡_, refl, _∙_, ap}
 use mathlib.Core.Bool.{Bool, true, false, cond, not, _&&_, _||_}
 use mathlib.Core.List.{List, [], _∷_, map}
 use Prim.Native.Nat.{ℕ, zero, suc, _+_, _-_, _<_, _≤_, zero-le}
 use native.Mathlib.Omega.{arith}
-use borrow.Author.Tests.{ltb-true, ltb-false, ne-eqb, leb-true}
-use lib.Dec.{eqb, ltb, leb}
+use borrow.Author.Tests.{ltb-true, ltb-false, ne-eqb}
+use lib.Dec.{eqb, ltb}
 use lib.ListN.{length, take, drop, length-map, length-take}
 use lib.Seq.{slice}
-use Rattle.base_lists.specs.Lists.{all, firstIs}
+use Rattle.base_lists.specs.Lists.{all}
 use Rattle.base_lists.proofs.More.{contra}
 use Rattle.base_lists.proofs.Scan.{both}
 use Rattle.base_bytes.specs.Bytes.{isIndent}
@@ -18,7 +18,7 @@ use Rattle.base_refusals.specs.declared.Refusal.the-variants.{NothingThere, NoR
 use Rattle.base_refusals.specs.declared.Outcome.{Outcome}
 use Rattle.base_refusals.specs.declared.Outcome.the-variants.{Passed, Refused}
 use Rattle.text_checks.specs.Check.{checkOf}
-use Rattle.text_lines.specs.Lines.{onto, isDropped, lines, lineFrom, lineAt, ranges}
+use Rattle.text_lines.specs.Lines.{lines, lineFrom, lineAt, ranges}
 use Rattle.text_lines.specs.Trim.{trim, isBlankLine}
 use Rattle.text_lines.proofs.Lines.{line-at, next-beyond}
 use Rattle.text_tabs.specs.Columns.{columnAfter, indentFrom, capped}

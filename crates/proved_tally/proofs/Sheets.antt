@@ -5,13 +5,12 @@ use mathlib.Core.Bool.{Bool, true, false, cond, _||_}
 use mathlib.Core.List.{List, [], _∷_}
 use Prim.Native.Nat.{ℕ, zero, suc, _+_, _-_, _≤_, _<_}
 use native.Mathlib.Omega.{arith}
-use borrow.Author.Tests.{ltb-false, eqb-true}
+use borrow.Author.Tests.{eqb-true}
 use lib.Dec.{eqb, ltb}
 use lib.ListN.{length}
 use Rattle.base_lists.specs.Lists.{isIn}
 use Rattle.base_lists.proofs.More.{contra}
 use Rattle.base_refusals.specs.Numbers.{maxText, numberOf, outcomeNo}
-use Rattle.base_refusals.specs.declared.Refusal.{Refusal}
 use Rattle.base_refusals.specs.declared.Refusal.the-variants.{CanonTooLong}
 use Rattle.base_refusals.specs.declared.Outcome.{Outcome}
 use Rattle.base_refusals.specs.declared.Outcome.the-variants.{Passed, Refused}
@@ -28,14 +27,13 @@ use Rattle.read_lengths.specs.Lengths.{flushLeft}
 use Rattle.sheet_blocks.specs.Sheets.{Try, triesFrom, isBlock, onlyBlocks, blocksOf}
 use Rattle.sheet_blocks.proofs.Tries.{some-lines, prose, flush}
 use Rattle.sheet_verdicts.specs.Verdicts.{printable, blockVerdict, verdictAt}
-use Rattle.sheet_totals.specs.Totals.{larger}
-use Rattle.sheet_totals.proofs.Sums.{larger-ge-left, larger-comm}
+use Rattle.sheet_totals.proofs.Sums.{larger-ge-left}
 use Rattle.sheet_tally.specs.Lists.{greatestOf, keep}
 use Rattle.sheet_tally.specs.Counts.{triesBy, triesIn, blocksBy, printed, isWrapped}
 use Rattle.proved_sheets.specs.Order.{Each}
 use Rattle.proved_sheets.specs.Blocks.{isLimited}
 use Rattle.proved_sheets.proofs.Answers.{block-limited}
-use Rattle.proved_tally.specs.Sheets.{MayOpenTells, AllBlocks, WrappedPrinted, LongestTells, LongestSome}
+use Rattle.proved_tally.specs.Sheets.{MayOpenTells, AllBlocks, WrappedPrinted, LongestSome}
 
 -- ---- what is kept of a list
 

@@ -2,7 +2,7 @@
 use mathlib.Core.Path.{_≡_}
 use mathlib.Core.List.{List}
 use Prim.Native.Nat.{ℕ}
-use Rattle.set_table.specs.Rows.{listedOf, meaningOf}
+use Rattle.set_table.specs.Rows.{listedOf}
 use Rattle.block_grammar.specs.Meaning.{Entry}
 use Rattle.read_blocks.specs.Blocks.{textsIn, filledFound}
 use Rattle.sheet_blocks.specs.Sheets.{Try}

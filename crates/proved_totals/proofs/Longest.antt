@@ -1,9 +1,9 @@
 -- The longest block of a sheet has few lines, so `longest` always fits; and where a sheet that is fed is refused by 17, one of the twelve sums is too large.
 -- Assumes nothing.
-use mathlib.Core.Path.{_≡_, refl, sym, _∙_, ap}
+use mathlib.Core.Path.{_≡_, refl, sym}
 use mathlib.Core.Bool.{Bool, true, false, cond, _||_}
 use mathlib.Core.List.{List, [], _∷_, map}
-use Prim.Native.Nat.{ℕ, zero, suc, _+_, _-_, _<_, _≤_, zero-le}
+use Prim.Native.Nat.{ℕ, zero, suc, _-_, _<_, _≤_, zero-le}
 use native.Mathlib.Omega.{arith}
 use borrow.Author.Tests.{ltb-true, ltb-false, eqb-true, eqb-false}
 use lib.Dec.{eqb, ltb}
@@ -16,14 +16,14 @@ use Rattle.text_checks.specs.Check.{checkOf}
 use Rattle.text_checks.proofs.Texts.{text-short, passed}
 use Rattle.text_lines.specs.Lines.{lines, ranges}
 use Rattle.text_lines.specs.declared.Range.{Range}
-use Rattle.run_lines.specs.Runs.{asIs, runOf, runAt}
+use Rattle.run_lines.specs.Runs.{asIs, runAt}
 use Rattle.run_lines.proofs.Bounds.{lines-le}
 use Rattle.read_blocks.specs.Blocks.{Found, linesOf}
 use Rattle.read_lengths.specs.Lengths.{flushLeft}
 use Rattle.sheet_blocks.specs.Sheets.{Try, triesFrom, isBlock, onlyBlocks}
 use Rattle.sheet_blocks.proofs.Tries.{found-by, run-found-by, flush-by}
 use Rattle.sheet_verdicts.specs.Verdicts.{verdictAt}
-use Rattle.sheet_totals.specs.Totals.{totalPlaces, longestPlace, maxTotal, larger, addedAt, numbersAdded, overflows, TooLarge}
+use Rattle.sheet_totals.specs.Totals.{totalPlaces, longestPlace, maxTotal, addedAt, numbersAdded, overflows, TooLarge}
 use Rattle.sheet_totals.proofs.Adding.{at-longest, at-other, larger-le}
 use Rattle.sheet_totals.proofs.Sums.{added-at, added-long, split-or}
 use Rattle.sheet_tally.specs.Lists.{greatestOf, keep}

@@ -1,11 +1,10 @@
 -- Reports over two lists of sheets add up to the report over both; and sheets fed one after the other give the report over all.
 -- Assumes nothing.
 use mathlib.Core.Path.{_≡_, refl, sym, _∙_, ap}
-use mathlib.Core.Bool.{Bool, true, false, cond, _&&_}
-use mathlib.Core.List.{List, [], _∷_, _++_}
-use Prim.Native.Nat.{ℕ, zero, suc, _≤_}
-use native.Mathlib.Omega.{arith}
-use borrow.Author.Tests.{le-ltb, ltb-false}
+use mathlib.Core.Bool.{Bool, true, false, _&&_}
+use mathlib.Core.List.{List, [], _∷_}
+use Prim.Native.Nat.{ℕ, _≤_}
+use borrow.Author.Tests.{le-ltb}
 use lib.Dec.{eqb, ltb}
 use lib.ListN.{length, getD, length-append}
 use Rattle.base_lists.proofs.More.{contra}
@@ -18,11 +17,11 @@ use Rattle.text_checks.specs.Check.{isText}
 use Rattle.sheet_totals.specs.Totals.{totalPlaces, longestPlace, maxTotal, addedAt, addedFrom, numbersAdded, overflows, emptyTotals, addTotals, IsReport, TooLarge}
 use Rattle.sheet_totals.specs.declared.Totals.{Totals}
 use Rattle.sheet_totals.specs.declared.Added.{Added}
-use Rattle.sheet_totals.proofs.Sums.{added-comm, added-assoc, added-empty, added-long, fits-without, add-fits, add-full, full-fits, full-is, split-or}
+use Rattle.sheet_totals.proofs.Sums.{added-comm, added-assoc, added-empty, added-long, fits-without, add-fits, add-full, full-fits, full-is}
 use Rattle.sheet_tally.specs.Lists.{total, greatestOf, keep}
 use Rattle.sheet_tally.specs.Counts.{numbersOf, totalsOf}
 use Rattle.sheet_tally.specs.Feeds.{lacksJoin, feedOf}
-use Rattle.proved_totals.specs.Sheets.{ListsAddUp, ReportsAddUp, onPassed, fedFrom, FedGivesAll, FedFitsExactly, FedTooLargeExactly}
+use Rattle.proved_totals.specs.Sheets.{ListsAddUp, ReportsAddUp, fedFrom, FedGivesAll, FedFitsExactly, FedTooLargeExactly}
 use Rattle.proved_totals.proofs.Longest.{longest-fits, under-at, one-too-large, too-large-over}
 use Rattle.proved_totals.proofs.Lists.{total-append, greatest-append, kept-append}
 

@@ -4,10 +4,8 @@ use mathlib.Core.Path.{_≡_, refl, sym, _∙_, ap}
 use mathlib.Core.Bool.{Bool, true, false}
 use mathlib.Core.List.{List}
 use Prim.Native.Nat.{ℕ}
-use Rattle.base_refusals.specs.declared.Refusal.the-variants.{TotalTooLarge}
-use Rattle.base_refusals.specs.declared.Outcome.the-variants.{Passed, Refused}
-use Rattle.sheet_totals.specs.Totals.{numbersAdded, overflows, addTotals, IsReport, TooLarge}
-use Rattle.sheet_totals.specs.declared.Totals.{Totals}
+use Rattle.base_refusals.specs.declared.Outcome.the-variants.{Passed}
+use Rattle.sheet_totals.specs.Totals.{numbersAdded, overflows, addTotals, IsReport}
 use Rattle.sheet_totals.specs.declared.Added.{Added}
 use Rattle.sheet_totals.proofs.Sums.{added-comm, added-long, add-fits, add-full, fits-is, add-assoc, add-empty-right, full-too-large, too-large-full}
 use Rattle.proved_totals.specs.Sums.{TooLargeExactly, AddedIsReport, AddedEitherWay, AddedInGroups, EmptyAddsNone}

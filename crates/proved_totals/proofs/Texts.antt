@@ -1,10 +1,10 @@
 -- What is read is exactly what is written.
 -- Assumes nothing.
 use mathlib.Core.Path.{_≡_, refl, sym, _∙_, ap}
-use mathlib.Core.Bool.{Bool, true, false, cond, _||_}
+use mathlib.Core.Bool.{Bool, true, false, cond}
 use mathlib.Core.List.{List, [], _∷_, _++_, append-assoc, append-nil}
-use Prim.Native.Nat.{ℕ, zero, suc, _+_, _*_, _/_, _%_, _^_, _≤_, _<_}
-use native.Mathlib.Nat.{div-add-mod, mod-lt}
+use Prim.Native.Nat.{ℕ, zero, suc, _+_, _*_, _/_, _%_, _≤_}
+use native.Mathlib.Nat.{div-add-mod}
 use native.Mathlib.Omega.{arith}
 use borrow.Author.Tests.{ltb-true, ltb-false, le-ltb, eqb-true, eqb-false, eq-eqb, ne-eqb}
 use lib.Dec.{eqb, ltb}
@@ -19,9 +19,9 @@ use Rattle.text_digits.proofs.Decimals.{decimal-le}
 use Rattle.proved_valves.specs.Numbers.{IsNumber}
 use Rattle.text_numbers.proofs.Numbers.{decimal-one, decimal-more}
 use Rattle.proved_valves.proofs.Numbers.{read-is, is-read}
-use Rattle.sheet_totals.specs.Totals.{totalPlaces, maxTotal, overflows, IsReport}
+use Rattle.sheet_totals.specs.Totals.{totalPlaces, maxTotal, overflows}
 use Rattle.sheet_totals.proofs.Sums.{split-or}
-use Rattle.sheet_numbers.specs.Text.{totalsText, maxReport, IsTotalsText}
+use Rattle.sheet_numbers.specs.Text.{IsTotalsText}
 use Rattle.sheet_numbers.specs.Computed.{namesRow, LfSplit, ontoLine, atLf, Numbers, numberBefore, onNumber, onPart, numbersAlong, numbersRead}
 use Rattle.sheet_numbers.specs.Inner.{numberEnd}
 use Rattle.sheet_numbers.proofs.Along.{atTab, filled, tabsIn, row-filled, row-long, row-tabs}

@@ -1,10 +1,10 @@
 -- The arms of the loop: what each code of a move says, and how the walk goes on with what it puts.
 -- Assumes nothing.
-use mathlib.Core.Path.{_≡_, refl, sym, _∙_, ap, subst}
+use mathlib.Core.Path.{_≡_, refl, sym, _∙_, subst}
 use mathlib.Core.Bool.{Bool, true, false}
 use mathlib.Core.List.{List, [], _∷_}
-use Prim.Native.Nat.{ℕ, _<_, _≤_}
-use lib.ListN.{length, take}
+use Prim.Native.Nat.{ℕ, _≤_}
+use lib.ListN.{take}
 use types.Run.{OneOf}
 use denote.Enum.Declared
 use Rattle.base_lists.proofs.More.{contra}
@@ -22,7 +22,7 @@ use Rattle.read_once.specs.declared.Code as codes
 use Rattle.read_once.specs.declared.Code.the-variants as code
 use Rattle.read_once.specs.declared.Span.{Span}
 use Rattle.read_once.specs.declared.Moved.{Moved}
-use Rattle.read_once.specs.Inner.{valueIn, restAt, nameBy, putBy, putOf, isPut, langSaid, langBy, spanBytes, spanAllowed, Closing, Wrongs, Putting, MoveTells, Moves, Walks}
+use Rattle.read_once.specs.Inner.{valueIn, restAt, nameBy, putBy, putOf, isPut, langBy, spanBytes, spanAllowed, Closing, Wrongs, Putting, MoveTells, Moves, Walks}
 use Rattle.read_once.proofs.Code
 use Rattle.read_once.proofs.Codes.{by-code}
 use Rattle.read_once.proofs.Loop as loop

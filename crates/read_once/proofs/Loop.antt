@@ -1,15 +1,14 @@
 -- The loop of the walk: how it begins, how a move carries it on, and what it comes to.
 -- Assumes nothing.
 use mathlib.Core.Path.{_≡_, refl, sym, _∙_, ap}
-use mathlib.Core.Bool.{Bool, true, false, cond, _&&_}
-use mathlib.Core.List.{List, [], _∷_, _++_, map, flatMap}
+use mathlib.Core.Bool.{Bool, true, false, cond}
+use mathlib.Core.List.{List, [], _∷_, map, flatMap}
 use Prim.Native.Nat.{ℕ, suc, _+_, _-_, _<_, _≤_}
 use native.Mathlib.Omega.{arith}
 use native.Mathlib.Numerals.{add-one}
-use lib.Dec.{eqb, ltb}
+use lib.Dec.{ltb}
 use lib.ListN.{length, take, drop}
 use Rattle.base_lists.specs.Lists.{all, same}
-use Rattle.base_lists.proofs.More.{contra}
 use Rattle.base_bytes.specs.declared.Mode.{Mode}
 use Rattle.base_refusals.specs.Numbers.{numberOf, outcomeNo}
 use Rattle.base_refusals.specs.Orders.{inOrder}
@@ -34,20 +33,20 @@ use Rattle.set_table.specs.Rows.{Rows, Put, noRows, withPut, withPuts, tableOf}
 use Rattle.set_table.specs.Puts.{valueOf, pieceOf, byName, valued, putsOf, putsIn}
 use Rattle.set_table.specs.Filled.{refusing, limited}
 use Rattle.set_fill.specs.Fill.{filledBy, filledOf}
-use Rattle.set_fill.specs.Inner.{Rest, ofReading, before, tokensFrom, filledFrom}
-use Rattle.read_brace.specs.Brace.{payloadOf, finished, readTo, refusingRead}
+use Rattle.set_fill.specs.Inner.{Rest, ofReading, before, filledFrom}
+use Rattle.read_brace.specs.Brace.{payloadOf, finished, refusingRead}
 use Rattle.read_brace.specs.declared.Answer.{Answer}
 use Rattle.read_brace.specs.declared.Answer.the-variants.{Refused, Unread, Next}
 use Rattle.read_brace.specs.declared.Read.{Read}
-use Rattle.read_tags.specs.Tagged.{langOf, unlessNew, langAfter, tagPasses, passedBy, tagTo}
-use Rattle.read_tags.specs.Inner.{passesWith, passesItems, passesRest, passesFrom}
+use Rattle.read_tags.specs.Tagged.{langOf, unlessNew, langAfter, tagPasses, passedBy}
+use Rattle.read_tags.specs.Inner.{passesWith, passesItems, passesRest}
 use Rattle.read_tags.specs.declared.Tags.{Tags}
 use Rattle.read_tags.specs.declared.Tags.the-variants.{Any, WellFormed}
 use Rattle.read_once.specs.declared.Kind as kinds
 use Rattle.read_once.specs.declared.Kind.the-variants as kind
 use Rattle.read_once.specs.declared.Span.{Span}
 use Rattle.read_once.specs.declared.Moved.{Moved}
-use Rattle.read_once.specs.Inner.{Stands, restAt, putOf, langSaid, spanAllowed, asked, placeFrom, Closing, Wrongs, Putting, Fits, wholeFrom, Still, Walks, unreadTo, verdictOf, isNext, noSet, onceTo}
+use Rattle.read_once.specs.Inner.{restAt, putOf, langSaid, spanAllowed, asked, Closing, Wrongs, Putting, Fits, wholeFrom, Walks, unreadTo, verdictOf, isNext, noSet, onceTo}
 use Rattle.read_once.proofs.Nexts.{no-more}
 use Rattle.read_once.proofs.Steps.{place-start}
 use Rattle.read_once.proofs.Tables.{fits-none, fits-limited}

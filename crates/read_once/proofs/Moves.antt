@@ -1,12 +1,12 @@
 -- From what was seen to what is put next: for every place that the close may have, the token is one of the payload up to there.
 -- Assumes nothing.
 use mathlib.Core.Path.{_≡_, refl, sym, _∙_, ap}
-use mathlib.Core.Bool.{Bool, true, false, cond}
-use mathlib.Core.List.{List, [], _∷_, _++_}
+use mathlib.Core.Bool.{true, false, cond}
+use mathlib.Core.List.{List, [], _∷_}
 use Prim.Native.Nat.{ℕ, zero, suc, _+_, _-_, _<_, _≤_}
 use native.Mathlib.Omega.{arith}
 use lib.ListN.{length, getD, take, drop}
-use lib.Seq.{slice, slice-empty, length-take-le, take-nil}
+use lib.Seq.{slice, slice-empty, length-take-le}
 use Rattle.base_lists.specs.Lists.{run, same}
 use Rattle.base_lists.proofs.More.{contra}
 use Rattle.base_lists.proofs.Parts.{part-end}
@@ -16,8 +16,7 @@ use Rattle.block_grammar.specs.Grammar.{Item}
 use Rattle.block_grammar.specs.Computed.{First}
 use Rattle.block_grammar.specs.ComputedClose.{findClose}
 use Rattle.block_grammar.specs.Meaning.{langName}
-use Rattle.block_grammar.specs.declared.Place.{Place}
-use Rattle.block_grammar.specs.declared.Place.the-variants.{Nothing, At}
+use Rattle.block_grammar.specs.declared.Place.the-variants.{At}
 use Rattle.block_grammar.proofs.Close.{found}
 use Rattle.block_tokens.specs.declared.Token.{Token}
 use Rattle.block_tokens.specs.declared.Token.the-variants as token
@@ -36,7 +35,7 @@ use Rattle.read_once.specs.declared.Kind.the-variants as kind
 use Rattle.read_once.specs.declared.Code as codes
 use Rattle.read_once.specs.declared.Code.the-variants as code
 use Rattle.read_once.specs.declared.Moved.{Moved}
-use Rattle.read_once.specs.Inner.{isGap, tokenSeen, Found, namedPuts, Stands, restAt, nameBy, putOf, isPut, spanBytes, langBy, stopMove, putMove, Puts, Putting, MoveTells, Moves}
+use Rattle.read_once.specs.Inner.{isGap, tokenSeen, Found, namedPuts, Stands, restAt, putOf, isPut, spanBytes, langBy, stopMove, putMove, Puts, Putting, MoveTells, Moves}
 use Rattle.read_once.proofs.Gaps as gaps
 use Rattle.read_once.proofs.Steps as steps
 use Rattle.read_once.proofs.Values.{none-left}

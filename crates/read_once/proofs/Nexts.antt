@@ -1,23 +1,21 @@
 -- What is put next, where pieces of a class value may come first.
 -- Assumes nothing.
-use mathlib.Core.Path.{_≡_, refl, sym, _∙_, ap}
-use mathlib.Core.Bool.{Bool, true, false}
-use mathlib.Core.List.{List, [], _∷_}
-use Prim.Native.Nat.{ℕ, _+_, _<_, _≤_}
+use mathlib.Core.Path.{_≡_, refl, _∙_}
+use mathlib.Core.List.{List, []}
+use Prim.Native.Nat.{ℕ, _+_}
 use native.Mathlib.Omega.{arith}
-use lib.ListN.{length, take}
+use lib.ListN.{take}
 use lib.Seq.{slice}
 use Rattle.base_lists.specs.Lists.{run}
 use Rattle.base_bytes.specs.declared.Mode.{Mode}
 use Rattle.base_bytes.specs.Bytes.{isSpace}
-use Rattle.set_fill.specs.Inner.{Rest, before, tokensFrom}
+use Rattle.set_fill.specs.Inner.{tokensFrom}
 use Rattle.set_fill.proofs.Walk.{before-none}
-use Rattle.read_tags.specs.Inner.{passesWith}
 use Rattle.read_once.specs.declared.Kind as kinds
 use Rattle.read_once.specs.declared.Code as codes
 use Rattle.read_once.specs.declared.Code.the-variants as code
 use Rattle.read_once.specs.declared.Moved.{Moved}
-use Rattle.read_once.specs.Inner.{piecesIn, Stands, restAt, putOf, pieceMove, Closing, Wrongs, Putting, MoveTells, Moves}
+use Rattle.read_once.specs.Inner.{piecesIn, Stands, restAt, pieceMove, Putting, MoveTells, Moves}
 use Rattle.read_once.proofs.Moves.{moves-put, before-more}
 use Rattle.read_once.proofs.Values as values
 

@@ -1,14 +1,13 @@
 -- The loop that looks for the closing quote: it is the search for the close in quotes, and finds where the quote shuts.
 -- Assumes nothing.
-use mathlib.Core.Path.{_≡_, refl, sym, _∙_, ap}
-use mathlib.Core.Bool.{Bool, true, false}
+use mathlib.Core.Path.{_≡_, refl, sym, _∙_}
+use mathlib.Core.Bool.{true, false}
 use mathlib.Core.List.{List}
 use Prim.Native.Nat.{ℕ, _+_}
-use lib.ListN.{length, getD, drop}
+use lib.ListN.{getD, drop}
 use Rattle.base_lists.proofs.More.{contra}
 use Rattle.base_bytes.specs.Bytes.{isQuote}
 use Rattle.block_grammar.specs.Computed.{shutOf}
-use Rattle.block_grammar.specs.declared.Place.{Place}
 use Rattle.block_grammar.specs.declared.Place.the-variants.{Nothing, At}
 use Rattle.block_tokens.specs.Inner.{shutAt}
 use Rattle.block_tokens.proofs.Quotes as quotes

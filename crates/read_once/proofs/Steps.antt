@@ -1,8 +1,8 @@
 -- A token of a payload s: what it puts, what it says of `lang`, and how the place goes on behind it.
 -- Assumes nothing.
 use mathlib.Core.Path.{_≡_, refl, sym, _∙_, ap}
-use mathlib.Core.Bool.{Bool, true, false, cond}
-use mathlib.Core.List.{List, [], _∷_, _++_, flatMap}
+use mathlib.Core.Bool.{Bool, true, false}
+use mathlib.Core.List.{List, [], _∷_, flatMap}
 use Prim.Native.Nat.{ℕ, suc, _+_, _<_, _≤_}
 use native.Mathlib.Nat.{add-zero}
 use native.Mathlib.Omega.{arith}
@@ -22,7 +22,6 @@ use Rattle.block_tokens.specs.declared.Token.{Token}
 use Rattle.block_tokens.specs.declared.Token.the-variants as token
 use Rattle.block_tokens.specs.Shown.{shown, shownItem, tokenAt, tokenEnd}
 use Rattle.block_tokens.proofs.Steps as steps
-use Rattle.set_table.specs.Rows.{Put}
 use Rattle.set_table.specs.Puts.{putsOf, putsIn}
 use Rattle.set_fill.specs.Inner.{Rest, ofReading, before, tokensFrom}
 use Rattle.read_tags.specs.Tagged.{langOf}

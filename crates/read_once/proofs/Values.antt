@@ -1,25 +1,24 @@
 -- What a value puts: the pieces of a class value, and a value by its name.
 -- Assumes nothing.
-use mathlib.Core.Path.{_≡_, refl, sym, _∙_, ap}
-use mathlib.Core.Bool.{Bool, true, false, cond}
-use mathlib.Core.List.{List, [], _∷_, map}
-use Prim.Native.Nat.{ℕ, suc, _+_, _-_, _<_, _≤_}
+use mathlib.Core.Path.{_≡_, refl}
+use mathlib.Core.Bool.{true, false, cond}
+use mathlib.Core.List.{List, [], _∷_}
+use Prim.Native.Nat.{ℕ, _+_, _-_, _<_, _≤_}
 use native.Mathlib.Omega.{arith}
 use lib.ListN.{length, take, drop, length-take, length-drop}
 use lib.Seq.{slice, slice-empty, length-take-le}
 use Rattle.base_lists.specs.Lists.{run, same}
 use Rattle.base_lists.proofs.Scan.{run-le}
 use Rattle.base_lists.proofs.Same.{same-true}
-use Rattle.base_lists.proofs.Parts.{slice-part, part-end}
+use Rattle.base_lists.proofs.Parts.{slice-part}
 use Rattle.base_bytes.specs.Bytes.{isSpace}
-use Rattle.block_grammar.specs.Meaning.{idName, className, langName, pieceRanges}
-use Rattle.set_table.specs.Rows.{Put}
-use Rattle.set_table.specs.Puts.{valueOf, pieceOf, byName}
+use Rattle.block_grammar.specs.Meaning.{idName, className, langName}
+use Rattle.set_table.specs.Puts.{byName}
 use Rattle.set_fill.proofs.Pieces as pieces
 use Rattle.read_once.specs.declared.Kind as kinds
 use Rattle.read_once.specs.declared.Code.the-variants as code
 use Rattle.read_once.specs.declared.Moved.{Moved}
-use Rattle.read_once.specs.Inner.{kindText, valueIn, piecesIn, classesIn, namedPuts, Stands, spanBytes, putOf, putMove, pieceMove, Puts}
+use Rattle.read_once.specs.Inner.{piecesIn, classesIn, namedPuts, Stands, spanBytes, putOf, putMove, pieceMove, Puts}
 
 -- no pieces come before the tokens
 pub none-left : (t : List ℕ) (k : kinds.Kind) (n : ℕ) → piecesIn t k n n ≡ []

@@ -1,14 +1,14 @@
 -- A name and a value laid one behind the other.
 -- Assumes nothing.
 use mathlib.Core.Path.{_≡_, refl, sym, _∙_, ap}
-use mathlib.Core.Bool.{Bool, true, false, cond}
+use mathlib.Core.Bool.{Bool, true, false}
 use mathlib.Core.List.{List, [], _∷_, _++_}
 use Prim.Native.Nat.{ℕ, _+_, _≤_, _<_}
 use native.Mathlib.Nat.{zero-add}
 use native.Mathlib.Omega.{arith}
 use borrow.Author.Tests.{le-leb, lt-leb, leb-true}
 use lib.Dec.{leb}
-use lib.ListN.{length, drop, length-append}
+use lib.ListN.{length, length-append}
 use lib.Seq.{sets, sets-eq}
 use Rattle.base_lists.specs.Lists.{over}
 use Rattle.base_lists.proofs.Sets.{sets-append}
@@ -17,8 +17,8 @@ use Rattle.base_refusals.specs.declared.Refusal.{Refusal}
 use Rattle.base_refusals.specs.declared.Refusal.the-variants.{CanonTooLong}
 use Rattle.base_refusals.specs.declared.Outcome.{Outcome}
 use Rattle.base_refusals.specs.declared.Outcome.the-variants.{Passed, Refused}
-use Rattle.text_checks.specs.Outcomes.{orLeft, unless, orElse}
-use Rattle.text_escapes.specs.Unescape.{unescape, fits, contentOf}
+use Rattle.text_checks.specs.Outcomes.{unless, orElse}
+use Rattle.text_escapes.specs.Unescape.{fits, contentOf}
 use Rattle.block_grammar.specs.Meaning.{langName}
 use Rattle.set_canon.specs.Canon.{Pair}
 use Rattle.set_table.specs.Types.{Texts, rangeBytes, nameBytes, valueBytes}

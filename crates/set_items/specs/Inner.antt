@@ -2,10 +2,10 @@
 use mathlib.Core.Bool.{Bool, cond}
 use mathlib.Core.List.{List, [], _∷_, map, flatMap}
 use Prim.Native.Nat.{ℕ}
-use lib.ListN.{length, getD, take}
+use lib.ListN.{getD, take}
 use Rattle.base_lists.specs.Lists.{same}
 use Rattle.set_table.specs.Types.{Texts, zeroRow}
-use Rattle.set_table.specs.Rows.{slotEntry, rowsIn, slotIn}
+use Rattle.set_table.specs.Rows.{slotEntry, rowsIn}
 use Rattle.set_table.specs.declared.Slot as slots
 use Rattle.set_table.specs.declared.Slot.the-variants as slot
 use Rattle.set_table.specs.declared.Attrs.{Attrs}

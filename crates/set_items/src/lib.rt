@@ -16,7 +16,7 @@ ghost use lib.ListN.{length, getD, take};
 ghost use lib.Seq.{sets};
 ghost use Rattle.base_refusals.specs.declared.Refusal.the-variants.{CanonTooLong};
 ghost use Rattle.text_checks.specs.Outcomes.{unless, orElse};
-ghost use Rattle.set_canon.specs.Canon.{Pair, pairs};
+ghost use Rattle.set_canon.specs.Canon.{pairs};
 ghost use Rattle.set_table.specs.Types.{two, zeroRow, nameBytes, valueBytes, maxClasses};
 ghost use Rattle.set_table.specs.Rows.{rowsIn, meaningOf};
 ghost use Rattle.set_marks.specs.Marks.{bytesIn};

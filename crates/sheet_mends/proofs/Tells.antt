@@ -13,7 +13,6 @@ use lib.Seq.{slice, sets, length-slice, length-sets}
 use Rattle.base_lists.proofs.Parts.{drop-past, seam}
 use Rattle.base_refusals.specs.Numbers.{maxText}
 use Rattle.base_refusals.specs.declared.Refusal.{Refusal}
-use Rattle.base_refusals.specs.declared.Refusal.the-variants.{NotAnIndex}
 use Rattle.base_refusals.specs.declared.Outcome as outcomes
 use Rattle.base_refusals.specs.declared.Outcome.the-variants as outcome
 use Rattle.set_marks.specs.Marks.{bytesIn, rawBytes, isQuoted}
@@ -26,7 +25,7 @@ use Rattle.sheet_blocks.proofs.Goes.{goes-on}
 use Rattle.sheet_verdicts.specs.Verdicts.{blockVerdict}
 use Rattle.sheet_records.specs.Records.{RecordId, Record, InBounds, AllIn, numbersText, recordLine, rowAt, rowNumbers}
 use Rattle.sheet_records.specs.Listed.{listedIf, recordsOf}
-use Rattle.sheet_records.specs.Computed.{recordAt, idIn, recordIn, isHeaded, headOf}
+use Rattle.sheet_records.specs.Computed.{recordAt, idIn, recordIn}
 use Rattle.sheet_records.specs.Writing.{rawId, lineFits, lineOver, tableSize, rowOver}
 use Rattle.sheet_records.specs.Inner.{lineSize, endText}
 use Rattle.sheet_records.specs.declared.IndexRow.{IndexRow}

@@ -1,6 +1,6 @@
 -- What the code's own functions promise. No definition of a public promise rests on these.
 use Prim.Native.Nat.{ℕ, _+_, _≤_}
-use mathlib.Core.Bool.{Bool, _&&_}
+use mathlib.Core.Bool.{_&&_}
 use mathlib.Core.List.{List, foldl}
 use lib.ListN.{length}
 use Rattle.sheet_records.specs.Records.{Record, recordLine, rowAt}

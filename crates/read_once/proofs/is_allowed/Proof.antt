@@ -1,4 +1,3 @@
-use mathlib.Core.Path.{refl}
 use Rattle.set_table.specs.Types.{rangeBytes}
 use Rattle.text_langtags.specs.Computed.{isAllowed}
 use borrow.Author.Needs.{needs}

@@ -1,9 +1,6 @@
-use mathlib.Core.Path.{sym, _∙_, ap}
+use mathlib.Core.Path.{_∙_}
 use native.Mathlib.Omega.{arith}
 use borrow.Author.Tests.{not-true, not-false}
-use Prim.Native.Nat.{suc}
-use Rattle.block_grammar.proofs.Close.{found}
-use Rattle.block_grammar.specs.declared.Place.the-variants.{At}
 use Rattle.read_once.proofs.Ends as ends
 use borrow.Author.Needs.{needs}
 use Rattle.read_once.proofs.unread.Statement.{statement}

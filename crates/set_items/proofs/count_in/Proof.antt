@@ -1,9 +1,9 @@
 use native.Mathlib.Omega.{arith}
 use Rattle.set_items.proofs.Slots as laws
-use mathlib.Core.Path.{_≡_, sym, _∙_}
+use mathlib.Core.Path.{_≡_}
 use Prim.Native.Nat.{_-_}
 use lib.ListN.{length, length-map}
-use Rattle.set_table.specs.Types.{two, maxSlots}
+use Rattle.set_table.specs.Types.{maxSlots}
 use borrow.Author.Needs.{needs}
 use Rattle.set_items.proofs.count_in.Statement.{statement}
 use Rattle.set_items.proofs.count_in.Tie as tie

@@ -1,6 +1,5 @@
 use native.Mathlib.Omega.{arith}
 use Rattle.set_items.proofs.Slots as laws
-use borrow.Author.Needs.{needs}
 use Rattle.set_items.proofs.only.Statement.{statement}
 use Rattle.set_items.proofs.only.Tie as tie
 

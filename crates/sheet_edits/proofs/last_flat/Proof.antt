@@ -1,6 +1,4 @@
 use native.Mathlib.Omega.{arith}
-use borrow.Author.Needs.{needs}
-use lib.ListN.{length}
 use Rattle.sheet_edits.proofs.Walks as laws
 use Rattle.sheet_edits.proofs.last_flat.Statement.{statement}
 use Rattle.sheet_edits.proofs.last_flat.Tie as tie
