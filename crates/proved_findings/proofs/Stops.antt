@@ -30,7 +30,7 @@ use Rattle.run_lines.specs.Runs.{asIs, start, Run, ended, runFrom, runAt}
 use Rattle.run_lines.proofs.Bounds.{took}
 use Rattle.run_stops.specs.declared.Edge.{Edge}
 use Rattle.run_stops.specs.declared.Why.the-variants as why
-use Rattle.run_stops.specs.Stops.{braceOr, edgeAfter, edgePast, edgeOf, whyBy, whyOf}
+use Rattle.run_stops.specs.Stops.{braceOr, edgeAfter, edgePast, edgeOf, whyOf}
 use Rattle.proved_findings.specs.Stops.{Reason, TrueReasons}
 
 -- what lines leave is what a run has behind them
@@ -117,20 +117,27 @@ entries so e l m b z k p =
 
 reasons : (t : List ℕ) (e : Edge) → Last t e → Reason t e (whyOf t e)
 unfolding whyOf
-reasons t e (Last.over h) = rw (le-leb (length t) (e .at) h) h
-reasons t e (Last.broken so m h p) = rw (lt-leb (length t) (e .at) h) (go (isBlankLine (lineAt t (e .at))) refl)
+reasons t e last = by (e .quote) refl
   where
-    left : isBlankLine (lineAt t (e .at)) ≡ false → e .quote ≡ Out → (b : Bool) → leb (capped (indentColumns (lineAt t (e .at)))) (e .brace) ≡ b → Reason t e (cond b why.Left why.Entries)
-    left y z true w = leb-true (capped (indentColumns (lineAt t (e .at)))) (e .brace) w
-    left y z false w = entries so e (lineAt t (e .at)) m y z w p
+    left : (so : So) → Match so e → mayJoin so (asIs (lineAt t (e .at))) ≡ false → isBlankLine (lineAt t (e .at)) ≡ false → e .quote ≡ Out
+        → (b : Bool) → leb (capped (indentColumns (lineAt t (e .at)))) (e .brace) ≡ b → Reason t e (cond b why.Left why.Entries)
+    left so m p y z true w = leb-true (capped (indentColumns (lineAt t (e .at)))) (e .brace) w
+    left so m p y z false w = entries so e (lineAt t (e .at)) m y z w p
 
-    by : isBlankLine (lineAt t (e .at)) ≡ false → (q : Quote) → e .quote ≡ q → Reason t e (whyBy q (leb (capped (indentColumns (lineAt t (e .at)))) (e .brace)))
-    by y (In k) z = ap inQuote z
-    by y Out z = left y z (leb (capped (indentColumns (lineAt t (e .at)))) (e .brace)) refl
+    unjoined : (so : So) → Match so e → mayJoin so (asIs (lineAt t (e .at))) ≡ false → e .quote ≡ Out
+        → (x : Bool) → isBlankLine (lineAt t (e .at)) ≡ x → Reason t e (cond x why.Blank (cond (leb (capped (indentColumns (lineAt t (e .at)))) (e .brace)) why.Left why.Entries))
+    unjoined so m p z true y = y
+    unjoined so m p z false y = left so m p y z (leb (capped (indentColumns (lineAt t (e .at)))) (e .brace)) refl
 
-    go : (x : Bool) → isBlankLine (lineAt t (e .at)) ≡ x → Reason t e (cond x why.Blank (whyBy (e .quote) (leb (capped (indentColumns (lineAt t (e .at)))) (e .brace))))
-    go true y = y
-    go false y = by y (e .quote) refl
+    unquoted : e .quote ≡ Out → Last t e
+        → Reason t e (cond (leb (length t) (e .at)) why.End (cond (isBlankLine (lineAt t (e .at))) why.Blank (cond (leb (capped (indentColumns (lineAt t (e .at)))) (e .brace)) why.Left why.Entries)))
+    unquoted z (Last.over h) = rw (le-leb (length t) (e .at) h) h
+    unquoted z (Last.broken so m h p) = rw (lt-leb (length t) (e .at) h) (unjoined so m p z (isBlankLine (lineAt t (e .at))) refl)
+
+    by : (q : Quote) → e .quote ≡ q
+        → Reason t e (cond (inQuote q) why.Quoted (cond (leb (length t) (e .at)) why.End (cond (isBlankLine (lineAt t (e .at))) why.Blank (cond (leb (capped (indentColumns (lineAt t (e .at)))) (e .brace)) why.Left why.Entries))))
+    by (In k) z = ap inQuote z
+    by Out z = unquoted z last
 
 match-first : (at : ℕ) → Match (start 0) (record { at = at; last = at; brace = 0; quote = Out })
 unfolding capped

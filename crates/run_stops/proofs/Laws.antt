@@ -96,28 +96,28 @@ module _ {t : List ℕ} {r : Edge} {n : ℕ} {e : Edge} (inv : Edges t r n e) wh
 
 -- ---- why a line isn't joined
 module _ (t : List ℕ) (e : Edge) where
-  pub why-end : length t ≤ e .at → why.End ≡ whyOf t e
+  pub why-quoted : {k : ℕ} → e .quote ≡ In k → why.Quoted ≡ whyOf t e
   unfolding whyOf
-  why-end h = rw (le-leb (length t) (e .at) h)
+  why-quoted z = rw z
 
-  module _ (h : e .at < length t) {l : List ℕ} (q : l ≡ lineAt t (e .at)) where
-    pub why-blank : {b : Bool} → b ≡ isBlankLine l → b ≡ true → why.Blank ≡ whyOf t e
+  module _ (z : e .quote ≡ Out) where
+    pub why-end : length t ≤ e .at → why.End ≡ whyOf t e
     unfolding whyOf
-    why-blank x y = rw (lt-leb (length t) (e .at) h, ← q, ← x, y)
+    why-end h = rw (z, le-leb (length t) (e .at) h)
 
-    module _ {b : Bool} (x : b ≡ isBlankLine l) (y : b ≡ false) where
-      pub why-quoted : {k : ℕ} → e .quote ≡ In k → why.Quoted ≡ whyOf t e
+    module _ (h : e .at < length t) {l : List ℕ} (q : l ≡ lineAt t (e .at)) where
+      pub why-blank : {b : Bool} → b ≡ isBlankLine l → b ≡ true → why.Blank ≡ whyOf t e
       unfolding whyOf
-      why-quoted z = rw (lt-leb (length t) (e .at) h, ← q, ← x, y, z)
+      why-blank x y = rw (z, lt-leb (length t) (e .at) h, ← q, ← x, y)
 
-      module _ (z : e .quote ≡ Out) {n : ℕ} (w : n ≡ capped (indentColumns l)) where
+      module _ {b : Bool} (x : b ≡ isBlankLine l) (y : b ≡ false) {n : ℕ} (w : n ≡ capped (indentColumns l)) where
         pub why-left : n ≤ e .brace → why.Left ≡ whyOf t e
         unfolding whyOf
-        why-left k = rw (lt-leb (length t) (e .at) h, ← q, ← x, y, z, ← w, le-leb n (e .brace) k)
+        why-left k = rw (z, lt-leb (length t) (e .at) h, ← q, ← x, y, ← w, le-leb n (e .brace) k)
 
         pub why-entries : e .brace < n → why.Entries ≡ whyOf t e
         unfolding whyOf
-        why-entries k = rw (lt-leb (length t) (e .at) h, ← q, ← x, y, z, ← w, lt-leb n (e .brace) k)
+        why-entries k = rw (z, lt-leb (length t) (e .at) h, ← q, ← x, y, ← w, lt-leb n (e .brace) k)
 
 -- ---- where a line stops being entries
 

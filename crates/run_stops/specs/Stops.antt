@@ -71,17 +71,14 @@ edgeOf t at n = edgePast t n (record { at = at; last = at; brace = 0; quote = Ou
 
 -- ---- why the line behind them isn't joined
 
--- "be indented beyond the last open brace's column", "pass `valid_wrapped_attr_continuation`"; but first "follow no open quote"
-abbrev pub whyBy : Quote → Bool → whys.Why
-whyBy (In q) left = why.Quoted
-whyBy Out left = cond left why.Left why.Entries
-
--- no line, a blank one, or one that fails a test
+-- no line, a blank one, or one that fails a test: "be indented beyond the last open brace's column", "pass `valid_wrapped_attr_continuation`"; but first of all "follow no
+-- open quote"
 unfoldable pub whyOf : List ℕ → Edge → whys.Why
 whyOf t e =
-    cond (leb (length t) (e .at)) why.End
+    cond (inQuote (e .quote)) why.Quoted
+    (cond (leb (length t) (e .at)) why.End
     (cond (isBlankLine (lineAt t (e .at))) why.Blank
-    (whyBy (e .quote) (leb (capped (indentColumns (lineAt t (e .at)))) (e .brace))))
+    (cond (leb (capped (indentColumns (lineAt t (e .at)))) (e .brace)) why.Left why.Entries)))
 
 -- ---- where that is told
 

@@ -21,7 +21,7 @@ pub struct Edge {
     pub quote: Quote,
 }
 
-// Why a run isn't joined further: no line is left; the next is blank; a quote is left open in the line before; it isn't indented far enough; or it isn't whole entries.
+// Why a run isn't joined further: a quote is left open in the line before; else no line is left; the next is blank; it isn't indented far enough; or it isn't whole entries.
 pub enum Why {
     End,
     Blank,
@@ -151,17 +151,17 @@ fn edge_of(text: &[u8], at: usize, lines: usize) -> Edge
 fn why_of(text: &[u8], e: Edge) -> Why
     ensures { λ r. ⌜ r ≡ whyOf (now (text .entry)) e ⌝ }
 {
-    if text.len() <= e.at {
-        return Why::End;
-    }
-    let line = line_at(text, e.at);
-    if text_lines::is_blank_line(line) {
-        return Why::Blank;
-    }
     let q = e.quote;
     match q {
         Quote::In(_) => Why::Quoted,
         Quote::Out => {
+            if text.len() <= e.at {
+                return Why::End;
+            }
+            let line = line_at(text, e.at);
+            if text_lines::is_blank_line(line) {
+                return Why::Blank;
+            }
             if text_tabs::indent_columns(line) <= e.brace {
                 return Why::Left;
             }
