@@ -2,5 +2,6 @@
 pub mod Findings
 pub mod Braces
 pub mod Stops
+pub mod Entries
 pub mod Sources
 pub mod Quotes

@@ -6,11 +6,11 @@ use mathlib.Core.List.{List, [], _∷_}
 use Prim.Native.Nat.{ℕ, zero, suc, _+_, _-_, _<_, _≤_}
 use native.Mathlib.Numerals.{add-one}
 use native.Mathlib.Omega.{arith}
-use borrow.Author.Tests.{leb-true, leb-false, le-leb, lt-leb}
+use borrow.Author.Tests.{leb-true, leb-false, le-leb, lt-leb, eq-eqb, ne-eqb}
 use lib.Dec.{leb}
-use lib.ListN.{length, getD, take, drop, drop-of-length-le, length-take}
-use lib.Seq.{drop-cons}
-use Rattle.base_lists.specs.Lists.{isIn}
+use lib.ListN.{length, getD, take, drop, drop-of-length-le, length-take, length-drop, List·getD-eq-default}
+use lib.Seq.{drop-cons, take-all}
+use Rattle.base_lists.proofs.More.{contra}
 use Rattle.base_lists.proofs.Parts.{slice-part}
 use Rattle.base_bytes.specs.declared.Mode.the-variants.{Loose}
 use Rattle.text_names.specs.declared.Tested.{Tested}
@@ -30,6 +30,7 @@ use Rattle.block_grammar.specs.declared.Place.the-variants.{Nothing, At}
 use Rattle.block_places.specs.Computed.{payloadPlace}
 use Rattle.block_places.proofs.Place.{place-longest}
 use Rattle.block_tokens.specs.Shown.{accepted, payloadTested}
+use Rattle.block_payloads.specs.Payloads.{behindLast}
 use Rattle.block_trimmed_line.specs.Fronts.{frontOf}
 use Rattle.block_trimmed_line.specs.declared.Front.{Front}
 use Rattle.block_trimmed_line.proofs.Trimmed.{line-is, line-none, front-to}
@@ -39,7 +40,7 @@ use Rattle.run_stops.specs.declared.Stop.{Stop}
 use Rattle.run_stops.specs.declared.Source.{Source}
 use Rattle.run_stops.specs.declared.Why as whys
 use Rattle.run_stops.specs.declared.Why.the-variants as why
-use Rattle.run_stops.specs.Stops.{keptAt, quoteFrom, quoteLeft, edgeAfter, edgePast, edgeOf, whyOf, stopsAt, entriesIn, stopBy, stopAt, sourceFrom, sourceOf}
+use Rattle.run_stops.specs.Stops.{keptAt, quoteFrom, quoteLeft, edgeAfter, edgePast, edgeOf, whyOf, stopsAt, lastFrom, closesAt, pastClose, entriesIn, stopBy, stopAt, sourceFrom, sourceOf}
 
 -- ---- the loop of `quote_left`: the bytes from i on lead to the answer r
 pub record Quotes (s : List ℕ) (r : Place) (st : Scan) (at i : ℕ) : Type 0 where
@@ -121,28 +122,71 @@ module _ (t : List ℕ) (e : Edge) where
 
 -- ---- where a line stops being entries
 
-module _ (s : List ℕ) where
-  pub entries-closed : {b : Bool} → b ≡ isIn s 125 → b ≡ true → 0 ≡ entriesIn s
-  unfolding entriesIn
-  entries-closed x y = rw (← x, y)
+pub last-is : (s : List ℕ) {from : ℕ} → from ≤ length s → drop from s ≡ behindLast s → from ≡ lastFrom s
+last-is s {from} h e = omega (arith, length-drop from s, ap length e)
 
-  module _ {b : Bool} (x : b ≡ isIn s 125) (y : b ≡ false) {u : Tested} (e : u ≡ payloadTested Loose s) where
-    pub entries-whole : u ≡ Whole → 0 ≡ entriesIn s
-    unfolding entriesIn
-    entries-whole z = rw (← x, y, ← e, z)
+pub stops-whole : (s : List ℕ) {u : Tested} → u ≡ payloadTested Loose s → u ≡ Whole → 0 ≡ stopsAt (payloadTested Loose s)
+stops-whole s e z = rw (← e, z)
 
-    pub entries-stop : {n : ℕ} → u ≡ Stops n → n ≡ entriesIn s
-    unfolding entriesIn
-    entries-stop z = rw (← x, y, ← e, z)
+pub stops-stop : (s : List ℕ) {u : Tested} → u ≡ payloadTested Loose s → {n : ℕ} → u ≡ Stops n → n ≡ stopsAt (payloadTested Loose s)
+stops-stop s e z = rw (← e, z)
 
-  pub entries-within : entriesIn s ≤ length s
-  unfolding entriesIn
-  entries-within = go (isIn s 125) (accepted (readPayload Loose 0 s))
+pub stops-within : (s : List ℕ) → stopsAt (payloadTested Loose s) ≤ length s
+stops-within s = go (accepted (readPayload Loose 0 s))
+  where
+    go : (y : Bool) → stopsAt (cond y Whole (Stops (payloadPlace Loose s))) ≤ length s
+    go true = omega arith
+    go false = place-longest Loose s .within
+
+module _ (s : List ℕ) (from n : ℕ) where
+  pub closes-beyond : length s ≤ n → false ≡ closesAt s from n
+  unfolding closesAt
+  closes-beyond h = rw (List·getD-eq-default s 0 h)
+
+  pub closes-not : (getD s n 0 ≡ 125 → ⊥) → false ≡ closesAt s from n
+  unfolding closesAt
+  closes-not h = rw (ne-eqb (getD s n 0) 125 h)
+
+  pub closes-front : getD s n 0 ≡ 125 → n ≡ 0 → true ≡ closesAt s from n
+  unfolding closesAt
+  closes-front h z = rw (eq-eqb (getD s n 0) 125 h, eq-eqb n 0 z)
+
+  pub closes-whole : getD s n 0 ≡ 125 → (n ≡ 0 → ⊥) → {w : Bool} → w ≡ accepted (readPayload Loose 0 (take (n - from) (drop from s))) → w ≡ closesAt s from n
+  unfolding closesAt
+  closes-whole h z e = rw (eq-eqb (getD s n 0) 125 h, ne-eqb n 0 z, slice-part from n s) e
+
+  pub closes-in : closesAt s from n ≡ true → n < length s
+  closes-in e = go (leb (length s) n) refl
     where
-      go : (x y : Bool) → cond x 0 (stopsAt (cond y Whole (Stops (payloadPlace Loose s)))) ≤ length s
-      go true y = omega arith
-      go false true = omega arith
-      go false false = place-longest Loose s .within
+      go : (b : Bool) → leb (length s) n ≡ b → n < length s
+      go true x = contra false (closes-beyond (leb-true (length s) n x) ∙ e) refl
+      go false x = leb-false (length s) n x
+
+pub past-within : (s : List ℕ) (from n : ℕ) → n ≤ length s → pastClose s from n ≤ length s
+past-within s from n h = go (closesAt s from n) refl
+  where
+    go : (b : Bool) → closesAt s from n ≡ b → cond b (suc n) n ≤ length s
+    go true e = omega (arith, closes-in s from n e)
+    go false e = h
+
+pub entries-within : (s : List ℕ) → entriesIn s ≤ length s
+unfolding entriesIn
+entries-within s = past-within s (lastFrom s) (lastFrom s + stopsAt (payloadTested Loose (drop (lastFrom s) s))) (omega (arith, stops-within (drop (lastFrom s) s), length-drop (lastFrom s) s))
+
+module _ (s : List ℕ) {from k : ℕ} (e : from ≡ lastFrom s) (q : k ≡ stopsAt (payloadTested Loose (take (length s - from) (drop from s)))) where
+  stop-is-at : k ≡ stopsAt (payloadTested Loose (drop from s))
+  stop-is-at = rw (take-all (length s - from) (drop from s) (omega (arith, length-drop from s))) at q
+
+  pub stop-in : from + k ≤ length s
+  stop-in = omega (arith, e, stop-is-at, stops-within (drop from s), length-drop from s)
+
+  pub entries-past : {b : Bool} → b ≡ closesAt s from (from + k) → b ≡ true → from + k + 1 ≡ entriesIn s
+  unfolding entriesIn
+  entries-past x y = rw (← e, ← stop-is-at, ← x, y, add-one)
+
+  pub entries-there : {b : Bool} → b ≡ closesAt s from (from + k) → b ≡ false → from + k ≡ entriesIn s
+  unfolding entriesIn
+  entries-there x y = rw (← e, ← stop-is-at, ← x, y)
 
 -- in a trimmed line
 pub entries-short : (s : List ℕ) {r : Range} → r ≡ trimRange s → {n : ℕ} → n ≡ entriesIn (take (r .to - r .from) (drop (r .from) s)) → r .from + n ≤ length s

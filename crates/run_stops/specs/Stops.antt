@@ -1,11 +1,11 @@
 -- "Each later line must be indented beyond the last open brace's column, pass `valid_wrapped_attr_continuation`, and follow no open quote": which of these a line fails
 -- that isn't joined, and where; and where a place of the joined text stands in the sheet.
 use Prim.Native.Nat.{ℕ, zero, suc, _+_, _-_}
-use mathlib.Core.Bool.{Bool, cond}
+use mathlib.Core.Bool.{Bool, cond, _&&_, _||_}
 use mathlib.Core.List.{List, [], _∷_}
-use lib.Dec.{leb}
-use lib.ListN.{length, take, drop}
-use Rattle.base_lists.specs.Lists.{isIn}
+use lib.Dec.{eqb, leb}
+use lib.ListN.{length, getD, take, drop}
+use lib.Seq.{slice}
 use Rattle.base_bytes.specs.declared.Mode.the-variants.{Loose}
 use Rattle.base_bytes.specs.Bytes.{closeBrace}
 use Rattle.base_refusals.specs.Numbers.{Paper, passedPaper}
@@ -15,12 +15,14 @@ use Rattle.text_lines.specs.Lines.{lineFrom, lineAt}
 use Rattle.text_lines.specs.Trim.{trim, trimRange, isBlankLine}
 use Rattle.text_tabs.specs.Columns.{indentColumns, capped}
 use Rattle.block_grammar.specs.Close.{fresh}
+use Rattle.block_grammar.specs.Computed.{readPayload}
 use Rattle.block_grammar.specs.declared.Quote.{Quote}
 use Rattle.block_grammar.specs.declared.Quote.the-variants.{Out, In}
 use Rattle.block_grammar.specs.declared.Scan.{Scan}
 use Rattle.block_grammar.specs.declared.Place.{Place}
 use Rattle.block_grammar.specs.declared.Place.the-variants.{Nothing, At}
-use Rattle.block_tokens.specs.Shown.{payloadTested}
+use Rattle.block_tokens.specs.Shown.{accepted, payloadTested}
+use Rattle.block_payloads.specs.Payloads.{behindLast}
 use Rattle.block_trimmed_line.specs.Fronts.{frontOf}
 use Rattle.run_scanners.specs.Scanners.{inQuote, honoured, passed, openQuoteAtEnd, lastOpenBrace, cappedAt}
 use Rattle.run_stops.specs.declared.Edge.{Edge}
@@ -94,9 +96,24 @@ abbrev pub stopsAt : Tested → ℕ
 stopsAt Whole = 0
 stopsAt (Stops n) = n
 
--- where a trimmed line stops being entries; at its front where a brace closes in it
+-- 000 asks of a trimmed line that doesn't end in `}` that what stands behind its last `}{` is entries; it begins here, at the front where there is none
+abbrev pub lastFrom : List ℕ → ℕ
+lastFrom s = length s - length (behindLast s)
+
+-- a `}` at n ends whole entries that begin at `from`, or at the line's front those of the lines above
+unfoldable pub closesAt : List ℕ → ℕ → ℕ → Bool
+closesAt s from n = eqb (getD s n 0) closeBrace && (eqb n 0 || accepted (readPayload Loose 0 (slice from n s)))
+
+-- n, or behind such a `}`: text that begins there is what is wrong
+abbrev pub pastClose : List ℕ → ℕ → ℕ → ℕ
+pastClose s from n = cond (closesAt s from n) (suc n) n
+
+-- where the bytes from `from` on stop being entries
+abbrev pub entriesFrom : List ℕ → ℕ → ℕ
+entriesFrom s from = pastClose s from (from + stopsAt (payloadTested Loose (drop from s)))
+
 unfoldable pub entriesIn : List ℕ → ℕ
-entriesIn s = cond (isIn s closeBrace) 0 (stopsAt (payloadTested Loose s))
+entriesIn s = entriesFrom s (lastFrom s)
 
 unfoldable pub entriesPlace : List ℕ → ℕ → ℕ
 entriesPlace t at = at + trimRange (lineAt t at) .from + entriesIn (trim (lineAt t at))

@@ -5,13 +5,18 @@ use block_grammar::Quote;
 use block_grammar::Scan;
 use text_names::Tested;
 ghost use mathlib.Core.Path.{_≡_};
-ghost use Prim.Native.Nat.{_-_};
-ghost use lib.ListN.{take};
+ghost use mathlib.Core.Bool.{cond, _&&_};
+ghost use Prim.Native.Nat.{_+_, _-_, _<_, _≤_};
+ghost use lib.Dec.{eqb};
+ghost use lib.ListN.{length, getD, take};
+ghost use Rattle.base_bytes.specs.declared.Mode.the-variants.{Loose};
+ghost use Rattle.base_bytes.specs.Bytes.{closeBrace, openBrace};
 ghost use Rattle.text_lines.specs.Lines.{lineAt};
 ghost use Rattle.text_lines.specs.Trim.{trim};
 ghost use Rattle.block_grammar.specs.Close.{closePaper};
+ghost use Rattle.block_tokens.specs.Shown.{payloadTested};
 ghost use Rattle.run_scanners.specs.Scanners.{openQuoteAtEnd};
-ghost use Rattle.run_stops.specs.Stops.{quoteLeft, keptAt, braceOr, edgeAfter, edgeOf, whyOf, quotePlace, entriesIn, entriesPlace, stopAt, stopPaper, sourceOf};
+ghost use Rattle.run_stops.specs.Stops.{quoteLeft, keptAt, braceOr, edgeAfter, edgeOf, whyOf, quotePlace, stopsAt, lastFrom, closesAt, entriesIn, entriesPlace, stopAt, stopPaper, sourceOf};
 
 // What the lines joined so far leave: where the next begins and where the last of them begins, the column of the last brace that opened, and the quote left open.
 pub struct Edge {
@@ -191,17 +196,70 @@ fn quote_place(text: &[u8], at: usize) -> usize
     }
 }
 
-// How many bytes of a trimmed line are entries; none where a brace closes in it.
-fn entries_in(core: &[u8]) -> usize
-    ensures { λ r. ⌜ r ≡ entriesIn (now (core .entry)) ⌝ }
+// Behind `}{` at i, or as before.
+fn behind(s: &[u8], i: usize, best: usize) -> usize
+    requires { ⌜ i + 1 < length (now s) ⌝ }
+    ensures { λ r. ⌜ r ≡ cond (eqb (getD (now (s .entry)) i 0) closeBrace && eqb (getD (now (s .entry)) (i + 1) 0) openBrace) (i + 2) best ⌝ }
 {
-    if run_scanners::contains_close(core) {
-        return 0;
+    if s[i] != b'}' {
+        return best;
     }
-    match block_tokens::payload_test(core, Mode::Loose) {
+    if s[i + 1] != b'{' {
+        return best;
+    }
+    i + 2
+}
+
+// Where what stands behind the last `}{` begins; 0 where there is none.
+fn behind_last(s: &[u8]) -> usize
+    ensures { λ r. ⌜ r ≡ lastFrom (now (s .entry)) ⌝ }
+{
+    let mut best = 0;
+    let mut i = 1;
+    while i < s.len() {
+        best = behind(s, i - 1, best);
+        i += 1;
+    }
+    best
+}
+
+// How many bytes are entries, of such as aren't whole entries.
+fn stops_at(s: &[u8]) -> usize
+    ensures { λ r. ⌜ r ≡ stopsAt (payloadTested Loose (now (s .entry))) ⌝ }
+{
+    match block_tokens::payload_test(s, Mode::Loose) {
         Tested::Whole => 0,
         Tested::Stops(n) => n,
     }
+}
+
+// Whether a `}` at n ends whole entries that begin at `from`, or at the front those of the lines above.
+fn closes_at(core: &[u8], from: usize, n: usize) -> bool
+    requires { ⌜ from ≤ n ⌝ }
+    ensures { λ r. ⌜ r ≡ closesAt (now (core .entry)) from n ⌝ }
+{
+    if core.len() <= n {
+        return false;
+    }
+    if core[n] != b'}' {
+        return false;
+    }
+    if n == 0 {
+        return true;
+    }
+    text_names::is_whole(block_tokens::payload_test(&core[from..n], Mode::Loose))
+}
+
+// How many bytes of a trimmed line are what may stand there.
+fn entries_in(core: &[u8]) -> usize
+    ensures { λ r. ⌜ r ≡ entriesIn (now (core .entry)) ⌝ }
+{
+    let from = behind_last(core);
+    let n = from + stops_at(&core[from..]);
+    if closes_at(core, from, n) {
+        return n + 1;
+    }
+    n
 }
 
 // Where a line stops being entries.
