@@ -18,7 +18,7 @@ use Rattle.base_refusals.specs.declared.Outcome.the-variants as outcome
 use Rattle.text_lines.specs.Lines.{ranges}
 use Rattle.run_lines.specs.Runs.{pastLines}
 use Rattle.read_lengths.specs.Lengths.{flushLeft}
-use Rattle.block_trimmed_line.specs.Fronts.{opensAt}
+use Rattle.block_trimmed_line.specs.Fronts.{frontOf, opensAt}
 use Rattle.sheet_blocks.specs.Sheets.{Try, triesAt, isBlock}
 use Rattle.sheet_blocks.proofs.Tries.{tries-end}
 use Rattle.sheet_verdicts.specs.Verdicts.{verdictAt}
@@ -26,17 +26,20 @@ use Rattle.sheet_findings.specs.declared.Finding.{Finding}
 use Rattle.sheet_findings.specs.declared.Kind.the-variants as kind
 use Rattle.sheet_findings.specs.Findings.{here, isClear, byteOrderMark, markFinding, lineFinding, limitFinding, findingOf, linesPast, isFound, onlyFound, findingsOf, tryAt, firstFound, nextFinding}
 use Rattle.sheet_findings.proofs.Seeks.{tries-step, step-bytes, step-some}
-use Rattle.proved_findings.specs.Findings.{OnlyMarks, PrintedBlocks, RefusedBlocks, GoesBy, OneAfterTheOther, FromTheFirstLine}
+use Rattle.proved_findings.specs.Findings.{hasMark, OnlyMarks, PrintedBlocks, RefusedBlocks, GoesBy, OneAfterTheOther, FromTheFirstLine}
 
 -- ---- which lines have one
 
 pub only-marks : OnlyMarks
 unfolding findingOf lineFinding markFinding
-only-marks t cap x n o = rw (n, o) (go (same (slice (x .at) (x .at + 3) t) byteOrderMark && opensAt t (x .at + 3)))
+only-marks t cap x n o = rw (n, o) (go (hasMark t (frontOf t (x .at) .from)))
   where
-    go : (b : Bool) → not (isClear (cond b (here kind.Marked (x .at)) (here kind.Clear 0) .kind)) ≡ b
-    go true = refl
-    go false = refl
+    told : Bool → Finding
+    told b = cond b (here kind.Marked (frontOf t (x .at) .from)) (here kind.Clear 0)
+
+    go : (b : Bool) → (not (isClear (told b .kind)) ≡ b) × (not (isClear (told b .kind)) ≡ true → told b ≡ here kind.Marked (frontOf t (x .at) .from))
+    go true = (refl, λ e. refl)
+    go false = (refl, λ e. contra false e refl)
 
 pub printed-blocks : PrintedBlocks
 unfolding findingOf

@@ -1,6 +1,6 @@
 -- The findings of a sheet: which lines have one, and how a caller goes from one to the next.
 use mathlib.Core.Path.{_≡_}
-use mathlib.Core.Bool.{true, false, _&&_}
+use mathlib.Core.Bool.{Bool, true, false, _&&_}
 use mathlib.Core.List.{List, [], _∷_}
 use Prim.Native.Nat.{ℕ, _+_, _<_, _≤_}
 use lib.ListN.{length}
@@ -9,14 +9,15 @@ use Rattle.base_lists.specs.Lists.{same}
 use Rattle.base_refusals.specs.Numbers.{maxText}
 use Rattle.base_refusals.specs.declared.Refusal.{Refusal}
 use Rattle.base_refusals.specs.declared.Outcome.the-variants as outcome
-use Rattle.block_trimmed_line.specs.Fronts.{opensAt}
+use Rattle.block_trimmed_line.specs.Fronts.{frontOf, opensAt}
 use Rattle.read_lengths.specs.Lengths.{flushLeft}
 use Rattle.sheet_blocks.specs.Sheets.{Try, triesAt, isBlock}
 use Rattle.sheet_verdicts.specs.Verdicts.{verdictAt}
+use Rattle.sheet_findings.specs.declared.Kind.the-variants as kind
 use Rattle.sheet_findings.specs.declared.Told as tolds
 use Rattle.sheet_findings.specs.declared.Told.the-variants as told
 use Rattle.sheet_findings.specs.declared.Next.{Next}
-use Rattle.sheet_findings.specs.Findings.{byteOrderMark, findingOf, isFound, onlyFound, findingsOf, tryAt, nextFinding}
+use Rattle.sheet_findings.specs.Findings.{here, byteOrderMark, findingOf, isFound, onlyFound, findingsOf, tryAt, nextFinding}
 
 -- ---- which lines have one
 
@@ -24,9 +25,14 @@ use Rattle.sheet_findings.specs.Findings.{byteOrderMark, findingOf, isFound, on
 abbrev pub EveryBrace : Type 0
 EveryBrace = (t : List ℕ) (cap n at : ℕ) → at < length t → opensAt t at ≡ true → isBlock (flushLeft t cap at) ≡ false → isFound t cap (tryAt t cap n at) ≡ true
 
--- of the lines that are no block and don't open with a brace only those with a byte order mark before one
+-- the place p has the bytes EF BB BF, and behind them a brace, blanks between them allowed
+abbrev pub hasMark : List ℕ → ℕ → Bool
+hasMark t p = same (slice p (p + 3) t) byteOrderMark && opensAt t (p + 3)
+
+-- of the lines that are no block and don't open with a brace only those with a byte order mark before one, at their trimmed front; that is the place which is told
 abbrev pub OnlyMarks : Type 0
-OnlyMarks = (t : List ℕ) (cap : ℕ) (x : Try) → isBlock (x .found) ≡ false → opensAt t (x .at) ≡ false → isFound t cap x ≡ (same (slice (x .at) (x .at + 3) t) byteOrderMark && opensAt t (x .at + 3))
+OnlyMarks = (t : List ℕ) (cap : ℕ) (x : Try) → isBlock (x .found) ≡ false → opensAt t (x .at) ≡ false
+    → (isFound t cap x ≡ hasMark t (frontOf t (x .at) .from)) × (isFound t cap x ≡ true → findingOf t cap x ≡ here kind.Marked (frontOf t (x .at) .from))
 
 -- a block that is printed has none, and one that is refused, by 6, 7 or 10, has one
 abbrev pub PrintedBlocks : Type 0

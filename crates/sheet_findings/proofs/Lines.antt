@@ -20,7 +20,7 @@ use Rattle.block_trimmed_line.specs.Fronts.{frontOf, opensAt, beginsIndented}
 use Rattle.block_trimmed_line.specs.declared.Front.{Front}
 use Rattle.block_trimmed_line.proofs.Trimmed.{opens-by, closes-by}
 use Rattle.text_lines.proofs.Trim.{trim-to}
-use Rattle.run_stops.proofs.Laws.{line-long}
+use Rattle.run_stops.proofs.Laws.{line-long, front-order}
 use Rattle.run_stops.specs.Stops.{stopAt}
 use Rattle.run_stops.specs.declared.Stop.{Stop}
 use Rattle.run_lines.specs.Runs.{Run, runAt, joinedOf, pastLines}
@@ -69,6 +69,9 @@ front-in t at h e = rw e (omega (arith, trim-to (lineAt t at), line-long t at h)
 pub front-from : (t : List ℕ) (at : ℕ) {f : Front} → f ≡ frontOf t at → at ≤ f .from
 unfolding frontOf
 front-from t at e = rw e (omega arith)
+
+pub front-start : (t : List ℕ) (at : ℕ) → at < length t → {f : Front} → f ≡ frontOf t at → f .from ≤ length t
+front-start t at h {f} e = let z : f .from ≤ f .to = rw e (front-order t at) in omega (arith, z, front-in t at h e)
 
 module _ (t : List ℕ) (at : ℕ) (buf : List ℕ) {f : Front} (e : f ≡ frontOf t at) where
   abbrev Faults : Finding → List ℕ → Type 0
@@ -127,15 +130,15 @@ module _ (t : List ℕ) (at : ℕ) (buf : List ℕ) (fits : length t ≤ maxText
   flush-none : linesOf g ≡ 0 → isBlock (flushLeft t (length buf) at) ≡ false
   flush-none n = block-counted t at (length buf) ∙ ap not (eq-eqb (linesOf (flushLeft t (length buf) at)) 0 (lines-none n))
 
-  text-finding : opensAt t at ≡ false → {w : Finding} → w ≡ markFinding t at → w ≡ lineFinding t (length buf) at
+  text-finding : opensAt t at ≡ false → {w : Finding} → w ≡ markFinding t (f .from) → w ≡ lineFinding t (length buf) at
   unfolding lineFinding
-  text-finding z p = rw z p
+  text-finding z p = rw z (rw e at p)
 
   text-holds : opensAt t at ≡ false → buf ≡ stepHolds t (length buf) at buf
   unfolding stepHolds
   text-holds z = rw z
 
-  pub step-text : f .opens ≡ false → {w : Finding} → w ≡ markFinding t at → {r : Step} → r ≡ record { finding = w; lines = 1; next = f .next } → Steps r buf
+  pub step-text : f .opens ≡ false → {w : Finding} → w ≡ markFinding t (f .from) → {r : Step} → r ≡ record { finding = w; lines = 1; next = f .next } → Steps r buf
   step-text o p q = let z = opens-by t at e o in (line-step (flush-none (ap linesOf (found-none t at 0 (length buf) z))) (text-finding z p) q, text-holds z)
 
   module _ (o : f .opens ≡ true) {x : Block} {b : List ℕ} (u : x ≡ blockOf t at (sized t g)) (v : b ≡ joinHolds buf (sized t g)) where

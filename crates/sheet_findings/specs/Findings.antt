@@ -131,7 +131,7 @@ faultFinding t cap at = cond (frontOf t at .closes) (chainFinding (take (frontOf
 abbrev pub indentedFinding : List ℕ → ℕ → Finding
 indentedFinding t at = record { kind = kind.Indented; row = 0; place = at; number = frontOf t at .from - at }
 
--- the bytes EF BB BF, "never trimmed and never blank", before a brace
+-- the bytes EF BB BF, "never trimmed and never blank", before a brace: at `at`, which is a line's trimmed front
 abbrev pub byteOrderMark : List ℕ
 byteOrderMark = 239 ∷ 187 ∷ 191 ∷ []
 
@@ -143,7 +143,7 @@ abbrev pub hasNone : Found → Bool
 hasNone f = eqb (linesOf f) 0
 
 unfoldable pub lineFinding : List ℕ → ℕ → ℕ → Finding
-lineFinding t cap at = cond (opensAt t at) (cond (hasNone (found t at 0 cap)) (faultFinding t cap at) (indentedFinding t at)) (markFinding t at)
+lineFinding t cap at = cond (opensAt t at) (cond (hasNone (found t at 0 cap)) (faultFinding t cap at) (indentedFinding t at)) (markFinding t (frontOf t at .from))
 
 -- ---- a line that the sheet program tries
 

@@ -212,9 +212,9 @@ fn fault_finding(text: &[u8], at: usize, f: Front, join: &mut [u8]) -> Finding
     run_finding(text, at, f.from, join)
 }
 
-// What is wrong with a line that doesn't open with a brace: a byte order mark stands before one.
+// What is wrong with a line that doesn't open with a brace: at its trimmed front a byte order mark stands before one.
 fn mark_finding(text: &[u8], at: usize) -> Finding
-    requires { ⌜ (length (now text) ≤ maxText) × (at < length (now text)) ⌝ }
+    requires { ⌜ (length (now text) ≤ maxText) × (at ≤ length (now text)) ⌝ }
     ensures { λ r. ⌜ r ≡ markFinding (now (text .entry)) at ⌝ }
 {
     let mark = [239, 187, 191];
@@ -262,7 +262,7 @@ fn step_at(text: &[u8], at: usize, join: &mut [u8]) -> Step
 {
     let f = block_trimmed_line::trimmed_line(text, at);
     if !f.opens {
-        return one_line(mark_finding(text, at), f.next);
+        return one_line(mark_finding(text, f.from), f.next);
     }
     let block = read_blocks::read_at(text, at, join);
     if block.lines == 0 {

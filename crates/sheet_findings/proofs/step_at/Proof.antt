@@ -22,7 +22,7 @@ trimmed-line-requires c κs = search needs
 
 -- src/lib.rt:265:25
 mark-finding-requires : tie.Need-mark-finding-requires
-mark-finding-requires c κs = search needs
+mark-finding-requires c κs = let at5 = c .before .before .before .before .before in (at5 .pre .0, omega (arith, at5 .pre .1, laws.front-start (at5 .args .text .now) (at5 .args .at) (at5 .pre .1) (c .before .before .trimmed-line .ensures)))
 
 -- src/lib.rt:265:9
 one-line-requires : tie.Need-one-line-requires
