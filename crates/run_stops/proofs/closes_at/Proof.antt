@@ -18,11 +18,15 @@ shared-slice-read-if2 c = search needs
 
 -- src/lib.rt:245:9
 returns-2 : tie.Need-returns-2
-returns-2 c = laws.closes-not (c .before .before .before .before .args .core .now) (c .before .before .before .before .args .from) (c .before .before .before .before .args .n) (c .if2 .taken)
+returns-2 c =
+    let start = c .before .before .before .before in
+    laws.closes-not (start .args .core .now) (start .args .from) (start .args .n) (c .if2 .taken)
 
 -- src/lib.rt:248:9
 returns-3 : tie.Need-returns-3
-returns-3 c = laws.closes-front (c .before .before .before .before .before .args .core .now) (c .before .before .before .before .before .args .from) (c .before .before .before .before .before .args .n) (c .before .if2 .left) (c .if3 .taken)
+returns-3 c =
+    let start = c .before .before .before .before .before in
+    laws.closes-front (start .args .core .now) (start .args .from) (start .args .n) (c .before .if2 .left) (c .if3 .taken)
 
 -- src/lib.rt:250:53
 sub-payload-test : tie.Need-sub-payload-test
@@ -46,7 +50,9 @@ is-whole-requires c κs = search needs
 
 -- src/lib.rt:237:1
 returns-4 : tie.Need-returns-4
-returns-4 c = laws.closes-whole (c .before .before .before .before .before .before .before .before .args .core .now) (c .before .before .before .before .before .before .before .before .args .from) (c .before .before .before .before .before .before .before .before .args .n) (c .before .before .before .before .if2 .left) (c .before .before .before .if3 .left) (yes-or-no _ _ (c .before .payload-test .ensures .0) (c .is-whole .ensures))
+returns-4 c =
+    let start = c .before .before .before .before .before .before .before .before in
+    laws.closes-whole (start .args .core .now) (start .args .from) (start .args .n) (c .before .before .before .before .if2 .left) (c .before .before .before .if3 .left) (yes-or-no _ _ (c .before .payload-test .ensures .0) (c .is-whole .ensures))
 
 pub closes-at-spec : {M : Type 1} → statement M
 closes-at-spec =

@@ -41,7 +41,9 @@ closes-at-requires c κs = search needs
 
 -- src/lib.rt:260:16
 add-result : tie.Need-add-result
-add-result c = omega (arith, laws.closes-in (c .before .before .before .before .before .before .args .core .now) (c .before .before .before .before .behind-last .result) ((c .before .before .before .before .behind-last .result) + (c .before .before .stops-at .result)) (sym (c .before .closes-at .ensures) ∙ (c .if1 .taken)))
+add-result c =
+    let start = c .before .before .before .before in
+    omega (arith, laws.closes-in (c .before .before .before .before .before .before .args .core .now) (start .behind-last .result) ((start .behind-last .result) + (c .before .before .stops-at .result)) (sym (c .before .closes-at .ensures) ∙ (c .if1 .taken)))
 
 -- src/lib.rt:260:9
 returns : tie.Need-returns

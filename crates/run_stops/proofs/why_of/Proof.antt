@@ -19,7 +19,9 @@ enum-told-2 c = search needs
 
 -- src/lib.rt:159:17
 returns : tie.Need-returns
-returns c = laws.why-end (c .before .before .before .before .before .args .text .now) (c .before .before .before .before .before .args .e) (c .before .before .enum-told2 .given .1) (c .if1 .taken)
+returns c =
+    let start = c .before .before .before .before .before in
+    laws.why-end (start .args .text .now) (start .args .e) (c .before .before .enum-told2 .given .1) (c .if1 .taken)
 
 -- src/lib.rt:161:17
 line-at-requires : tie.Need-line-at-requires
@@ -31,7 +33,9 @@ is-blank-line-requires c κs = search needs
 
 -- src/lib.rt:163:17
 returns-2 : tie.Need-returns-2
-returns-2 c = laws.why-blank (c .before .before .before .before .before .before .before .before .args .text .now) (c .before .before .before .before .before .before .before .before .args .e) (c .before .before .before .before .before .enum-told2 .given .1) (c .before .before .before .if1 .left) (c .before .before .line-at .ensures) (c .before .is-blank-line .ensures) (c .if2 .taken)
+returns-2 c =
+    let start = c .before .before .before .before .before .before .before .before in
+    laws.why-blank (start .args .text .now) (start .args .e) (c .before .before .before .before .before .enum-told2 .given .1) (c .before .before .before .if1 .left) (c .before .before .line-at .ensures) (c .before .is-blank-line .ensures) (c .if2 .taken)
 
 -- src/lib.rt:165:16
 indent-columns-requires : tie.Need-indent-columns-requires
@@ -39,15 +43,23 @@ indent-columns-requires c κs = search needs
 
 -- src/lib.rt:166:17
 returns-3 : tie.Need-returns-3
-returns-3 c = laws.why-left (c .before .before .before .before .before .before .before .before .before .before .before .args .text .now) (c .before .before .before .before .before .before .before .before .before .before .before .args .e) (c .before .before .before .before .before .before .before .before .enum-told2 .given .1) (c .before .before .before .before .before .before .if1 .left) (c .before .before .before .before .before .line-at .ensures) (c .before .before .before .before .is-blank-line .ensures) (c .before .before .before .if2 .left) (c .before .before .indent-columns .ensures) (c .if3 .taken)
+returns-3 c =
+    let start = c .before .before .before .before .before .before .before .before .before .before .before in
+    laws.why-left (start .args .text .now) (start .args .e) (c .before .before .before .before .before .before .before .before .enum-told2 .given .1) (c .before .before .before .before .before .before .if1 .left)
+    (c .before .before .before .before .before .line-at .ensures) (c .before .before .before .before .is-blank-line .ensures) (c .before .before .before .if2 .left) (c .before .before .indent-columns .ensures) (c .if3 .taken)
 
 -- src/lib.rt:151:1
 returns-4 : tie.Need-returns-4
-returns-4 c = laws.why-quoted (c .before .before .before .args .text .now) (c .before .before .before .args .e) (c .enum-told .given .1)
+returns-4 c =
+    let start = c .before .before .before in
+    laws.why-quoted (start .args .text .now) (start .args .e) (c .enum-told .given .1)
 
 -- src/lib.rt:151:1
 returns-5 : tie.Need-returns-5
-returns-5 c = laws.why-entries (c .before .before .before .before .before .before .before .before .before .before .before .args .text .now) (c .before .before .before .before .before .before .before .before .before .before .before .args .e) (c .before .before .before .before .before .before .before .before .enum-told2 .given .1) (c .before .before .before .before .before .before .if1 .left) (c .before .before .before .before .before .line-at .ensures) (c .before .before .before .before .is-blank-line .ensures) (c .before .before .before .if2 .left) (c .before .before .indent-columns .ensures) (c .if3 .left)
+returns-5 c =
+    let start = c .before .before .before .before .before .before .before .before .before .before .before in
+    laws.why-entries (start .args .text .now) (start .args .e) (c .before .before .before .before .before .before .before .before .enum-told2 .given .1) (c .before .before .before .before .before .before .if1 .left)
+    (c .before .before .before .before .before .line-at .ensures) (c .before .before .before .before .is-blank-line .ensures) (c .before .before .before .if2 .left) (c .before .before .indent-columns .ensures) (c .if3 .left)
 
 pub why-of-spec : {M : Type 1} → statement M
 why-of-spec =

@@ -30,7 +30,9 @@ one-line-requires c κs = search needs
 
 -- src/lib.rt:265:9
 returns : tie.Need-returns
-returns c = laws.step-text (c .before .before .before .before .before .before .before .args .text .now) (c .before .before .before .before .before .before .before .args .at) (c .before .before .before .before .before .before .before .args .join .now) (c .before .before .before .before .before .before .before .pre .0) (c .before .before .before .before .trimmed-line .ensures) (not-true _ (c .before .before .if1 .taken)) (c .before .mark-finding .ensures) (c .one-line .ensures)
+returns c =
+    let start = c .before .before .before .before .before .before .before in
+    laws.step-text (start .args .text .now) (start .args .at) (start .args .join .now) (start .pre .0) (c .before .before .before .before .trimmed-line .ensures) (not-true _ (c .before .before .if1 .taken)) (c .before .mark-finding .ensures) (c .one-line .ensures)
 
 -- src/lib.rt:267:9
 read-at-requires : tie.Need-read-at-requires
@@ -50,7 +52,13 @@ same-length c = search needs
 
 -- src/lib.rt:269:9
 returns-2 : tie.Need-returns-2
-returns-2 c = laws.step-fault (c .before .before .before .before .before .before .before .before .before .before .before .before .before .before .before .before .args .text .now) (c .before .before .before .before .before .before .before .before .before .before .before .before .before .before .before .before .args .at) (c .before .before .before .before .before .before .before .before .before .before .before .before .before .before .before .before .args .join .now) (c .before .before .before .before .before .before .before .before .before .before .before .before .before .before .before .before .pre .0) (c .before .before .before .before .before .before .before .before .before .before .before .before .before .trimmed-line .ensures) (not-false _ (c .before .before .before .before .before .before .before .before .before .before .before .if1 .left)) (c .before .before .before .before .before .before .before .before .before .read-at .ensures .0) (c .before .before .before .before .before .before .before .before .before .read-at .ensures .1 .0) (c .before .before .before .before .before .if2 .taken) (c .before .before .before .before .before .before .before .before .join .given) (c .before .before .before .fault-finding .ensures .0) (c .before .before .before .fault-finding .ensures .1) (c .one-line2 .ensures)
+returns-2 c =
+    let start = c .before .before .before in
+    let p = start .before .before .before .before .before .before in
+    let q = p .before .before .before .before .before .before .before in
+    laws.step-fault (q .args .text .now) (q .args .at) (q .args .join .now) (q .pre .0) (c .before .before .before .before .before .before .before .before .before .before .before .before .before .trimmed-line .ensures)
+    (not-false _ (c .before .before .before .before .before .before .before .before .before .before .before .if1 .left)) (p .read-at .ensures .0) (p .read-at .ensures .1 .0)
+    (c .before .before .before .before .before .if2 .taken) (c .before .before .before .before .before .before .before .before .join .given) (start .fault-finding .ensures .0) (start .fault-finding .ensures .1) (c .one-line2 .ensures)
 
 -- src/lib.rt:271:8
 is-indented-requires : tie.Need-is-indented-requires
@@ -58,7 +66,9 @@ is-indented-requires c κs = search needs
 
 -- src/lib.rt:277:25
 sub-t15 : tie.Need-sub-t15
-sub-t15 c = omega (arith, laws.front-from (c .before .before .before .before .before .before .before .before .before .before .before .before .before .before .args .text .now) (c .before .before .before .before .before .before .before .before .before .before .before .before .before .before .args .at) (c .before .before .before .before .before .before .before .before .before .before .before .trimmed-line .ensures))
+sub-t15 c =
+    let start = c .before .before .before .before .before .before .before .before .before .before .before .before .before .before in
+    omega (arith, laws.front-from (start .args .text .now) (start .args .at) (c .before .before .before .before .before .before .before .before .before .before .before .trimmed-line .ensures))
 
 -- src/lib.rt:272:9
 one-line-requires-3 : tie.Need-one-line-requires-3
@@ -70,7 +80,12 @@ same-length-2 c = search needs
 
 -- src/lib.rt:272:9
 returns-3 : tie.Need-returns-3
-returns-3 c = laws.step-indented (c .before .before .before .before .before .before .before .before .before .before .before .before .before .before .before .args .text .now) (c .before .before .before .before .before .before .before .before .before .before .before .before .before .before .before .args .at) (c .before .before .before .before .before .before .before .before .before .before .before .before .before .before .before .args .join .now) (c .before .before .before .before .before .before .before .before .before .before .before .before .before .before .before .pre .0) (c .before .before .before .before .before .before .before .before .before .before .before .before .trimmed-line .ensures) (not-false _ (c .before .before .before .before .before .before .before .before .before .before .if1 .left)) (c .before .before .before .before .before .before .before .before .read-at .ensures .0) (c .before .before .before .before .before .before .before .before .read-at .ensures .1 .0) (c .before .before .before .before .if2 .left) (c .before .before .before .is-indented .ensures) (c .before .before .if3 .taken) (c .one-line3 .ensures)
+returns-3 c =
+    let start = c .before .before .before .before .before .before .before .before in
+    let p = start .before .before .before .before .before .before .before in
+    laws.step-indented (p .args .text .now) (p .args .at) (p .args .join .now) (p .pre .0) (c .before .before .before .before .before .before .before .before .before .before .before .before .trimmed-line .ensures)
+    (not-false _ (c .before .before .before .before .before .before .before .before .before .before .if1 .left)) (start .read-at .ensures .0) (start .read-at .ensures .1 .0)
+    (c .before .before .before .before .if2 .left) (c .before .before .before .is-indented .ensures) (c .before .before .if3 .taken) (c .one-line3 .ensures)
 
 -- src/lib.rt:283:32
 verdict-of-requires : tie.Need-verdict-of-requires
@@ -86,7 +101,12 @@ same-length-3 c = search needs
 
 -- src/lib.rt:258:1
 returns-4 : tie.Need-returns-4
-returns-4 c = laws.step-block (c .before .before .before .before .before .before .before .before .before .before .before .before .before .before .before .before .args .text .now) (c .before .before .before .before .before .before .before .before .before .before .before .before .before .before .before .before .args .at) (c .before .before .before .before .before .before .before .before .before .before .before .before .before .before .before .before .args .join .now) (c .before .before .before .before .before .before .before .before .before .before .before .before .before .before .before .before .pre .0) (c .before .before .before .before .before .before .before .before .before .before .before .before .before .trimmed-line .ensures) (not-false _ (c .before .before .before .before .before .before .before .before .before .before .before .if1 .left)) (c .before .before .before .before .before .before .before .before .before .read-at .ensures .0) (c .before .before .before .before .before .before .before .before .before .read-at .ensures .1 .0) (c .before .before .before .before .before .if2 .left) (c .before .before .before .before .is-indented .ensures) (c .before .before .before .if3 .left) (c .before .verdict-of .ensures .0) (c .limit-finding .ensures)
+returns-4 c =
+    let start = c .before .before .before .before .before .before .before .before .before in
+    let p = start .before .before .before .before .before .before .before in
+    laws.step-block (p .args .text .now) (p .args .at) (p .args .join .now) (p .pre .0) (c .before .before .before .before .before .before .before .before .before .before .before .before .before .trimmed-line .ensures)
+    (not-false _ (c .before .before .before .before .before .before .before .before .before .before .before .if1 .left)) (start .read-at .ensures .0) (start .read-at .ensures .1 .0)
+    (c .before .before .before .before .before .if2 .left) (c .before .before .before .before .is-indented .ensures) (c .before .before .before .if3 .left) (c .before .verdict-of .ensures .0) (c .limit-finding .ensures)
 
 pub step-at-spec : {M : Type 1} → statement M
 step-at-spec =
