@@ -143,7 +143,7 @@ function say_why(f, l, p,   k, b) {
         mend = number[f] == 10 ? "shorten a value, or part the block in two" : "take some away, or part the block in two on lines of their own"
     } else if (k == 2) {
         what = "a byte order mark stands before the brace, so this is no block"
-        mend = "save the file without it: sed -i '" l "s/^\\xef\\xbb\\xbf//' FILE"
+        mend = "save the file without it: sed -i '" l "s/\\xef\\xbb\\xbf//' FILE"
     } else if (k == 3) {
         what = (b == 9 ? "a tab stands" : number[f] == 1 ? "a space stands" : "blanks stand") " before the brace, so this is no block"
         mend = "a block begins at the very front of its line: take away what stands before its brace"
@@ -172,11 +172,16 @@ function say_why(f, l, p,   k, b) {
     }
 }
 
-# What is wrong with a later line that isn't whole entries: where a brace closes in it the place is its front, and nothing more is known.
+# What is wrong with a later line that isn't whole entries, at the place where it stops being that: text behind a brace that closes, a quote that is still open, or an
+# entry's mistake.
 function say_line(f, l, p, b,   i, q) {
+    if (p > 0 && p < size[l] && raw[l, p - 1] == 125) {
+        what = ": text stands behind its brace"
+        mend = "give the text a line of its own; blocks stand back to back, without a space"
+        return
+    }
     q = 0
     for (i = 0; i < size[l]; i++) {
-        if (raw[l, i] == 125) { what = ""; mend = "a line that doesn't end in `}` has whole entries, parted by spaces, and no text behind a brace"; return }
         if (raw[l, i] == 92) i++
         else if (raw[l, i] == q) q = 0
         else if (!q && (raw[l, i] == 34 || raw[l, i] == 39)) q = raw[l, i] + 0
