@@ -1,4 +1,6 @@
 // The classes of bytes that document 01 names, with a function for each that stands between or in values, and the two modes.
+#![tactic(auto)]
+
 ghost use Rattle.std.specs.Prelude.{◌≡◌};
 ghost use Rattle.base_bytes.specs.Bytes.{is_space, is_punct, is_quote, is_plain, is_blank, is_indent, is_tail};
 

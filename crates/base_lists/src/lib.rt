@@ -1,4 +1,6 @@
 // Lists, most of them of bytes: the words that definitions are written in, laws about lists, and two functions over byte strings.
+#![tactic(auto)]
+
 ghost use Rattle.std.specs.Prelude.{◌≡◌};
 ghost use Rattle.std.proofs.lemmas.List.Edits.{sets};
 ghost use Rattle.base_lists.specs.Lists.{same};

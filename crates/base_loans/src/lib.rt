@@ -1,1 +1,3 @@
 // Laws for proofs that walk code by hand; no code.
+
+#![tactic(auto)]

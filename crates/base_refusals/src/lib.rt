@@ -1,4 +1,6 @@
 // The refusals of every entry, and their numbers.
+#![tactic(auto)]
+
 ghost use Rattle.std.specs.Prelude.{◌≡◌};
 ghost use Rattle.base_refusals.specs.Numbers.{number_of, outcome_no};
 
