@@ -5,7 +5,7 @@ ghost use Rattle.std.specs.Prelude.{◌≡◌};
 ghost use Rattle.base_bytes.specs.Bytes.{is_space, is_punct, is_quote, is_plain, is_blank, is_indent, is_tail};
 
 // Which bytes part tokens: spaces alone, or also CR and LF.
-#[derive(Drop)]
+#[derive(Clone, Copy)]
 pub enum Mode {
     Strict,
     Loose,

@@ -1,4 +1,6 @@
 // The bytes of names, keys and tags: their classes in one table, a test for each kind of byte, and how far a name goes.
+#![tactic(auto)]
+
 ghost use Rattle.std.specs.Prelude.{◌≡◌, ◌+◌, drop};
 ghost use Rattle.base_lists.specs.Lists.{run};
 ghost use Rattle.base_bytes.specs.Bytes.{is_letter, is_digit, is_alnum, is_name_start, is_name_part, is_key_start};

@@ -7,7 +7,7 @@ ghost use Rattle.base_refusals.specs.Numbers.{number_of, outcome_no};
 // The longest text that is read, joined or written.
 pub const MAX_TEXT: usize = 65535;
 
-#[derive(Drop)]
+#[derive(Clone, Copy)]
 pub enum Refusal {
     TextTooLong,
     NotUtf8,
@@ -32,7 +32,7 @@ pub enum Refusal {
 }
 
 // Whether something is refused, and by what.
-#[derive(Drop)]
+#[derive(Clone, Copy)]
 pub enum Outcome {
     Passed,
     Refused(Refusal),

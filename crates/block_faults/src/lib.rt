@@ -7,7 +7,7 @@ use block_grammar::Place;
 use text_names::Tested;
 
 // Nothing is wrong; or at that place stands what opens no block, a brace that isn't closed, or the byte at which a payload went wrong.
-#[derive(Drop)]
+#[derive(Clone, Copy)]
 pub enum Fault {
     Good,
     Behind(usize),

@@ -1,28 +1,28 @@
 // The payload grammar: definitions and theorems, and as code only the types that scans and the quick test are made of.
 
 // The quote that the search stands in, by its byte.
-#[derive(Drop)]
+#[derive(Clone, Copy)]
 pub enum Quote {
     Out,
     In(u8),
 }
 
 // Where the search stands: in which quote, and whether a backslash covers the next byte.
-#[derive(Drop)]
+#[derive(Clone, Copy)]
 pub struct Scan {
     pub quote: Quote,
     pub escaped: bool,
 }
 
 // A place of a text, or none.
-#[derive(Drop)]
+#[derive(Clone, Copy)]
 pub enum Place {
     Nothing,
     At(usize),
 }
 
 // Where the quick test stands: between tokens, behind `#` or `.`, in the name behind that, in a key or bare name, behind `=`.
-#[derive(Drop)]
+#[derive(Clone, Copy)]
 pub enum Walk {
     Edge,
     Sigil,

@@ -7,7 +7,7 @@ ghost use Rattle.block_next_token.specs.Walk.{gone_to, step_at, set_down, at_fro
 use base_bytes::Mode;
 use block_tokens::Token;
 
-#[derive(Drop)]
+#[derive(Clone, Copy)]
 pub struct Walker<'a> {
     pub text: &'a [u8],
     pub at: usize,
@@ -15,21 +15,21 @@ pub struct Walker<'a> {
 }
 
 // What stands ahead of a walker: the text's end, or a token, which is `Bad` where the bytes are none, with the place at which they stop being one.
-#[derive(Drop)]
+#[derive(Clone, Copy)]
 pub enum Ahead {
     End,
     Found(Token),
 }
 
 // What stood ahead, and the place behind it. A walker stays at the end and before bytes that are no token.
-#[derive(Drop)]
+#[derive(Clone, Copy)]
 pub struct Step {
     pub ahead: Ahead,
     pub at: usize,
 }
 
 // How many tokens there are, where all bytes belong to one or part two.
-#[derive(Drop)]
+#[derive(Clone, Copy)]
 pub enum Count {
     Bad,
     Tokens(usize),

@@ -7,7 +7,7 @@ ghost use Rattle.block_quick.specs.Inner.{Leads, Tells};
 use block_grammar::Walk;
 
 // What a byte does to the quick test: it answers, or it goes on.
-#[derive(Drop)]
+#[derive(Clone, Copy)]
 enum Turn {
     Refuse,
     Leave,

@@ -16,7 +16,7 @@ use text_names::Tested;
 
 // No token, with the place of the byte that no token can have there, or of the end; a tag, an id or a class by the range of its name;
 // a key by its range, with the place behind its value; a bare name.
-#[derive(Drop)]
+#[derive(Clone, Copy)]
 pub enum Token {
     Bad(usize),
     Tag(usize, usize),
@@ -214,7 +214,7 @@ pub fn token_at(s: &[u8], i: usize, mode: Mode) -> Token
 }
 
 // What a loop over tokens does at one: it stops, or goes on behind it.
-#[derive(Drop)]
+#[derive(Clone, Copy)]
 enum Behind {
     Wrong(usize),
     Next(usize),

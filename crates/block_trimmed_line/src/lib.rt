@@ -5,7 +5,7 @@ ghost use Rattle.block_payloads.specs.Payloads.{begins_open, ends_in_close};
 ghost use Rattle.block_trimmed_line.specs.Fronts.{front_of, begins_indented};
 
 // A line without the whitespace at its ends, where the next one begins, and which braces stand at its ends.
-#[derive(Drop)]
+#[derive(Clone, Copy)]
 pub struct Front {
     pub from: usize,
     pub to: usize,

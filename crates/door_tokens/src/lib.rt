@@ -10,7 +10,7 @@ use block_next_token::Ahead;
 use block_tokens::Token;
 
 // What stands ahead, by a number, and from where to where its name stands.
-#[derive(Drop)]
+#[derive(Clone, Copy)]
 struct Shape {
     kind: usize,
     from: usize,

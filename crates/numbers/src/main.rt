@@ -8,7 +8,7 @@ use sheet_numbers::Reported;
 use sheet_totals::{Added, Totals};
 
 // A report with one file more, and whether to go on.
-#[derive(Drop)]
+#[derive(Clone, Copy)]
 struct Turn {
     on: bool,
     totals: Totals,

@@ -10,7 +10,7 @@ use base_refusals::{Outcome, Refusal};
 use set_table::{Attrs, Filled};
 
 // What reading answers: the set of a block that was joined is of the second text, the joined bytes; that of any other is of the first, the lent one.
-#[derive(Drop)]
+#[derive(Clone, Copy)]
 pub struct Block {
     pub outcome: Outcome,
     pub set: Attrs,

@@ -20,7 +20,7 @@ use text_lines::Range;
 use text_names::Tested;
 
 // A refusal, that the payload has no reading and how far it could still be continued to one that has, or the place behind the block.
-#[derive(Drop)]
+#[derive(Clone, Copy)]
 pub enum Answer {
     Refused(Refusal),
     Unread(usize),
@@ -28,7 +28,7 @@ pub enum Answer {
 }
 
 // What is read at a brace: the set is the empty one where the answer is a refusal.
-#[derive(Drop)]
+#[derive(Clone, Copy)]
 pub struct Read {
     pub answer: Answer,
     pub set: Attrs,

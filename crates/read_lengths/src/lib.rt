@@ -11,14 +11,14 @@ use base_refusals::{Outcome, Refusal};
 use text_line_start::Start;
 
 // How many lines a block has, or why none is there.
-#[derive(Drop)]
+#[derive(Clone, Copy)]
 pub enum Length {
     Refused(Refusal),
     Lines(usize),
 }
 
 // What measuring answers, with how many bytes were joined, and the place behind the block.
-#[derive(Drop)]
+#[derive(Clone, Copy)]
 pub struct Measure {
     pub length: Length,
     pub lookahead: usize,

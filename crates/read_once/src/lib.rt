@@ -30,7 +30,7 @@ use read_tags::Tags;
 use set_table::{Attrs, Name, Origin, Row, Slot, SlotRecord, Text, Value};
 
 // What stands at a place: the close, bytes that no token has there, or a token.
-#[derive(Drop)]
+#[derive(Clone, Copy)]
 enum Sort {
     Close,
     Wrong,
@@ -43,7 +43,7 @@ enum Sort {
 }
 
 // It by places: a token's name from `name` up to `key`, and where the token ends or the bytes go wrong.
-#[derive(Drop)]
+#[derive(Clone, Copy)]
 struct Seen {
     pub sort: Sort,
     pub name: usize,
@@ -52,14 +52,14 @@ struct Seen {
 }
 
 // Where a tag stops, and how many bytes its last subtag has there.
-#[derive(Drop)]
+#[derive(Clone, Copy)]
 struct TagStop {
     pub end: usize,
     pub size: usize,
 }
 
 // What a value is: its bytes as they stand, bytes that were quoted, or nothing behind a bare name.
-#[derive(Drop)]
+#[derive(Clone, Copy)]
 enum Kind {
     Plain,
     Quoted,
@@ -67,7 +67,7 @@ enum Kind {
 }
 
 // A value of this kind from `from` up to `to`.
-#[derive(Drop)]
+#[derive(Clone, Copy)]
 struct Span {
     pub kind: Kind,
     pub from: usize,
@@ -75,7 +75,7 @@ struct Span {
 }
 
 // What the walk comes to: the close, a wrong byte, or something that is put; `Lang` is a key named so, `Tag` what `:` gives.
-#[derive(Drop)]
+#[derive(Clone, Copy)]
 enum Code {
     Close,
     Wrong,
@@ -88,7 +88,7 @@ enum Code {
 
 // What is put is the value from `from` up to `to`, under the name from `name` up to `key`; then come the pieces of a class value
 // from `at` up to `end`, and the tokens from `next` on.
-#[derive(Drop)]
+#[derive(Clone, Copy)]
 struct Moved {
     pub code: Code,
     pub kind: Kind,

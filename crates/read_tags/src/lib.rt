@@ -19,14 +19,14 @@ use block_tokens::Token;
 use read_brace::{Answer, Read};
 
 // Whether a value of `lang` may be any, or has to be empty or a well-formed tag.
-#[derive(Drop)]
+#[derive(Clone, Copy)]
 pub enum Tags {
     Any,
     WellFormed,
 }
 
 // What a token says of `lang`, where the tokens before it say whether a value passes: the same with it, and the place behind the token.
-#[derive(Drop)]
+#[derive(Clone, Copy)]
 enum TagStep {
     End,
     Bad,

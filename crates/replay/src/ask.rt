@@ -4,7 +4,7 @@ use crate::{fields, merging};
 
 // The number of a request's word in the list below, its numbers, that of its mode, how many bytes its two texts have, and how many the join
 // buffer has.
-#[derive(Drop)]
+#[derive(Clone, Copy)]
 pub(crate) struct Ask {
     pub(crate) word: usize,
     pub(crate) x: usize,
@@ -51,7 +51,7 @@ pub(crate) const LEAF_AT: usize = 40;
 const UNKNOWN: usize = 45;
 
 // How many fields a request has, and those that hold its numbers and its texts, 0 for none.
-#[derive(Drop)]
+#[derive(Clone, Copy)]
 struct Form {
     count: usize,
     x: usize,

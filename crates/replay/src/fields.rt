@@ -2,14 +2,14 @@
 ghost use Rattle.std.specs.Prelude.{◌≤◌};
 
 // What a field says: a number, or how many bytes it put into the buffer; 1 and 0 where it is bad, else 0 and that.
-#[derive(Drop)]
+#[derive(Clone, Copy)]
 pub(crate) struct Said {
     pub(crate) bad: u8,
     pub(crate) n: usize,
 }
 
 // A byte, or that there is none.
-#[derive(Drop)]
+#[derive(Clone, Copy)]
 struct Byte {
     bad: u8,
     b: u8,

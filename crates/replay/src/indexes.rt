@@ -6,7 +6,7 @@ use sheet_index::{Built, Counted, LookUp};
 
 // What a request lends: how many bytes to join in, how many rows and how many bytes of index text, and how many fields stand before these; 1 where one
 // is bad.
-#[derive(Drop)]
+#[derive(Clone, Copy)]
 struct Lent {
     bad: u8,
     count: usize,
@@ -16,7 +16,7 @@ struct Lent {
 }
 
 // A number lent, how many fields stand before it, and 1 where it is bad.
-#[derive(Drop)]
+#[derive(Clone, Copy)]
 struct Taken {
     bad: u8,
     count: usize,
@@ -387,7 +387,7 @@ fn put_found(output: &mut [u8], at: usize, found: LookUp) -> usize {
 }
 
 // An edit and the index before it: 1 where a field is bad, the lines that were replaced, and how many bytes the old text, the new one and the index have.
-#[derive(Drop)]
+#[derive(Clone, Copy)]
 struct Edit {
     bad: u8,
     first: usize,

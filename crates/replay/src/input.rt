@@ -2,7 +2,7 @@
 use crate::{answer, fields, out};
 
 // How many bytes wait at the front of each buffer, for their LF and to be written out, and whether there is more to read.
-#[derive(Drop)]
+#[derive(Clone, Copy)]
 struct State {
     read: usize,
     at: usize,
@@ -10,14 +10,14 @@ struct State {
 }
 
 // How many bytes came, and how many the buffer then has.
-#[derive(Drop)]
+#[derive(Clone, Copy)]
 struct Came {
     n: usize,
     have: usize,
 }
 
 // How far the lines of a buffer have been answered, and where the next answer goes.
-#[derive(Drop)]
+#[derive(Clone, Copy)]
 struct Answered {
     from: usize,
     at: usize,

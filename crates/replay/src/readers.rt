@@ -6,7 +6,7 @@ use read_tags::Tags;
 use set_table::{Attrs, Name, Origin, Row, Slot, SlotRecord, Text, Value};
 
 // What was read, and whether both readers said so.
-#[derive(Drop)]
+#[derive(Clone, Copy)]
 pub(crate) struct Twice {
     pub(crate) read: Read,
     pub(crate) alike: bool,

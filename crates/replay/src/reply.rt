@@ -5,7 +5,7 @@ use set_table::Attrs;
 use set_writer::Wrote;
 
 // The number of a phrase and what stands behind it: a number, or how many bytes of a buffer.
-#[derive(Drop)]
+#[derive(Clone, Copy)]
 pub(crate) struct Reply {
     first: usize,
     n: usize,

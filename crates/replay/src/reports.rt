@@ -5,7 +5,7 @@ use base_refusals::{Outcome, Refusal};
 use sheet_totals::{Added, Totals};
 
 // The numbers of a field, and 1 where it has no thirteen.
-#[derive(Drop)]
+#[derive(Clone, Copy)]
 struct Given {
     bad: u8,
     totals: Totals,

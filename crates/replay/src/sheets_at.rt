@@ -3,7 +3,7 @@ use crate::{fields, out, reply};
 use sheet_report::{Part, Told};
 
 // How far the answer goes, at which place and line the report goes on, and whether it does.
-#[derive(Drop)]
+#[derive(Clone, Copy)]
 struct State {
     to: usize,
     at: usize,

@@ -9,7 +9,7 @@ ghost use Rattle.run_endings.specs.Inner.{Edge, Before, next_or, verdict_of, bac
 use base_refusals::{Outcome, Refusal};
 use run_refused::RunReply;
 
-#[derive(Drop)]
+#[derive(Clone, Copy)]
 pub enum Ends {
     No,
     Yes,
@@ -17,14 +17,14 @@ pub enum Ends {
 }
 
 // Whether a text ends in a refused run, with the lookahead of the runs made.
-#[derive(Drop)]
+#[derive(Clone, Copy)]
 pub struct EndsRun {
     pub answer: Ends,
     pub lookahead: usize,
 }
 
 // What a run that was tried says of the text's end, or that the next is tried.
-#[derive(Drop)]
+#[derive(Clone, Copy)]
 enum Verdict {
     Told(Ends),
     Next,

@@ -14,7 +14,7 @@ use run_scanners::Hold;
 
 // What a run has when the next line comes: the length of the joined text, the column of the last open brace, what is added to the
 // first line's brace column, the quote that is left open, and the scan of the joined text for an open block.
-#[derive(Drop)]
+#[derive(Clone, Copy)]
 pub struct State {
     pub len: usize,
     pub brace: usize,
@@ -24,7 +24,7 @@ pub struct State {
 }
 
 // What a line does to a run: it refuses it, doesn't fit, is joined, or closes it.
-#[derive(Drop)]
+#[derive(Clone, Copy)]
 pub enum Effect {
     Broken,
     Full,

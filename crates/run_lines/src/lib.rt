@@ -11,7 +11,7 @@ use block_grammar::Quote;
 use run_joins::{Effect, State};
 
 // How many bytes and lines are joined, of how many untrimmed bytes, and where the line behind them begins.
-#[derive(Drop)]
+#[derive(Clone, Copy)]
 pub struct Joined {
     pub stop: Outcome,
     pub len: usize,

@@ -21,7 +21,7 @@ use text_lines::Line;
 
 // What is said of a run: it is refused and takes so many lines; it isn't, and a comment run was looked at over so many lines, or to the
 // end; or a refusal.
-#[derive(Drop)]
+#[derive(Clone, Copy)]
 pub enum RunReply {
     No(usize),
     Lines(usize),
@@ -30,7 +30,7 @@ pub enum RunReply {
 }
 
 // The answer, with the lookahead and how many bytes are joined.
-#[derive(Drop)]
+#[derive(Clone, Copy)]
 pub struct RefusedRun {
     pub answer: RunReply,
     pub lookahead: usize,
@@ -38,14 +38,14 @@ pub struct RefusedRun {
 }
 
 // What the first walk finds: no block, or one of so many lines, and whether one of them stands too far left.
-#[derive(Drop)]
+#[derive(Clone, Copy)]
 enum RefusedWalk {
     No(usize),
     Block(usize, bool),
 }
 
 // How the run over padded lines ends, and what it joined.
-#[derive(Drop)]
+#[derive(Clone, Copy)]
 struct Ran {
     stop: Outcome,
     len: usize,

@@ -10,7 +10,7 @@ ghost use Rattle.base_bytes.specs.Bytes.{is_quote, close_brace};
 use block_grammar::{Place, Quote, Scan};
 
 // Where the search for the last open brace stands: the column of the next byte, and the brace found so far.
-#[derive(Drop)]
+#[derive(Clone, Copy)]
 pub struct Seek {
     pub scan: Scan,
     pub column: usize,
@@ -18,14 +18,14 @@ pub struct Seek {
 }
 
 // Whether a block is open, and where its scanner stands.
-#[derive(Drop)]
+#[derive(Clone, Copy)]
 pub struct Held {
     pub scan: Scan,
     pub inside: bool,
 }
 
 // Dead: what was read is no run of blocks, whatever follows.
-#[derive(Drop)]
+#[derive(Clone, Copy)]
 pub enum Hold {
     Dead,
     Live(Held),

@@ -7,7 +7,7 @@ ghost use Rattle.run_spots.specs.Spots.{is_stray, inside_after, opens_by, spot_a
 use block_grammar::Scan;
 
 // Where a walk stands in a line: the column of the next byte, whether a block is open, and the column of the last brace that opened one.
-#[derive(Drop)]
+#[derive(Clone, Copy)]
 pub struct Spot {
     pub scan: Scan,
     pub column: usize,

@@ -14,7 +14,7 @@ use block_grammar::{Place, Quote, Scan};
 use text_names::Tested;
 
 // What the lines joined so far leave: where the next begins and where the last of them begins, the column of the last brace that opened, and the quote left open.
-#[derive(Drop)]
+#[derive(Clone, Copy)]
 pub struct Edge {
     pub at: usize,
     pub last: usize,
@@ -23,7 +23,7 @@ pub struct Edge {
 }
 
 // Why a run isn't joined further: a quote is left open in the line before; else no line is left; the next is blank; it isn't indented far enough; or it isn't whole entries.
-#[derive(Drop)]
+#[derive(Clone, Copy)]
 pub enum Why {
     End,
     Blank,
@@ -33,7 +33,7 @@ pub enum Why {
 }
 
 // Why, how many lines below the first, at which place, and the column beyond which a line has to be indented.
-#[derive(Drop)]
+#[derive(Clone, Copy)]
 pub struct Stop {
     pub why: Why,
     pub row: usize,
@@ -42,7 +42,7 @@ pub struct Stop {
 }
 
 // Where a place of the joined text stands: how many lines below the first, and at which place of the text.
-#[derive(Drop)]
+#[derive(Clone, Copy)]
 pub struct Source {
     pub row: usize,
     pub place: usize,

@@ -13,7 +13,7 @@ use set_keyed::Keyed;
 use set_table::{Attrs, Origin, Text, Value};
 
 // What a column says of the side on which its text stands.
-#[derive(Drop)]
+#[derive(Clone, Copy)]
 pub enum Align {
     Unset,
     Left,
@@ -22,7 +22,7 @@ pub enum Align {
 }
 
 // What a column says of the height at which its text stands.
-#[derive(Drop)]
+#[derive(Clone, Copy)]
 pub enum Valign {
     Unset,
     Top,
@@ -31,14 +31,14 @@ pub enum Valign {
 }
 
 // A column's width: none, that of a bare key, which has no bytes and no place, or the bytes of a range of one of the texts, which may be none.
-#[derive(Drop)]
+#[derive(Clone, Copy)]
 pub enum Width {
     Unset,
     Empty,
     Range(Origin, u16, u16),
 }
 
-#[derive(Drop)]
+#[derive(Clone, Copy)]
 pub struct Column {
     pub align: Align,
     pub valign: Valign,
@@ -46,14 +46,14 @@ pub struct Column {
 }
 
 // The first `count` columns count; those past it are unset.
-#[derive(Drop)]
+#[derive(Clone, Copy)]
 pub struct Columns {
     pub columns: [Column; Columns::MOST],
     pub count: u8,
 }
 
 // A table that is handed out, or the one without a column and why none is.
-#[derive(Drop)]
+#[derive(Clone, Copy)]
 pub struct Made {
     pub outcome: Outcome,
     pub table: Columns,

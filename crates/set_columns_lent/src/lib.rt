@@ -11,7 +11,7 @@ use set_columns::{Columns, Made};
 use set_table::Attrs;
 
 // What becomes of a lent table: what the making came to, and what the table then holds.
-#[derive(Drop)]
+#[derive(Clone, Copy)]
 pub struct Laid {
     pub outcome: Outcome,
     pub table: Columns,

@@ -6,7 +6,7 @@ ghost use Rattle.set_commas.specs.Commas.{comma_pieces, cut_at, cut_paper};
 use text_escapes::Piece;
 
 // Where a piece ends: at the value's end, or at a comma, with where the next piece begins.
-#[derive(Drop)]
+#[derive(Clone, Copy)]
 pub enum Cut {
     Last(usize),
     Comma(usize, usize),

@@ -21,7 +21,7 @@ use block_tokens::Token;
 use set_table::{Attrs, Filled, Name, Origin, Row, Slot, SlotRecord, Text, Value};
 
 // What a value is: its bytes as they stand, bytes that were quoted, or nothing behind a bare name.
-#[derive(Drop)]
+#[derive(Clone, Copy)]
 enum Kind {
     Plain,
     Quoted,
@@ -29,7 +29,7 @@ enum Kind {
 }
 
 // Where a walk over a payload stands: before the pieces of a class value from `at` up to `to`, and then the tokens from `next` on.
-#[derive(Drop)]
+#[derive(Clone, Copy)]
 struct Cursor {
     pub at: usize,
     pub to: usize,
@@ -38,7 +38,7 @@ struct Cursor {
 }
 
 // What is put into the set next, and where the walk goes on.
-#[derive(Drop)]
+#[derive(Clone, Copy)]
 enum Push {
     End,
     Bad,
@@ -48,7 +48,7 @@ enum Push {
 }
 
 // The block that stands at a place: none, since the line ends there; one that has no reading; or the one that closes at a place.
-#[derive(Drop)]
+#[derive(Clone, Copy)]
 enum Following {
     Last,
     Unread,

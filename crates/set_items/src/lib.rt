@@ -15,7 +15,7 @@ use base_refusals::{Outcome, Refusal};
 use set_table::{Attrs, Name, Origin, Row, Slot, Text, Value};
 
 // An item of a set by what it is of, or that there is none.
-#[derive(Drop)]
+#[derive(Clone, Copy)]
 pub enum Item {
     Missing,
     Id(Value),
@@ -24,14 +24,14 @@ pub enum Item {
 }
 
 // How many there are, and the one that was asked for.
-#[derive(Drop)]
+#[derive(Clone, Copy)]
 pub struct Nth {
     pub count: usize,
     pub item: Item,
 }
 
 // Whether an item was laid, and how many bytes its name and its value have.
-#[derive(Drop)]
+#[derive(Clone, Copy)]
 pub struct Laid {
     pub outcome: Outcome,
     pub name: usize,
@@ -39,7 +39,7 @@ pub struct Laid {
 }
 
 // The slot that has a name.
-#[derive(Drop)]
+#[derive(Clone, Copy)]
 enum Found {
     Nothing,
     At(Slot),

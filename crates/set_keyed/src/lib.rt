@@ -14,7 +14,7 @@ use text_digits::{Decimal, Digits};
 use text_escapes::Piece;
 
 // The value of a key, or that no slot has it.
-#[derive(Drop)]
+#[derive(Clone, Copy)]
 pub enum Keyed {
     Missing,
     Given(Value),

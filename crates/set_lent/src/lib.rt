@@ -13,7 +13,7 @@ use set_loose::{Consumed, Did};
 use set_table::{Attrs, Filled};
 
 // What becomes of a lent set into which one set is merged from before and another from behind.
-#[derive(Drop)]
+#[derive(Clone, Copy)]
 pub struct Both {
     pub led: Outcome,
     pub merged: Outcome,
@@ -21,7 +21,7 @@ pub struct Both {
 }
 
 // What becomes of a lent set out of which the key `loose` is taken: the answer, and what the set then holds.
-#[derive(Drop)]
+#[derive(Clone, Copy)]
 pub struct Left {
     pub did: Did,
     pub set: Attrs,

@@ -11,7 +11,7 @@ use base_refusals::{Outcome, Refusal};
 use set_table::{Attrs, Name, Origin, Row, Slot, SlotRecord, Text, Value};
 
 // Whether the key was there without a value, and so was taken out.
-#[derive(Drop)]
+#[derive(Clone, Copy)]
 pub enum Did {
     Refused(Refusal),
     Yes,
@@ -19,14 +19,14 @@ pub enum Did {
 }
 
 // The answer, and the set that is left; that of a refusal is empty.
-#[derive(Drop)]
+#[derive(Clone, Copy)]
 pub struct Consumed {
     pub did: Did,
     pub set: Attrs,
 }
 
 // What becomes of a slot.
-#[derive(Drop)]
+#[derive(Clone, Copy)]
 enum Kept {
     Gone,
     Stays(Slot),

@@ -13,7 +13,7 @@ use base_refusals::{Outcome, Refusal};
 use set_table::{Attrs, Filled, Name, Origin, Row, Slot, SlotRecord, Text, Value};
 
 // What becomes of a set when something is put into it: whether that fits, and the set behind it.
-#[derive(Drop)]
+#[derive(Clone, Copy)]
 struct Merging {
     pub fits: bool,
     pub set: Attrs,

@@ -9,53 +9,53 @@ ghost use Rattle.set_table.specs.Rows.{key_at};
 use base_refusals::Outcome;
 
 // Which of the two lent texts a range is of.
-#[derive(Drop)]
+#[derive(Clone, Copy)]
 pub enum Origin {
     First,
     Second,
 }
 
 // What an id, a class or a key's value is: bytes of a text as they stand, bytes of it that were quoted, or nothing from a bare name.
-#[derive(Drop)]
+#[derive(Clone, Copy)]
 pub enum Text {
     Plain(Origin, u16, u16),
     Quoted(Origin, u16, u16),
     Empty,
 }
 
-#[derive(Drop)]
+#[derive(Clone, Copy)]
 pub struct Value {
     pub text: Text,
 }
 
 // A key's name: bytes of a text, or the fixed name `lang` that `:` gives.
-#[derive(Drop)]
+#[derive(Clone, Copy)]
 pub enum Name {
     Range(Origin, u16, u16),
     Lang,
 }
 
-#[derive(Drop)]
+#[derive(Clone, Copy)]
 pub struct Row {
     pub name: Name,
     pub value: Value,
 }
 
 // What stands at a place of the order: the id, the classes, or the key of a row.
-#[derive(Drop)]
+#[derive(Clone, Copy)]
 pub enum Slot {
     Key(u8),
     Id,
     Class,
 }
 
-#[derive(Drop)]
+#[derive(Clone, Copy)]
 pub struct SlotRecord {
     pub slot: Slot,
 }
 
 // The first `nclass` classes, `nkey` keys and `norder` slots count; in a set handed out the rows past them are zero.
-#[derive(Drop)]
+#[derive(Clone, Copy)]
 pub struct Attrs {
     pub id: Value,
     pub given: bool,
@@ -68,7 +68,7 @@ pub struct Attrs {
 }
 
 // A set that is handed out, or the empty one and why none is.
-#[derive(Drop)]
+#[derive(Clone, Copy)]
 pub struct Filled {
     pub outcome: Outcome,
     pub set: Attrs,

@@ -15,7 +15,7 @@ use set_table::{Attrs, Name, Origin, Row, Slot, Text, Value};
 use text_escapes::Piece;
 
 // How many bytes were written, or why none were.
-#[derive(Drop)]
+#[derive(Clone, Copy)]
 pub enum Wrote {
     Refused(Refusal),
     Bytes(usize),

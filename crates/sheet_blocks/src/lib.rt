@@ -13,7 +13,7 @@ use read_blocks::Block;
 use set_table::Attrs;
 
 // The next block: how many lines are gone past before it, where its first line begins, and what it reads. With no block `block.lines` is 0.
-#[derive(Drop)]
+#[derive(Clone, Copy)]
 pub struct Next {
     pub skipped: usize,
     pub at: usize,

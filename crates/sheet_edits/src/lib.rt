@@ -8,7 +8,7 @@ ghost use Rattle.base_bytes.specs.Bytes.{lf};
 use text_lines::Line;
 
 // Where the first of some lines begins and where the line behind the last does; or that they aren't lines of the text.
-#[derive(Drop)]
+#[derive(Clone, Copy)]
 enum Span {
     Missing,
     At(usize, usize),
@@ -16,7 +16,7 @@ enum Span {
 
 // Where the lines that are read again begin, where they end in the old text and where in the new one; or that the new text isn't the old one with these
 // lines replaced.
-#[derive(Drop)]
+#[derive(Clone, Copy)]
 pub enum Again {
     Missing,
     Lines(usize, usize, usize),

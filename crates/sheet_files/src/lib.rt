@@ -1,12 +1,14 @@
 // The sheets that a program is to read: the files that its arguments name, one after the other, or standard input where there are none. What stands in
 // files and in arguments is nothing that can be proved, so these functions promise no more than that they are safe.
+#![tactic(auto)]
+
 use base_refusals::Refusal;
 
 // One byte more than a sheet may have is enough to refuse it, so no further one is read.
 pub const TEXT: usize = base_refusals::MAX_TEXT + 1;
 
 // How many bytes a sheet has, or that there is no such file.
-#[derive(Drop)]
+#[derive(Clone, Copy)]
 pub enum Sheet {
     Missing,
     Bytes(usize),

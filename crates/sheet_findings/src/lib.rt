@@ -16,7 +16,7 @@ use run_stops::{Stop, Why};
 // What is wrong with a line: nothing; its block is refused by a limit; a byte order mark, or a space or a tab, stands before its brace; the payload goes wrong; text
 // stands behind the last brace; the block is never closed; a quote is left open; a blank line stands in it; a line of it isn't indented far enough (`Left`), or that is
 // all that is wrong with it (`Shallow`); a line of it isn't whole entries.
-#[derive(Drop)]
+#[derive(Clone, Copy)]
 pub enum Kind {
     Clear,
     Limit,
@@ -34,7 +34,7 @@ pub enum Kind {
 
 // What is wrong, how many lines below the first, at which place of the text, and its number: the refusal of a limit, the bytes before the brace of an indented block,
 // the column beyond which a line has to be indented; else 0.
-#[derive(Drop)]
+#[derive(Clone, Copy)]
 pub struct Finding {
     pub kind: Kind,
     pub row: usize,
@@ -43,7 +43,7 @@ pub struct Finding {
 }
 
 // A line's finding, how many lines it takes, and where the next begins.
-#[derive(Drop)]
+#[derive(Clone, Copy)]
 pub struct Step {
     pub finding: Finding,
     pub lines: usize,
@@ -51,7 +51,7 @@ pub struct Step {
 }
 
 // Why nothing is looked at; that nothing more is found; or a finding.
-#[derive(Drop)]
+#[derive(Clone, Copy)]
 pub enum Told {
     Refused(Refusal),
     Done,
@@ -59,7 +59,7 @@ pub enum Told {
 }
 
 // The next finding: how many lines are gone past before its line, where that begins, how many it takes, and where to go on.
-#[derive(Drop)]
+#[derive(Clone, Copy)]
 pub struct Next {
     pub told: Told,
     pub skipped: usize,

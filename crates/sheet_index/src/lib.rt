@@ -21,21 +21,21 @@ use set_table::Attrs;
 use sheet_records::{IndexRow, PutLine, RecordAt};
 
 // How many records, and how many bytes of index text, or why none.
-#[derive(Drop)]
+#[derive(Clone, Copy)]
 pub enum Built {
     Refused(Refusal),
     Index(usize, usize),
 }
 
 // How many rows were read, or why none.
-#[derive(Drop)]
+#[derive(Clone, Copy)]
 pub enum Counted {
     Refused(Refusal),
     Rows(usize),
 }
 
 // The first line, the line count and the offset of the record that was looked for, or that there is none.
-#[derive(Drop)]
+#[derive(Clone, Copy)]
 pub enum LookUp {
     Refused(Refusal),
     Missing,
@@ -43,7 +43,7 @@ pub enum LookUp {
 }
 
 // How many records a sheet has, and how many bytes their index.
-#[derive(Drop)]
+#[derive(Clone, Copy)]
 struct Sizes {
     records: usize,
     bytes: usize,

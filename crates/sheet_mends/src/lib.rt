@@ -28,7 +28,7 @@ use sheet_index::Built;
 use sheet_records::{IndexRow, RecordAt};
 
 // Records that are told one after the other: whether their lines stand in an index, how many they are, and where the next line begins.
-#[derive(Drop)]
+#[derive(Clone, Copy)]
 struct Progress {
     good: bool,
     records: usize,
@@ -37,7 +37,7 @@ struct Progress {
 
 // What is seen of an old text and an index: whether it is the text's own; how many lines stand before those that are read again and how many before those behind
 // them; how many records stand before them, and where in the index their records begin and end.
-#[derive(Drop)]
+#[derive(Clone, Copy)]
 struct Seen {
     good: bool,
     line: usize,

@@ -17,14 +17,14 @@ use text_digits::{Decimal, Digits};
 pub const REPORT: usize = 384;
 
 // The numbers that a text has, or that it is no report; then the report is the empty one.
-#[derive(Drop)]
+#[derive(Clone, Copy)]
 pub struct Reported {
     pub good: bool,
     pub totals: Totals,
 }
 
 // A number and the place behind its LF, if there is one.
-#[derive(Drop)]
+#[derive(Clone, Copy)]
 enum Field {
     None,
     Is(u64, usize),

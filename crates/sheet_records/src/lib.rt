@@ -17,14 +17,14 @@ use base_refusals::{Outcome, Refusal};
 use text_escapes::Written;
 
 // A number and the place behind it.
-#[derive(Drop)]
+#[derive(Clone, Copy)]
 pub enum NumberAt {
     Unread,
     Read(usize, usize),
 }
 
 // A record's numbers, where its id stands in the index, and where the next line begins. Without an id both places are 0.
-#[derive(Drop)]
+#[derive(Clone, Copy)]
 pub struct IndexRow {
     pub line: usize,
     pub count: usize,
@@ -34,14 +34,14 @@ pub struct IndexRow {
     pub next: usize,
 }
 
-#[derive(Drop)]
+#[derive(Clone, Copy)]
 pub enum RecordAt {
     Bad,
     Good(IndexRow),
 }
 
 // The row of a line that was written, or that it had no room.
-#[derive(Drop)]
+#[derive(Clone, Copy)]
 pub enum PutLine {
     NoRoom,
     Row(IndexRow),

@@ -26,7 +26,7 @@ use set_writer::Wrote;
 pub const LINE: usize = base_refusals::MAX_TEXT + 65;
 
 // Whether the report goes on, or why no block is reported.
-#[derive(Drop)]
+#[derive(Clone, Copy)]
 pub enum Told {
     Refused(Refusal),
     More,
@@ -34,7 +34,7 @@ pub enum Told {
 }
 
 // How many bytes are laid, and at which place and line the next call goes on.
-#[derive(Drop)]
+#[derive(Clone, Copy)]
 pub struct Part {
     pub told: Told,
     pub len: usize,

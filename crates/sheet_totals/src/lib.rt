@@ -1,4 +1,6 @@
 // The thirteen numbers of a report over sheets, and how two reports add up.
+#![tactic(auto)]
+
 ghost use Rattle.std.specs.Prelude.{◌≡◌, false, ltb};
 ghost use Rattle.base_refusals.specs.Orders.{on_paper};
 ghost use Rattle.sheet_totals.specs.Totals.{max_total, empty_totals, added_at, numbers_added, add_totals, added_paper, add_order};
@@ -6,13 +8,13 @@ ghost use Rattle.sheet_totals.specs.Totals.{max_total, empty_totals, added_at, n
 use base_refusals::{Outcome, Refusal};
 
 // Sheets, printed blocks, wrapped ones, refusals by 1, 2, 6, 7 and 10, classes, keys, joined lines, lookahead, and the longest block's lines.
-#[derive(Drop)]
+#[derive(Clone, Copy)]
 pub struct Totals {
     pub numbers: [u64; Totals::PLACES],
 }
 
 // Whether every number fits 64 bits, and the report: where one doesn't fit, the one before.
-#[derive(Drop)]
+#[derive(Clone, Copy)]
 pub struct Added {
     pub outcome: Outcome,
     pub totals: Totals,

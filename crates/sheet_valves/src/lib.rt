@@ -17,25 +17,25 @@ use text_digits::Decimal;
 pub const MAX_VALVE: u64 = 255;
 
 // The valve of a wheel, or none.
-#[derive(Drop)]
+#[derive(Clone, Copy)]
 pub enum Valve {
     Unfilled,
     Fitted(u8),
 }
 
-#[derive(Drop)]
+#[derive(Clone, Copy)]
 pub struct Cell {
     pub valve: Valve,
 }
 
 // Variant by variant, in each front-left, front-right, rear-left, rear-right.
-#[derive(Drop)]
+#[derive(Clone, Copy)]
 pub struct Table {
     pub cells: [Cell; Table::CELLS],
 }
 
 // What a block that counts says: the valve of one wheel of one variant. Wheels are counted from 0.
-#[derive(Drop)]
+#[derive(Clone, Copy)]
 pub struct Setting {
     pub variant: u8,
     pub wheel: u8,
@@ -43,7 +43,7 @@ pub struct Setting {
 }
 
 // The rows of the three keys of a set, each `Attrs::KEYS` where no slot has the key.
-#[derive(Drop)]
+#[derive(Clone, Copy)]
 struct KeyRows {
     variant: usize,
     wheel: usize,
@@ -51,7 +51,7 @@ struct KeyRows {
 }
 
 // What a block says: nothing of the three keys, why it is refused, or a setting.
-#[derive(Drop)]
+#[derive(Clone, Copy)]
 pub enum Heard {
     NoKey,
     Refused(Refusal),

@@ -14,7 +14,7 @@ use sheet_valves::{Heard, Table};
 
 // The table, empty on every refusal; the first line and the line count of the block that is refused, 0 and 0 where no block is; and for 21 the first variant
 // that has one valve at two wheels, else 0.
-#[derive(Drop)]
+#[derive(Clone, Copy)]
 pub struct Variants {
     pub outcome: Outcome,
     pub line: usize,

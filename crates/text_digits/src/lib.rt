@@ -6,7 +6,7 @@ ghost use Rattle.text_digits.specs.Decimal.{decimal};
 ghost use Rattle.text_digits.specs.Digits.{bounded, first_digit, grown, digits_step, read_out, digits_paper, decimal_paper};
 
 // What the bytes read so far are: none yet, a lone zero, a number from 1 on, or no such number, which stays.
-#[derive(Drop)]
+#[derive(Clone, Copy)]
 pub enum Digits {
     NoDigit,
     Zero,
@@ -15,7 +15,7 @@ pub enum Digits {
 }
 
 // The number that was read, if there is one.
-#[derive(Drop)]
+#[derive(Clone, Copy)]
 pub enum Decimal {
     None,
     Is(u64),

@@ -1,18 +1,20 @@
 // Unescaping without a second buffer: stepping, comparing and writing.
+#![tactic(auto)]
+
 ghost use Rattle.std.specs.Prelude.{◌≡◌, ◌+◌, ◌≤◌, ◌<◌, length};
 ghost use Rattle.std.proofs.lemmas.List.Edits.{sets};
 ghost use Rattle.base_lists.specs.Lists.{same};
 ghost use Rattle.text_escapes.specs.Unescape.{unescape, is_pair, piece_at, piece_paper, written_to, written_paper, content_of};
 
 // A byte of the unescaped text, and where the raw text goes on.
-#[derive(Drop)]
+#[derive(Clone, Copy)]
 pub enum Piece {
     End,
     Byte(u8, usize),
 }
 
 // Where what was written ends, or that it had no room.
-#[derive(Drop)]
+#[derive(Clone, Copy)]
 pub enum Written {
     Full,
     To(usize),

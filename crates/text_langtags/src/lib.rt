@@ -8,7 +8,7 @@ ghost use Rattle.text_langtags.specs.Inner.{no_byte_yet, longer, subtag_with, sh
 use text_escapes::Piece;
 
 // What a whole subtag is, by its length and its bytes.
-#[derive(Drop)]
+#[derive(Clone, Copy)]
 enum SubtagKind {
     Other,
     X,
@@ -23,7 +23,7 @@ enum SubtagKind {
 }
 
 // Where a tag stands behind a subtag. `Body` tells what may still come: 5, 4, 3 for three, two or one extlang, 2 for a script, 1 for a region, 0 for variants.
-#[derive(Drop)]
+#[derive(Clone, Copy)]
 enum Stage {
     Bad,
     Start,
@@ -35,7 +35,7 @@ enum Stage {
 }
 
 // The present subtag: how many bytes it has, with 9 for more than 8; whether it begins with x or a digit; whether all are letters, digits, or either.
-#[derive(Drop)]
+#[derive(Clone, Copy)]
 struct Shape {
     pub size: u8,
     pub x: bool,
@@ -46,7 +46,7 @@ struct Shape {
 }
 
 // A tag that is being read: the stage before the present subtag, that subtag, and the bytes so far as a number, while they are few.
-#[derive(Drop)]
+#[derive(Clone, Copy)]
 struct TagWalk {
     pub stage: Stage,
     pub shape: Shape,

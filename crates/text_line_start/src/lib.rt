@@ -6,7 +6,7 @@ use base_refusals::{Outcome, Refusal};
 use text_lines::Line;
 
 // Where a line begins, or why there is none.
-#[derive(Drop)]
+#[derive(Clone, Copy)]
 pub enum Start {
     Refused(Refusal),
     At(usize),

@@ -1,4 +1,6 @@
 // Trimming, blank lines, and the lines of a text.
+#![tactic(auto)]
+
 ghost use Rattle.std.specs.Prelude.{◌≡◌, ◌||◌, ◌+◌, ◌≤◌, eqb, ltb, length, drop};
 ghost use Rattle.base_lists.specs.Lists.{run};
 ghost use Rattle.base_bytes.specs.Bytes.{is_space, lf};
@@ -6,21 +8,21 @@ ghost use Rattle.text_lines.specs.Trim.{trim_end, trim_range, is_blank_line};
 ghost use Rattle.text_lines.specs.Lines.{eol, line_from, line_of, line_paper, numbered_line};
 
 // The bytes from `from` up to `to` of a text.
-#[derive(Drop)]
+#[derive(Clone, Copy)]
 pub struct Range {
     pub from: usize,
     pub to: usize,
 }
 
 // Where a line lies, without its LF and the CR that is dropped with it.
-#[derive(Drop)]
+#[derive(Clone, Copy)]
 pub enum Line {
     Missing,
     At(Range),
 }
 
 // Where a line's bytes end, and where the next line begins.
-#[derive(Drop)]
+#[derive(Clone, Copy)]
 pub struct LineEnd {
     pub to: usize,
     pub next: usize,

@@ -6,7 +6,7 @@ ghost use Rattle.text_names.specs.Names.{is_name, is_key, is_bare_name, name_pla
 ghost use Rattle.text_names.specs.Computed.{tag_from, is_tag, language_by, is_language, tag_passes, tag_place};
 
 // The bytes are what was asked for, or can be continued to it up to that place and no further.
-#[derive(Drop)]
+#[derive(Clone, Copy)]
 pub enum Tested {
     Whole,
     Stops(usize),

@@ -1,4 +1,6 @@
 // Columns: characters from 0, with tab stops of 4.
+#![tactic(auto)]
+
 ghost use Rattle.std.specs.Prelude.{◌≡◌};
 ghost use Rattle.text_tabs.specs.Columns.{tab_stop, column_after, columns_from, indent_columns, capped};
 

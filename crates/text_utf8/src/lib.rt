@@ -1,4 +1,6 @@
 // Well-formed UTF-8 (RFC 3629, section 4), character boundaries, and the count of characters.
+#![tactic(auto)]
+
 ghost use Rattle.std.specs.Prelude.{◌≡◌, ◌+◌, ◌≤◌, ◌<◌, length, get_or, false, cond, not, leb, eqb};
 ghost use Rattle.base_bytes.specs.Bytes.{is_tail};
 ghost use Rattle.text_utf8.specs.Computed.{is_utf8};

@@ -6,7 +6,7 @@ mod rfc3629;
 mod rfc5646;
 
 // How many examples hold, and how many fail.
-#[derive(Drop)]
+#[derive(Clone, Copy)]
 pub(crate) struct Tally {
     pub(crate) hold: u64,
     pub(crate) fail: u64,
