@@ -1,1 +1,3 @@
 // Theorems about texts: UTF-8, escapes, tab stops, lines.
+
+#![tactic(auto)]

@@ -1,4 +1,6 @@
 // The two checks with which every entry begins that reads a whole text.
+#![tactic(auto)]
+
 ghost use Rattle.std.specs.Prelude.{◌≡◌};
 ghost use Rattle.text_checks.specs.Check.{text_order, both_order, check_of, both_of, is_text};
 ghost use Rattle.base_refusals.specs.Numbers.{outcome_no};

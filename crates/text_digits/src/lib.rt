@@ -1,4 +1,6 @@
 // Decimal numbers without a leading zero: reading one byte by byte, up to a bound that the caller names, and writing one.
+#![tactic(auto)]
+
 ghost use Rattle.std.specs.Prelude.{◌≡◌, ◌∷◌, ◌+◌, ◌*◌, length};
 ghost use Rattle.std.proofs.lemmas.List.Edits.{sets};
 ghost use Rattle.base_bytes.specs.Bytes.{tab};

@@ -1,4 +1,6 @@
 // Where the line of a number begins.
+#![tactic(auto)]
+
 ghost use Rattle.std.specs.Prelude.{◌≡◌};
 ghost use Rattle.text_line_start.specs.Starts.{start_at, start_paper, numbered_start};
 

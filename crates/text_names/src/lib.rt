@@ -1,4 +1,6 @@
 // The three kinds of name, and language tags: whether bytes are one, and else how far they can be continued to one.
+#![tactic(auto)]
+
 ghost use Rattle.std.specs.Prelude.{◌≡◌, ◌+◌, ◌≤◌, length};
 ghost use Rattle.base_letters.specs.Classes.{is_of};
 ghost use Rattle.text_names.specs.Tested.{tested, says_whole, tested_paper};

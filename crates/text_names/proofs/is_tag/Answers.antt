@@ -7,15 +7,8 @@ use Rattle.text_names.specs.Tested.{tested_paper}
 use Rattle.text_names.specs.Computed.{is_tag, tag_place}
 use Rattle.text_names.proofs.Tag as tag
 use borrow.Author.Rules.{rules}
-use Rattle.text_names.proofs.is_tag.Statement.{statement}
-use Rattle.text_names.proofs.is_tag.Tie as tie
+use Rattle.text_names.proofs.is_tag.Goals as goal
 
-tag-by-requires : tie.Need-tag-by-requires
-tag-by-requires c κs = search rules
-
-returns : tie.Need-returns
+pub returns : goal.returns
 unfolding class_of is_letter is_digit within is_tag tag_place
-returns c = said tested_paper refl (c.tag-by.ensures ∙ tag.same_tag rule.alnum c.before.before.before.args.s.now)
-
-pub is-tag-spec : {M : Type 1} → statement M
-is-tag-spec = tie.close (tie.spec tag-by-requires returns)
+returns c = said tested_paper refl (c.tag_by.ensures ∙ tag.same_tag rule.alnum c.args.s.now)

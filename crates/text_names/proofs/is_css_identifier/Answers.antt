@@ -1,0 +1,16 @@
+use mathlib.Core.Path.{refl}
+use Rattle.base_bytes.specs.Bytes.{is_name_start, is_name_part}
+use Rattle.base_refusals.proofs.Said.{said}
+use Rattle.text_names.specs.Tested.{tested_paper}
+use Rattle.text_names.specs.Names.{is_name, name_place}
+use Rattle.text_names.proofs.Headed as headed
+use borrow.Author.Rules.{rules}
+use Rattle.text_names.proofs.is_css_identifier.Goals as goal
+
+pub returns-then-s-eq0 : goal.returns-then-s-eq0
+unfolding is_name name_place
+returns-then-s-eq0 c = said tested_paper refl (headed.none is_name_start is_name_part _ c.if-s-eq0.true)
+
+pub returns : goal.returns
+unfolding is_name name_place
+returns c = said tested_paper refl (headed.some is_name_start is_name_part _ c.name_end-e.ensures c.if-s-eq0.false c.whole_or_stops.ensures.value)
