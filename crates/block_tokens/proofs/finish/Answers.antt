@@ -8,19 +8,19 @@ use borrow.Author.Rules.{rules}
 use Rattle.block_tokens.proofs.finish.Goals as goal
 
 pub returns-then-not-good : goal.returns-then-not-good
-returns-then-not-good c = rw (not-true c.args.good c.if-not-good.true)
+returns-then-not-good c = rw (c.if-not-good.true)
 
 pub returns-then-s-e : goal.returns-then-s-e
 unfolding ends
 returns-then-s-e c =
-    rw (not-false c.args.good c.if-not-good.false, drop_of_length-le c.args.s.now c.if-s-e.true)
+    rw (c.if-not-good.false, drop_of_length-le c.args.s.now c.if-s-e.true)
 
 pub returns-then-not-is_blank : goal.returns-then-not-is_blank
 unfolding ends
 returns-then-not-is_blank c =
-    rw (not-false c.args.good c.if-not-good.false, drop-cons c.args.s.now c.args.e 0 (omega arith), sym c.is_blank.ensures ∙ c.if-not-is_blank.true)
+    rw (c.if-not-good.false, drop-cons c.args.s.now c.args.e 0 (omega arith), sym c.is_blank.ensures ∙ c.if-not-is_blank.true)
 
 pub returns : goal.returns
 unfolding ends
 returns c =
-    rw (not-false c.args.good c.if-not-good.false, drop-cons c.args.s.now c.args.e 0 (omega arith), sym c.is_blank.ensures ∙ c.if-not-is_blank.false)
+    rw (c.if-not-good.false, drop-cons c.args.s.now c.args.e 0 (omega arith), sym c.is_blank.ensures ∙ c.if-not-is_blank.false)

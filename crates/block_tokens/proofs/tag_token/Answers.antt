@@ -20,6 +20,9 @@ use Rattle.block_tokens.proofs.tag_token.Goals as goal
 within : (f : ℕ → Bool) (s : List ℕ) (a e : ℕ) {n : ℕ} → Stops n ≡ tested (language_by f (part a e s)) (tag_passes f (part a e s) 0) → n ≤ length (part a e s)
 within f s a e q = let z = stops_is (language_by f (part a e s)) (tag_passes f (part a e s) 0) q in omega (arith, z.1, pass_le f (part a e s) 0)
 
+pub slice_bounds-language_by-end : goal.slice_bounds-language_by-end
+slice_bounds-language_by-end c = omega (arith, runs.inside _ c.args.s.now c.run_end-e.ensures (omega (arith, c.requires)))
+
 pub overflow_add-result : goal.overflow_add-result
 overflow_add-result c =
     let a = c.args in
