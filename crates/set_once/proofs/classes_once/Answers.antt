@@ -9,7 +9,7 @@ use Rattle.set_once.proofs.classes_once.Goals as goal
 
 pub loop-i-init : goal.loop-i-init
 loop-i-init c =
-    let e : length c.args.t3.classes ≡ max_classes = c.well_formed.1.1.0.1.1.1.1.1.1.1.0.1.0.1 in
+    let e : length c.args.set.classes ≡ max_classes = c.well_formed.1.1.0.1.1.1.1.1.1.1.0.1.0.1 in
     laws.keeps-start _ _ _ (omega (arith, c.least-many.ensures)) e
 
 pub offset_bounds-set-i : goal.offset_bounds-set-i
@@ -50,4 +50,4 @@ overflow_cast-kept c = let inv = c.loop-i.invariant in omega (arith, inv.room, i
 
 pub returns : goal.returns
 returns c =
-    laws.lists_once (two c.args.first.now c.args.second.now) c.args.t3 _ _ (laws.keeps_end c.loop-i.invariant _ c.least-many.ensures (omega (arith, c.loop-i-test.false)))
+    laws.lists_once (two c.args.first.now c.args.second.now) c.args.set _ _ (laws.keeps_end c.loop-i.invariant _ c.least-many.ensures (omega (arith, c.loop-i-test.false)))
