@@ -7,7 +7,7 @@ use Rattle.set_items.proofs.lay_pair.Goals as goal
 
 pub put_value-requires : goal.put_value-requires
 put_value-requires c =
-    laws.value_room c.args.c (length c.args.name.now) c.room_of.ensures c.in-Passed.is c.value_len-v.ensures c.put_bytes.auto.0
+    laws.value_room c.args.c (length c.args.name.now) c.room_of.ensures c.in-Passed.is c.value_len-v.ensures c.put_bytes.auto.out
 
 pub returns-in-Refused : goal.returns-in-Refused
 returns-in-Refused c =

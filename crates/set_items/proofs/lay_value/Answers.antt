@@ -7,22 +7,22 @@ use Rattle.set_items.proofs.lay_value.Goals as goal
 
 pub returns-in-Missing : goal.returns-in-Missing
 unfolding item_as
-returns-in-Missing c = let r = rw c.in-Missing.is (laws.said c.args.c c.args.out.now [] (laws.none_laid c.args.c c.args.out.now)) in record { value = r.0; out_after = r.1.0; result_value = r.1.1 }
+returns-in-Missing c = rw c.in-Missing.is (laws.said c.args.c c.args.out.now [] (laws.none_laid c.args.c c.args.out.now))
 
 pub returns-in-Id : goal.returns-in-Id
 unfolding item_as
 returns-in-Id c =
     let a = c.args in
-    laws.said a.c a.out.now (item_as unnamed (two a.first.now a.second.now) a.item) (rw c.in-Id.is c.lay_pair.ensures)
+    laws.said a.c a.out.now (item_as unnamed (two a.first.now a.second.now) a.item) (rw c.in-Id.is (laws.pair c.lay_pair.ensures))
 
 pub returns-in-Class : goal.returns-in-Class
 unfolding item_as
 returns-in-Class c =
     let a = c.args in
-    laws.said a.c a.out.now (item_as unnamed (two a.first.now a.second.now) a.item) (rw c.in-Class.is c.lay_pair-in-Class.ensures)
+    laws.said a.c a.out.now (item_as unnamed (two a.first.now a.second.now) a.item) (rw c.in-Class.is (laws.pair c.lay_pair-in-Class.ensures))
 
 pub returns-in-Key : goal.returns-in-Key
 unfolding item_as
 returns-in-Key c =
     let a = c.args in
-    laws.said a.c a.out.now (item_as unnamed (two a.first.now a.second.now) a.item) (rw c.in-Key.is c.lay_pair-in-Key.ensures)
+    laws.said a.c a.out.now (item_as unnamed (two a.first.now a.second.now) a.item) (rw c.in-Key.is (laws.pair c.lay_pair-in-Key.ensures))
