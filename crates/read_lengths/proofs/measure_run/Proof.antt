@@ -17,7 +17,7 @@ enum_told c = search rules
 slice-reshare-prefix-good-line : tie.Need-slice-reshare-prefix-good-line
 slice-reshare-prefix-good-line c =
     let at4 = c.before.before.before.before in let at8 = at4.before.before.before.before in
-    finds.joined_in at8.args.text.now at8.args.at at8.args.base at8.args.join.now at4.join-run.ensures.0 at4.join-run.ensures.1.0
+    finds.joined_in_lem at8.args.text.now at8.args.at at8.args.base at8.args.join.now at4.join-run.ensures.0 at4.join-run.ensures.1.0
 
 slice-aggregate-good-line : tie.Need-slice-aggregate-good-line
 slice-aggregate-good-line c =
