@@ -15,4 +15,7 @@ pub slice_bounds-result-end : goal.slice_bounds-result-end
 slice_bounds-result-end c = rw c.payload_range-r.ensures (laws.range_in c.args.text.now c.args.place).within
 
 pub returns : goal.returns
-returns c = let r = rw c.payload_range-r.ensures (sym (slice_part (payload_at c.args.text.now c.args.place).from (payload_at c.args.text.now c.args.place).to c.args.text.now), refl) in record { result_value = r.0; ref_ptr_value = r.1 }
+returns c = record {
+  result_value = rw c.payload_range-r.ensures (sym (slice_part (payload_at c.args.text.now c.args.place).from (payload_at c.args.text.now c.args.place).to c.args.text.now));
+  ref_ptr_value = rw c.payload_range-r.ensures refl;
+}
