@@ -1,6 +1,8 @@
 // The payload grammar: definitions and theorems, and as code only the types that scans and the quick test are made of.
 
 // The quote that the search stands in, by its byte.
+#![tactic(auto)]
+
 #[derive(Clone, Copy)]
 pub enum Quote {
     Out,

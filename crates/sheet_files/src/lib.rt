@@ -150,10 +150,7 @@ fn read_named(rt: &impl System, name: &[u8], text: &mut [u8]) -> io::Result<usiz
         return Ok(read_input(rt, text));
     }
     let Ok(path) = str::from_utf8(name) else {
-        return Err(io::Error::new(
-            io::ErrorKind::InvalidInput,
-            "the name is not UTF-8",
-        ));
+        return Err(io::Error::new(io::ErrorKind::InvalidInput, "the name is not UTF-8"));
     };
     let mut file = fs::open(rt, path)?;
     Ok(read_full(&mut file, text))

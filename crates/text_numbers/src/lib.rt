@@ -1,1 +1,3 @@
 // Numbers as they are written: theorems, and no code.
+
+#![tactic(auto)]
