@@ -41,7 +41,7 @@ fn write_report(rt: &impl Print, text: &[u8], join: &mut [u8], out: &mut [u8]) {
 }
 
 // Writes what a part laid at the buffer's front, and answers whether to go on: more comes, and it could be written.
-fn write_part(part: Part, out: &[u8]) -> bool {
+fn write_part(rt: &impl Print, part: Part, out: &[u8]) -> bool {
     if !sheet_files::say(rt, set_table::bytes_of(out, 0, part.len)) {
         return false;
     }
