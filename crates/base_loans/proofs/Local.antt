@@ -5,7 +5,7 @@
 use Prim.Native.Nat.{ℕ}
 use mathlib.Core.List.{List, [], ◌∷◌}
 use seplogic.Ra.Ura.{Ura}
-use seplogic.Ra.TreeShare.{full_share}
+use base.Fraction.{full_share}
 use mir.Syntax.{Lifetime}
 use mir.Val.{Val, vptr}
 use base.Logic.{SProp, ent, sep, ex}
@@ -33,12 +33,12 @@ module _ {M : Type 1} {𝓤 : Ura M} (𝓛 : Logic 𝓤) (R : RattleType) (κ : 
   abbrev pub Lender : GName → Fml
   Lender γ = flent κ (Body (mem R) b o γ)
 
-  pub lent_out : (ℓ : Lifetime) (x : R.Denot) (vs : List Val) → ent 𝓤 (sep 𝓤 ⟦ cell_at full_share R.mir vs b o ⟧ ⟦ R.own x vs ⟧) (H.⇛ (ex 𝓤 (λ (γ : GName). sep 𝓤 ⟦ Ref ℓ γ x ⟧ ⟦ Lender γ ⟧)))
+  pub lent_out : (ℓ : Lifetime) (x : R.Denot) (vs : List Val) → ent 𝓤 (sep 𝓤 ⟦ cell_at full_share R.mir vs b o ⟧ ⟦ R.own_val x vs ⟧) (H.⇛ (ex 𝓤 (λ (γ : GName). sep 𝓤 ⟦ Ref ℓ γ x ⟧ ⟦ Lender γ ⟧)))
   unfolding part_of
   lent_out ℓ x vs =
-      qed 𝓛 (‵ (cell_at full_share R.mir vs b o) ∷ ‵ (R.own x vs) ∷ []) ∵ fjoin ! $ fpack ! (List Val) (λ us. fsep (cell_at full_share R.mir us b o) (R.own x us)) vs $ by ! (lends_ref 𝓛 R ℓ κ x b o)
+      qed 𝓛 (‵ (cell_at full_share R.mir vs b o) ∷ ‵ (R.own_val x vs) ∷ []) ∵ fjoin ! $ fpack ! (List Val) (λ us. fsep (cell_at full_share R.mir us b o) (R.own_val x us)) vs $ by ! (lends_ref 𝓛 R ℓ κ x b o)
 
-  pub taken_back : (vals : R.Denot → List Val) → Tells R (Is R) vals → (γ : GName) (y : R.Denot) → ent 𝓤 (sep 𝓤 (A.dead κ) (sep 𝓤 ⟦ Lender γ ⟧ (A.res γ (R.coded.code y)))) (H.⇛ (sep 𝓤 ⟦ cell_at full_share R.mir (vals y) b o ⟧ ⟦ R.own y (vals y) ⟧))
+  pub taken_back : (vals : R.Denot → List Val) → Tells R (Is R) vals → (γ : GName) (y : R.Denot) → ent 𝓤 (sep 𝓤 (A.dead κ) (sep 𝓤 ⟦ Lender γ ⟧ (A.res γ (R.coded.code y)))) (H.⇛ (sep 𝓤 ⟦ cell_at full_share R.mir (vals y) b o ⟧ ⟦ R.own_val y (vals y) ⟧))
   unfolding part_of
   taken_back vals tl γ y =
       qed 𝓛 (‵ (fdead κ) ∷ ‵ (Lender γ) ∷ ‵ (fres γ (R.coded.code y)) ∷ []) ∵ updating ! $ use3 𝓛 (later (‵ (part_at R full_share y b o))) (ref_back 𝓛 R κ γ y b o) $ await ! tt $

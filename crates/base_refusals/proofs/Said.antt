@@ -2,5 +2,5 @@
 -- Assumes nothing.
 use mathlib.Core.Path.{◌≡◌, ◌∙◌, ap}
 
-pub said : {A B : Type 0} (p : A → B) {x y : A} {z : B} → p y ≡ z → x ≡ y → record {value : x ≡ y; result_value : p x ≡ z}
+pub said : {A B : Type 0} (p : A → B) {x y : A} {z : B} → p y ≡ z → x ≡ y → record { value : x ≡ y; result_value : p x ≡ z }
 said p law e = record { value = e; result_value = ap p e ∙ law }

@@ -1,4 +1,6 @@
 // Where a block closes: the first `}` that no quote and no backslash covers.
+#![tactic(auto)]
+
 ghost use Rattle.std.specs.Prelude.{◌≡◌, true, drop};
 ghost use Rattle.base_bytes.specs.Bytes.{is_quote};
 ghost use Rattle.block_grammar.specs.Close.{close_paper};

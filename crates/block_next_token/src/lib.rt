@@ -1,4 +1,6 @@
 // A walker, which holds a text, a place in it and a mode, and gives the text's tokens one after the other.
+#![tactic(auto)]
+
 ghost use Rattle.std.specs.Prelude.{◌≡◌};
 ghost use Rattle.block_grammar.specs.Computed.{read_from};
 ghost use Rattle.block_tokens.specs.Shown.{token_end};

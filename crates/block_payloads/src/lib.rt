@@ -1,4 +1,6 @@
 // The entries that take a payload alone, and what may continue a wrapped run: they say yes or no.
+#![tactic(auto)]
+
 ghost use Rattle.std.specs.Prelude.{◌≡◌, cond, ◌&&◌, ◌+◌, ◌≤◌, ◌<◌, eqb, length, get_or, drop};
 ghost use Rattle.base_bytes.specs.declared.Mode.TheVariants.{Strict, Loose};
 ghost use Rattle.base_bytes.specs.Bytes.{close_brace, open_brace};

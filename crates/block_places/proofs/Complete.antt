@@ -162,7 +162,7 @@ module _ (parts : ℕ → Bool) (apart_from : (f : ℕ → Bool) (b : ℕ) → a
       let p = both (is_plain b) (all is_plain v) h in
       on Spot.due Spot.plain b (v ++ rest) (plain_any Spot.due b p.0 ∙ (rw (plain_not_quote b p.0, p.0))) ∙ run_on is_plain Spot.plain plain_turn v rest p.1 ∙ last Spot.plain rest refl (λ b. refl) e
 
-  inside_read : {v : List ℕ} (q : ℕ) (s : List ℕ) → (92 ≡ q → ⊥) → Inside q v → walk_takes parts (Spot.quoted q false) (v ++ (q ∷ s)) ≡ walk_takes parts Spot.shut s
+  inside_read : (q : ℕ) {v : List ℕ} (s : List ℕ) → (92 ≡ q → ⊥) → Inside q v → walk_takes parts (Spot.quoted q false) (v ++ (q ∷ s)) ≡ walk_takes parts Spot.shut s
   inside_read q s n Inside.end = on (Spot.quoted q false) Spot.shut q s (quote-turn parts q false q ∙ (rw (eq-eqb q q refl)))
   inside_read q s n (Inside.byte {b = b} {s = v} h g i) = on (Spot.quoted q false) (Spot.quoted q false) b (v ++ (q ∷ s)) (quote-turn parts q false b ∙ (rw (ne_eqb b q h, ne_eqb b 92 g))) ∙ inside_read q s n i
   inside_read q s n (Inside.pair {b = b} {s = v} i) =

@@ -1,4 +1,6 @@
 // The quick test: whether what stands behind a brace is surely no payload, without a look into values.
+#![tactic(auto)]
+
 ghost use Rattle.std.specs.Prelude.{◌≡◌};
 ghost use Rattle.block_grammar.specs.declared.Walk.{Walk};
 ghost use Rattle.block_grammar.specs.Quick.{edge, quick_step, quick_refuses};

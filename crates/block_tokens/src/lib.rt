@@ -1,4 +1,6 @@
 // The token at a place of a text, by ranges of it, and whether bytes are a payload; where they are none, how far they can be continued to one.
+#![tactic(auto)]
+
 ghost use Rattle.std.specs.Prelude.{◌≡◌, true, false, cond, ◌&&◌, ◌+◌, ◌-◌, ◌<◌, ◌≤◌, length, get_or, drop};
 ghost use Rattle.base_lists.specs.Lists.{run};
 ghost use Rattle.base_bytes.specs.Bytes.{is_plain, is_blank};

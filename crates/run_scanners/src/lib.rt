@@ -1,4 +1,6 @@
 // The scanners of wrapped runs: the quote left open, the column of the last open brace, whether a block is still open.
+#![tactic(auto)]
+
 ghost use Rattle.std.specs.Prelude.{◌≡◌, not, ◌&&◌, ◌||◌};
 ghost use Rattle.base_lists.specs.Lists.{all, is_in};
 ghost use Rattle.text_tabs.specs.Columns.{capped};

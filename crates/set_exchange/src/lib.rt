@@ -1,4 +1,6 @@
 // A set with its two texts changed over: what was of the first text is of the second, and the other way round.
+#![tactic(auto)]
+
 ghost use Rattle.std.specs.Prelude.{◌≡◌, cond};
 ghost use Rattle.set_exchange.specs.Exchange.{other_origin, other_value, other_row, firsts_by, exchanged};
 

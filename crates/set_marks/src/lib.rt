@@ -1,4 +1,6 @@
 // The raw bytes of a value, and the backslashes that its bytes take in the canonical text.
+#![tactic(auto)]
+
 ghost use Rattle.std.specs.Prelude.{◌≡◌, ◌≤◌, length};
 ghost use Rattle.base_lists.specs.Lists.{same};
 ghost use Rattle.base_refusals.specs.Numbers.{max_text};

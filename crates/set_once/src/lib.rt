@@ -1,4 +1,6 @@
 // A set whose classes are each listed once.
+#![tactic(auto)]
+
 ghost use Rattle.std.specs.Prelude.{◌≡◌, map, ◌≤◌, min, take};
 ghost use Rattle.block_grammar.specs.Meaning.{is_among, classes_once};
 ghost use Rattle.set_table.specs.Types.{two, value_bytes, max_classes};

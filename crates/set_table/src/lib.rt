@@ -1,4 +1,6 @@
 // The set of a block: its id, classes and keys as ranges of two texts, and the order in which they were met.
+#![tactic(auto)]
+
 ghost use Rattle.std.specs.Prelude.{◌≡◌, take};
 ghost use Rattle.base_lists.specs.Lists.{same};
 ghost use Rattle.block_grammar.specs.Meaning.{lang_name};

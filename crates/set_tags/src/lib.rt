@@ -1,4 +1,6 @@
 // The language tag that a value of a set is.
+#![tactic(auto)]
+
 ghost use Rattle.std.specs.Prelude.{◌≡◌};
 ghost use Rattle.text_langtags.specs.Computed.{is_allowed};
 ghost use Rattle.set_table.specs.Types.{two, value_bytes};

@@ -1,4 +1,6 @@
 // Whether a value, an id, a class or a key may stand in a table over its texts.
+#![tactic(auto)]
+
 ghost use Rattle.std.specs.Prelude.{◌≡◌, not, cond, ◌&&◌};
 ghost use Rattle.base_lists.specs.Lists.{all};
 ghost use Rattle.base_bytes.specs.Bytes.{is_space};

@@ -1,4 +1,6 @@
 // Whether a table is well-formed over its texts.
+#![tactic(auto)]
+
 ghost use Rattle.std.specs.Prelude.{◌≡◌, cond, map, ◌≤◌, take};
 ghost use Rattle.base_lists.specs.Lists.{all};
 ghost use Rattle.set_table.specs.Types.{two, max_classes, max_keys, max_slots};

@@ -128,5 +128,5 @@ added_paper_lem a b = go (overflows (numbers_added a.numbers b.numbers))
     go false = refl
 
 -- the whole promise, from the equation of the answer
-pub added-said : (a b : Totals) {r : Added} → r ≡ add_totals a b → record {value : r ≡ add_totals a b; result_value : added_paper r ≡ on_paper (add_order a b) (numbers_added a.numbers b.numbers)}
+pub added-said : (a b : Totals) {r : Added} → r ≡ add_totals a b → record { value : r ≡ add_totals a b; result_value : added_paper r ≡ on_paper (add_order a b) (numbers_added a.numbers b.numbers) }
 added-said a b = said added_paper (added_paper_lem a b)

@@ -1,4 +1,6 @@
 // Well-formed language tags by RFC 5646 section 2.1, letter case ignored: of bytes as they stand, or unescaped.
+#![tactic(auto)]
+
 ghost use Rattle.std.specs.Prelude.{◌≡◌, cond, ◌&&◌, eqb};
 ghost use Rattle.text_escapes.specs.Unescape.{unescape};
 ghost use Rattle.text_langtags.specs.Letters.{small, is_x};

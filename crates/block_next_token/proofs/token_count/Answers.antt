@@ -1,0 +1,32 @@
+use mathlib.Core.Path.{refl, ◌∙◌, ap}
+use Prim.Native.Nat.{◌-◌}
+use native.Mathlib.Omega.{arith}
+use borrow.Author.Rules.{rules}
+use lib.ListN.{length}
+use Rattle.base_refusals.proofs.Said.{said}
+use Rattle.block_grammar.specs.Computed.{read_from}
+use Rattle.block_next_token.specs.Walk.{counted, count_paper}
+use Rattle.block_next_token.specs.declared.Ahead.TheVariants.{Found}
+use Rattle.block_next_token.proofs.Counting as counting
+use borrow.Enum.Refused as refused
+use Rattle.block_next_token.proofs.token_count.Goals as goal
+
+pub tokens-init : goal.tokens-init
+tokens-init c = counting.start _ _
+
+pub overflow_add-n : goal.overflow_add-n
+overflow_add-n c =
+    record { fits = let g = (counting.next c.tokens.invariant c.step_from-step.ensures.0 c.in-Found.is (refused.opened c.in_default.in_default-own.keys2)) in omega (arith, g.0.within, g.0.few) }
+
+pub tokens-smaller : goal.tokens-smaller
+tokens-smaller c =
+    let g = (counting.next c.tokens.invariant c.step_from-step.ensures.0 c.in-Found.is (refused.opened c.in_default.in_default-own.keys2)) in omega (arith, g.0.within, g.1)
+
+pub tokens-preserved : goal.tokens-preserved
+tokens-preserved c = (counting.next c.tokens.invariant c.step_from-step.ensures.0 c.in-Found.is (refused.opened c.in_default.in_default-own.keys2)).0
+
+pub returns-in-End : goal.returns-in-End
+returns-in-End c = said count_paper refl (counting.end c.tokens.invariant c.step_from-step.ensures.0 c.in-End.is)
+
+pub returns-in-Bad : goal.returns-in-Bad
+returns-in-Bad c = said count_paper refl (counting.stop c.tokens.invariant c.step_from-step.ensures.0 (c.in-Found.is ∙ ap (λ t. Found t) c.in-Bad.is))

@@ -1,0 +1,32 @@
+use Prim.Native.Nat.{◌-◌}
+use lib.ListN.{length}
+use native.Mathlib.Omega.{arith}
+use borrow.Author.Rules.{rules}
+use Rattle.set_marks.proofs.Values as values
+use Rattle.set_marks.proofs.same_pieces.Goals as goal
+
+pub pieces-init : goal.pieces-init
+pieces-init c = values.equals-start _ _ _ _
+
+pub returns-in-End-value_piece : goal.returns-in-End-value_piece
+returns-in-End-value_piece c =
+    values.equals_end c.pieces.invariant (values.end_in _ c.value_piece.ensures.value c.in-End.is) (values.end_in _ c.value_piece-in-End.ensures.value c.in-End-value_piece.is)
+
+pub returns-in-Byte-value_piece : goal.returns-in-Byte-value_piece
+returns-in-Byte-value_piece c =
+    values.equals_shorter c.pieces.invariant (values.end_in _ c.value_piece.ensures.value c.in-End.is) (values.byte_in _ c.value_piece-in-End.ensures.value c.in-Byte-value_piece.is)
+
+pub returns-in-End-value_piece-2 : goal.returns-in-End-value_piece-2
+returns-in-End-value_piece-2 c =
+    values.equals-longer c.pieces.invariant (values.byte_in _ c.value_piece.ensures.value c.in-Byte.is) (values.end_in _ c.value_piece-in-Byte.ensures.value c.in-End-value_piece-2.is)
+
+pub returns-then-b-c : goal.returns-then-b-c
+returns-then-b-c c =
+    values.equals_stop c.pieces.invariant (values.byte_in _ c.value_piece.ensures.value c.in-Byte.is) (values.byte_in _ c.value_piece-in-Byte.ensures.value c.in-Byte-value_piece-2.is) c.if-b-c.true
+
+pub pieces-smaller : goal.pieces-smaller
+pieces-smaller c = omega (arith, values.byte_in _ c.value_piece.ensures.value c.in-Byte.is)
+
+pub pieces-preserved : goal.pieces-preserved
+pieces-preserved c =
+    values.equals_go c.pieces.invariant (values.byte_in _ c.value_piece.ensures.value c.in-Byte.is) (values.byte_in _ c.value_piece-in-Byte.ensures.value c.in-Byte-value_piece-2.is) c.if-b-c.false

@@ -1,0 +1,6 @@
+use native.Mathlib.Omega.{arith}
+use borrow.Author.Rules.{rules}
+use Rattle.set_wellformed.proofs.slot_number.Goals as goal
+
+pub returns-in-Key : goal.returns-in-Key
+returns-in-Key c = rw c.in-Key.is (omega arith)
