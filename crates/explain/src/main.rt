@@ -1,6 +1,8 @@
 // The program `explain`: of a sheet it writes a line for each finding: `found`, the number of its kind, the line that looks like a block, the line in which the mistake
 // stands, its place in bytes and the finding's number, parted by tabs; or `refused` and a number. Without arguments it reads standard input; else the files that its
 // arguments name, one after the other and each under a heading, and for `-` standard input.
+#![tactic(auto)]
+
 use base_refusals::Outcome;
 use sheet_files::{Sheet, System};
 use sheet_findings::{Finding, Told};

@@ -3,6 +3,8 @@
 // line count and offset, parted by tabs, or `not found`; behind `mend` stand the first and the last line that were replaced, the old sheet, the new one
 // and the old one's index, and it writes the new one's. `-` names standard input. A refusal is one line, `refused`, a tab and its number. Nothing is
 // written where a file can't be read, an index is longer than any sheet's, or the words are others.
+#![tactic(auto)]
+
 use sheet_files::{Sheet, System};
 use sheet_index::{Built, LookUp};
 use std::rt::Env;

@@ -1,6 +1,8 @@
 // The program `numbers`: it counts over many sheets what the sheet program does, and writes thirteen lines, name, tab and number. Without arguments it
 // reads one sheet from standard input; else the files that its arguments name, and for `-` standard input. Behind a first argument `--add` they are
 // reports, which are added up. Nothing is written where a file can't be read or is no report, and one line where a total would not fit.
+#![tactic(auto)]
+
 use base_refusals::Outcome;
 use set_writer::Wrote;
 use sheet_files::{Sheet, System};

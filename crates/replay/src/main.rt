@@ -1,4 +1,6 @@
 // Answers request lines from standard input, one line for each: the Rattle side of the comparison with the Rust.
+#![tactic(auto)]
+
 mod ask;
 mod brace;
 mod by_line;

@@ -1,5 +1,7 @@
 // The sheet program: it writes the report on a sheet, a line for each block. Without arguments it reads standard input; else the
 // files that its arguments name, one after the other and each under a heading, and for `-` standard input.
+#![tactic(auto)]
+
 use sheet_files::{Sheet, System};
 use sheet_report::{Part, Told};
 

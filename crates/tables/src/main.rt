@@ -1,4 +1,6 @@
 // Hand-made tables: every clause of 'well-formed' broken once, and what the writer and the merge answer to each.
+#![tactic(auto)]
+
 mod broken;
 mod buffers;
 mod changed;

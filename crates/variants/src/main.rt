@@ -1,5 +1,7 @@
 // The program `variants`: it writes the dealers' table of a sheet, a line for each variant, or one line that says why there is none. Without arguments
 // it reads standard input; else the files that its arguments name, one after the other and each under a heading, and for `-` standard input.
+#![tactic(auto)]
+
 use sheet_files::{Sheet, System};
 
 fn main(rt: HostRuntime) {

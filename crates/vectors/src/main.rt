@@ -1,4 +1,6 @@
 // Runs the worked examples of RFC 3629, of RFC 5646, of CommonMark 0.31.2 and of document 01 against the leaf functions.
+#![tactic(auto)]
+
 mod commonmark;
 mod lines_and_names;
 mod refused;

@@ -1,4 +1,6 @@
 // A program that tells a walker's tokens step by step, and merges into lent sets, also where that is refused, and three sets in both groupings.
+#![tactic(auto)]
+
 mod groups;
 mod merges;
 mod steps;
