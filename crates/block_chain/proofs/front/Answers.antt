@@ -4,8 +4,5 @@ use lib.Seq.{take_all, length-take-le}
 use borrow.Author.Rules.{rules}
 use Rattle.block_chain.proofs.front.Goals as goal
 
-pub slice_bounds-result-end : goal.slice_bounds-result-end
-slice_bounds-result-end c = sym (length-take-le c.before.before.args.to c.before.before.args.text.now (omega (arith, c.if-to-text.true)))
-
 pub returns : goal.returns
 returns c = sym (take_all c.args.to c.args.text.now (omega (arith, c.if-to-text.false)))
