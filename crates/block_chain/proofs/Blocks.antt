@@ -90,9 +90,12 @@ one_of Reading.refused is e = contra true refl (cc)
 one_of (Reading.items []) is e = contra true refl (cc)
 one_of (Reading.items (p ∷ js)) is e = (e, λ q. contra true refl (cc))
 
+row_blocks_at : {m : Mode} {at v : ℕ} {b s : List ℕ} {is js : List Placed} → OneBlock m at b is → Row m v s js → v ≡ at + length b → Blocks m at (b ++ s) (is ++ js)
+row_blocks_at {b = b} {is = is} x Row.none e = rw (append-nil b, append-nil is) (Blocks.one x)
+row_blocks_at {at = at} x (Row.and {at = at'} y r) e = Blocks.more x (rw (← e) (row_blocks_at {at = at'} y r refl))
+
 row_blocks : {m : Mode} {at : ℕ} {b s : List ℕ} {is js : List Placed} → OneBlock m at b is → Row m (at + length b) s js → Blocks m at (b ++ s) (is ++ js)
-row_blocks {b = b} {is = is} x Row.none = rw (append-nil b, append-nil is) (Blocks.one x)
-row_blocks x (Row.and y r) = Blocks.more x (row_blocks y r)
+row_blocks x r = row_blocks_at x r refl
 
 of_row : {m : Mode} {at : ℕ} {s : List ℕ} {is : List Placed} → Row m at s is → (is ≡ [] → ⊥) → Blocks m at s is
 of_row Row.none n = absurd (n refl)

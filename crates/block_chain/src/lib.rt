@@ -1,4 +1,6 @@
 // Lines of blocks that stand back to back.
+#![tactic(auto)]
+
 ghost use Rattle.std.specs.Prelude.{◌≡◌, ◌≤◌, ◌<◌, length, take};
 ghost use Rattle.base_bytes.specs.declared.Mode.TheVariants.{Loose};
 ghost use Rattle.block_chain.specs.Chain.{good_line};

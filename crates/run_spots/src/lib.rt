@@ -1,4 +1,6 @@
 // Where a walk over a line stands, and what the line opens with and closes.
+#![tactic(auto)]
+
 ghost use Rattle.std.specs.Prelude.{◌≡◌, ◌≤◌, eqb, length, drop};
 ghost use Rattle.block_payloads.specs.Payloads.{opens};
 ghost use Rattle.base_lists.specs.Lists.{begins_pair};
