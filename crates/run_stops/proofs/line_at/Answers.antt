@@ -21,8 +21,8 @@ pub slice_bounds-result-start : goal.slice_bounds-result-start
 slice_bounds-result-start c = omega (arith, front_to c.args.text.now c.args.at c.line_from-l.ensures c.if-text-at.false)
 
 -- src/lib.rt:101:5
-pub slice_bounds-result-end : goal.slice_bounds-result-end
-slice_bounds-result-end c = omega (arith, front_to c.args.text.now c.args.at c.line_from-l.ensures c.if-text-at.false)
+pub slice_bounds-result-end-2 : goal.slice_bounds-result-end-2
+slice_bounds-result-end-2 c = omega (arith, front_to c.args.text.now c.args.at c.line_from-l.ensures c.if-text-at.false)
 
 -- src/lib.rt:93:1
 pub returns : goal.returns
