@@ -1,43 +1,45 @@
 // The program `explain`: of a sheet it writes a line for each finding: `found`, the number of its kind, the line that looks like a block, the line in which the mistake
 // stands, its place in bytes and the finding's number, parted by tabs; or `refused` and a number. Without arguments it reads standard input; else the files that its
 // arguments name, one after the other and each under a heading, and for `-` standard input.
+#![tactic(auto)]
+
 use base_refusals::Outcome;
-use sheet_files::Sheet;
+use sheet_files::{Sheet, System};
 use sheet_findings::{Finding, Told};
 
-fn main() {
+fn main(rt: HostRuntime) {
     let mut text = [0u8; sheet_files::TEXT];
     let mut join = [0u8; base_refusals::MAX_TEXT];
-    explain_all(&mut text, &mut join);
+    explain_all(&rt, &mut text, &mut join);
 }
 
-fn explain_all(text: &mut [u8], join: &mut [u8]) {
-    let count = sheet_files::count();
+fn explain_all(rt: &impl System, text: &mut [u8], join: &mut [u8]) {
+    let count = sheet_files::count(rt);
     let mut i = 0;
     while i < count {
-        explain(i, text, join);
+        explain(rt, i, text, join);
         i += 1;
     }
 }
 
 // The findings of one sheet, where there is such a file.
-fn explain(i: usize, text: &mut [u8], join: &mut [u8]) {
-    match sheet_files::read(i, text) {
+fn explain(rt: &impl System, i: usize, text: &mut [u8], join: &mut [u8]) {
+    match sheet_files::read(rt, i, text) {
         Sheet::Missing => {}
-        Sheet::Bytes(n) => explain_text(set_table::bytes_of(text, 0, n), join),
+        Sheet::Bytes(n) => explain_text(rt, set_table::bytes_of(text, 0, n), join),
     }
 }
 
 // The findings of a text that passes the checks.
-fn explain_text(text: &[u8], join: &mut [u8]) {
+fn explain_text(rt: &impl Print, text: &[u8], join: &mut [u8]) {
     match text_checks::check_text(text) {
-        Outcome::Refused(why) => sheet_files::say_refused(why),
-        Outcome::Passed => write_findings(text, join),
+        Outcome::Refused(why) => sheet_files::say_refused(rt, why),
+        Outcome::Passed => write_findings(rt, text, join),
     }
 }
 
 // Writes the findings one after the other. A proved loop has to end, so it counts its turns down, from a number that no sheet uses up.
-fn write_findings(text: &[u8], join: &mut [u8]) {
+fn write_findings(rt: &impl Print, text: &[u8], join: &mut [u8]) {
     let mut at = 0;
     let mut line = 1;
     let mut turns = u64::MAX;
@@ -45,7 +47,7 @@ fn write_findings(text: &[u8], join: &mut [u8]) {
         let next = sheet_findings::next_finding(text, at, join);
         let first = sum(line, next.skipped);
         let told = next.told;
-        if !write_told(told, first) {
+        if !write_told(rt, told, first) {
             return;
         }
         at = next.next;
@@ -63,29 +65,29 @@ fn sum(a: usize, b: usize) -> usize {
 }
 
 // Writes what is told of a line, and answers whether to go on.
-fn write_told(told: Told, line: usize) -> bool {
+fn write_told(rt: &impl Print, told: Told, line: usize) -> bool {
     match told {
         Told::Refused(why) => {
-            sheet_files::say_refused(why);
+            sheet_files::say_refused(rt, why);
             false
         }
         Told::Done => false,
-        Told::Found(finding) => write_finding(finding, line),
+        Told::Found(finding) => write_finding(rt, finding, line),
     }
 }
 
 // Writes a finding whose line has that number.
-fn write_finding(f: Finding, line: usize) -> bool {
+fn write_finding(rt: &impl Print, f: Finding, line: usize) -> bool {
     let kind = f.kind;
-    sheet_files::say(b"found\t");
-    sheet_files::say_number(sheet_findings::kind_number(kind) as usize);
-    sheet_files::say(b"\t");
-    sheet_files::say_number(line);
-    sheet_files::say(b"\t");
-    sheet_files::say_number(sum(line, f.row));
-    sheet_files::say(b"\t");
-    sheet_files::say_number(f.place);
-    sheet_files::say(b"\t");
-    sheet_files::say_number(f.number);
-    sheet_files::say(b"\n")
+    sheet_files::say(rt, b"found\t");
+    sheet_files::say_number(rt, sheet_findings::kind_number(kind) as usize);
+    sheet_files::say(rt, b"\t");
+    sheet_files::say_number(rt, line);
+    sheet_files::say(rt, b"\t");
+    sheet_files::say_number(rt, sum(line, f.row));
+    sheet_files::say(rt, b"\t");
+    sheet_files::say_number(rt, f.place);
+    sheet_files::say(rt, b"\t");
+    sheet_files::say_number(rt, f.number);
+    sheet_files::say(rt, b"\n")
 }

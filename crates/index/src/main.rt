@@ -3,8 +3,11 @@
 // line count and offset, parted by tabs, or `not found`; behind `mend` stand the first and the last line that were replaced, the old sheet, the new one
 // and the old one's index, and it writes the new one's. `-` names standard input. A refusal is one line, `refused`, a tab and its number. Nothing is
 // written where a file can't be read, an index is longer than any sheet's, or the words are others.
-use sheet_files::Sheet;
+#![tactic(auto)]
+
+use sheet_files::{Sheet, System};
 use sheet_index::{Built, LookUp};
+use std::rt::Env;
 
 // No sheet has more blocks, each of which takes four bytes with its LF.
 const ROWS: usize = 16384;
@@ -16,117 +19,123 @@ const INDEX: usize = sheet_records::HEADER + ROWS * 19 + base_refusals::MAX_TEXT
 // One byte more is enough to see that an index is longer, so no further one is read.
 const FILE: usize = INDEX + 1;
 
-fn main() {
-    let words = sheet_files::words();
-    if sheet_files::first_is(b"build") {
-        return build(words);
+fn main(rt: HostRuntime) {
+    let words = sheet_files::words(&rt);
+    if sheet_files::first_is(&rt, b"build") {
+        return build(&rt, words);
     }
-    if sheet_files::first_is(b"find") {
-        return find(words);
+    if sheet_files::first_is(&rt, b"find") {
+        return find(&rt, words);
     }
-    if sheet_files::first_is(b"mend") {
-        return mend(words);
+    if sheet_files::first_is(&rt, b"mend") {
+        return mend(&rt, words);
     }
-    wrong()
+    wrong(&rt)
 }
 
-fn wrong() {
-    sheet_files::warn(b"index: build SHEET, find INDEX ID, or mend A B OLD NEW INDEX\n");
+fn wrong(rt: &impl System) {
+    sheet_files::warn(
+        rt,
+        b"index: build SHEET, find INDEX ID, or mend A B OLD NEW INDEX\n",
+    );
 }
 
 // Builds the index of a sheet.
-fn build(words: usize) {
+fn build(rt: &impl System, words: usize) {
     if words != 2 {
-        return wrong();
+        return wrong(rt);
     }
     let mut text = [0u8; sheet_files::TEXT];
-    match sheet_files::read_plain(1, &mut text) {
+    match sheet_files::read_plain(rt, 1, &mut text) {
         Sheet::Missing => {}
-        Sheet::Bytes(n) => write_built(set_table::bytes_of(&text, 0, n)),
+        Sheet::Bytes(n) => write_built(rt, set_table::bytes_of(&text, 0, n)),
     }
 }
 
-fn write_built(text: &[u8]) {
+fn write_built(rt: &impl Print, text: &[u8]) {
     let mut join = [0u8; base_refusals::MAX_TEXT];
     let mut table = [0usize; NUMBERS];
     let mut out = [0u8; INDEX];
     let built = sheet_index::build_index(text, &mut join, &mut table, &mut out);
-    write_index(built, &out);
+    write_index(rt, built, &out);
 }
 
 // Writes the index that was laid at the front of lent memory, or why there is none.
-fn write_index(built: Built, out: &[u8]) {
+fn write_index(rt: &impl Print, built: Built, out: &[u8]) {
     match built {
-        Built::Refused(why) => sheet_files::say_refused(why),
+        Built::Refused(why) => sheet_files::say_refused(rt, why),
         Built::Index(_, bytes) => {
-            sheet_files::say(set_table::bytes_of(out, 0, bytes));
+            sheet_files::say(rt, set_table::bytes_of(out, 0, bytes));
         }
     }
 }
 
 // Looks an id up in an index.
-fn find(words: usize) {
+fn find(rt: &impl System, words: usize) {
     if words != 3 {
-        return wrong();
+        return wrong(rt);
     }
     let mut index = [0u8; FILE];
     let mut id = [0u8; sheet_files::WORD];
-    let k = sheet_files::word(2, &mut id);
-    match read_index(1, &mut index) {
+    let k = sheet_files::word(rt, 2, &mut id);
+    match read_index(rt, 1, &mut index) {
         Sheet::Missing => {}
-        Sheet::Bytes(n) => write_found(sheet_index::find_record(
-            set_table::bytes_of(&index, 0, n),
-            set_table::bytes_of(&id, 0, k),
-        )),
+        Sheet::Bytes(n) => write_found(
+            rt,
+            sheet_index::find_record(
+                set_table::bytes_of(&index, 0, n),
+                set_table::bytes_of(&id, 0, k),
+            ),
+        ),
     }
 }
 
 // Reads an index by its number among the arguments. One that is longer than any sheet's is no index, and no part of it is read.
-fn read_index(i: usize, index: &mut [u8]) -> Sheet {
-    match sheet_files::read_plain(i, index) {
+fn read_index(rt: &impl System, i: usize, index: &mut [u8]) -> Sheet {
+    match sheet_files::read_plain(rt, i, index) {
         Sheet::Missing => Sheet::Missing,
         Sheet::Bytes(n) => {
             if n <= INDEX {
                 return Sheet::Bytes(n);
             }
-            sheet_files::warn(b"index: ");
-            sheet_files::complain(i, b" is longer than any sheet's index\n");
+            sheet_files::warn(rt, b"index: ");
+            sheet_files::complain(rt, i, b" is longer than any sheet's index\n");
             Sheet::Missing
         }
     }
 }
 
-fn write_found(found: LookUp) {
+fn write_found(rt: &impl Print, found: LookUp) {
     match found {
-        LookUp::Refused(why) => sheet_files::say_refused(why),
+        LookUp::Refused(why) => sheet_files::say_refused(rt, why),
         LookUp::Missing => {
-            sheet_files::say(b"not found\n");
+            sheet_files::say(rt, b"not found\n");
         }
-        LookUp::Row(line, count, offset) => write_row(line, count, offset),
+        LookUp::Row(line, count, offset) => write_row(rt, line, count, offset),
     }
 }
 
 // Writes three numbers parted by tabs.
-fn write_row(line: usize, count: usize, offset: usize) {
-    sheet_files::say_number(line);
-    sheet_files::say(b"\t");
-    sheet_files::say_number(count);
-    sheet_files::say(b"\t");
-    sheet_files::say_number(offset);
-    sheet_files::say(b"\n");
+fn write_row(rt: &impl Print, line: usize, count: usize, offset: usize) {
+    sheet_files::say_number(rt, line);
+    sheet_files::say(rt, b"\t");
+    sheet_files::say_number(rt, count);
+    sheet_files::say(rt, b"\t");
+    sheet_files::say_number(rt, offset);
+    sheet_files::say(rt, b"\n");
 }
 
 // Mends an index.
-fn mend(words: usize) {
+fn mend(rt: &impl System, words: usize) {
     if words != 6 {
-        return wrong();
+        return wrong(rt);
     }
     let mut old = [0u8; sheet_files::TEXT];
     let mut new = [0u8; sheet_files::TEXT];
     let mut index = [0u8; FILE];
-    let n = length_of(sheet_files::read_plain(3, &mut old));
-    let m = length_of(sheet_files::read_plain(4, &mut new));
-    let k = length_of(read_index(5, &mut index));
+    let n = length_of(sheet_files::read_plain(rt, 3, &mut old));
+    let m = length_of(sheet_files::read_plain(rt, 4, &mut new));
+    let k = length_of(read_index(rt, 5, &mut index));
     if n == NONE {
         return;
     }
@@ -137,6 +146,7 @@ fn mend(words: usize) {
         return;
     }
     write_mended(
+        rt,
         set_table::bytes_of(&old, 0, n),
         set_table::bytes_of(&new, 0, m),
         set_table::bytes_of(&index, 0, k),
@@ -153,27 +163,27 @@ fn length_of(file: Sheet) -> usize {
     }
 }
 
-fn write_mended<'a>(old: &'a [u8], new: &'a [u8], index: &'a [u8]) {
+fn write_mended<'a>(rt: &impl System, old: &'a [u8], new: &'a [u8], index: &'a [u8]) {
     let mut join = [0u8; base_refusals::MAX_TEXT];
     let mut table = [0usize; NUMBERS];
     let mut out = [0u8; INDEX];
     let built = sheet_mends::mend_index(
         old,
         new,
-        line_number(1),
-        line_number(2),
+        line_number(rt, 1),
+        line_number(rt, 2),
         index,
         &mut join,
         &mut table,
         &mut out,
     );
-    write_index(built, &out);
+    write_index(rt, built, &out);
 }
 
 // The line that an argument names. A number that is beyond all lines is one that no sheet has.
-fn line_number(i: usize) -> usize {
+fn line_number(rt: &impl Env, i: usize) -> usize {
     let mut word = [0u8; sheet_files::WORD];
-    let n = sheet_files::word(i, &mut word);
+    let n = sheet_files::word(rt, i, &mut word);
     number(set_table::bytes_of(&word, 0, n))
 }
 

@@ -1,9 +1,11 @@
 // The program `numbers`: it counts over many sheets what the sheet program does, and writes thirteen lines, name, tab and number. Without arguments it
 // reads one sheet from standard input; else the files that its arguments name, and for `-` standard input. Behind a first argument `--add` they are
 // reports, which are added up. Nothing is written where a file can't be read or is no report, and one line where a total would not fit.
+#![tactic(auto)]
+
 use base_refusals::Outcome;
 use set_writer::Wrote;
-use sheet_files::Sheet;
+use sheet_files::{Sheet, System};
 use sheet_numbers::Reported;
 use sheet_totals::{Added, Totals};
 
@@ -14,33 +16,40 @@ struct Turn {
     totals: Totals,
 }
 
-fn main() {
+fn main(rt: HostRuntime) {
     let mut text = [0u8; sheet_files::TEXT];
     let mut join = [0u8; base_refusals::MAX_TEXT];
     let mut out = [0u8; sheet_numbers::REPORT];
-    if sheet_files::first_is(b"--add") {
-        count(true, 1, &mut text, &mut join, &mut out);
+    if sheet_files::first_is(&rt, b"--add") {
+        count(&rt, true, 1, &mut text, &mut join, &mut out);
     } else {
-        count(false, 0, &mut text, &mut join, &mut out);
+        count(&rt, false, 0, &mut text, &mut join, &mut out);
     }
 }
 
 // Goes through the files from the number `first` on, and writes the report over them.
-fn count(adds: bool, first: usize, text: &mut [u8], join: &mut [u8], out: &mut [u8]) {
-    let all = sheet_files::count();
+fn count(
+    rt: &impl System,
+    adds: bool,
+    first: usize,
+    text: &mut [u8],
+    join: &mut [u8],
+    out: &mut [u8],
+) {
+    let all = sheet_files::count(rt);
     let files = beyond(all, first);
     let mut totals = Totals::empty();
     let mut i = first;
     while i < all {
-        let turn = one_more(adds, i, totals, text, join);
+        let turn = one_more(rt, adds, i, totals, text, join);
         if !turn.on {
             return;
         }
         totals = turn.totals;
         i += 1;
-        tell_progress(beyond(i, first), files);
+        tell_progress(rt, beyond(i, first), files);
     }
-    write_report(totals, out);
+    write_report(rt, totals, out);
 }
 
 // By how much a number is beyond another.
@@ -52,36 +61,43 @@ fn beyond(n: usize, first: usize) -> usize {
 }
 
 // One file more.
-fn one_more(adds: bool, i: usize, totals: Totals, text: &mut [u8], join: &mut [u8]) -> Turn {
-    match sheet_files::read_plain(i, text) {
+fn one_more(
+    rt: &impl System,
+    adds: bool,
+    i: usize,
+    totals: Totals,
+    text: &mut [u8],
+    join: &mut [u8],
+) -> Turn {
+    match sheet_files::read_plain(rt, i, text) {
         Sheet::Missing => Turn { on: false, totals },
         Sheet::Bytes(n) => {
             let sheet = set_table::bytes_of(text, 0, n);
             if adds {
-                return with_report(i, totals, sheet_numbers::read_totals(sheet));
+                return with_report(rt, i, totals, sheet_numbers::read_totals(sheet));
             }
-            turn_of(sheet_tally::feed(totals, sheet, join))
+            turn_of(rt, sheet_tally::feed(totals, sheet, join))
         }
     }
 }
 
 // One report more, if it is one.
-fn with_report(i: usize, totals: Totals, more: Reported) -> Turn {
+fn with_report(rt: &impl System, i: usize, totals: Totals, more: Reported) -> Turn {
     if !more.good {
-        sheet_files::warn(b"numbers: ");
-        sheet_files::complain(i, b" is no report\n");
+        sheet_files::warn(rt, b"numbers: ");
+        sheet_files::complain(rt, i, b" is no report\n");
         return Turn { on: false, totals };
     }
-    turn_of(sheet_totals::add_totals(totals, more.totals))
+    turn_of(rt, sheet_totals::add_totals(totals, more.totals))
 }
 
 // Goes on unless a total would not fit, which is told.
-fn turn_of(added: Added) -> Turn {
+fn turn_of(rt: &impl Print, added: Added) -> Turn {
     let outcome = added.outcome;
     let totals = added.totals;
     match outcome {
         Outcome::Refused(why) => {
-            sheet_files::say_refused(why);
+            sheet_files::say_refused(rt, why);
             Turn { on: false, totals }
         }
         Outcome::Passed => Turn { on: true, totals },
@@ -89,7 +105,7 @@ fn turn_of(added: Added) -> Turn {
 }
 
 // With more than 100 files says on standard error after each 100 how many were read.
-fn tell_progress(read: usize, files: usize) {
+fn tell_progress(rt: &impl System, read: usize, files: usize) {
     if files <= 100 {
         return;
     }
@@ -98,17 +114,17 @@ fn tell_progress(read: usize, files: usize) {
     }
     let mut digits = [0u8; 20];
     let n = text_digits::put_decimal(&mut digits, 0, read as u64);
-    sheet_files::warn(b"numbers: ");
-    sheet_files::warn(set_table::bytes_of(&digits, 0, n));
-    sheet_files::warn(b" read\n");
+    sheet_files::warn(rt, b"numbers: ");
+    sheet_files::warn(rt, set_table::bytes_of(&digits, 0, n));
+    sheet_files::warn(rt, b" read\n");
 }
 
 // Writes the thirteen lines.
-fn write_report(totals: Totals, out: &mut [u8]) {
+fn write_report(rt: &impl Print, totals: Totals, out: &mut [u8]) {
     match sheet_numbers::put_totals(totals, out) {
         Wrote::Refused(_) => {}
         Wrote::Bytes(n) => {
-            sheet_files::say(set_table::bytes_of(out, 0, n));
+            sheet_files::say(rt, set_table::bytes_of(out, 0, n));
         }
     }
 }

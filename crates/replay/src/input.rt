@@ -1,5 +1,6 @@
 // Request lines from standard input, through a buffer that holds the longest.
 use crate::{answer, fields, out};
+use std::io::Read;
 
 // How many bytes wait at the front of each buffer, for their LF and to be written out, and whether there is more to read.
 #[derive(Clone, Copy)]
@@ -26,6 +27,7 @@ struct Answered {
 // Answers every line. A proved loop has to end, and nothing says that the input does, so the loop counts its turns down,
 // from a number that no run uses up.
 pub(crate) fn answer_all(
+    rt: &(impl Input + Print),
     input: &mut [u8],
     a: &mut [u8],
     b: &mut [u8],
@@ -42,7 +44,7 @@ pub(crate) fn answer_all(
     };
     let mut turns = u64::MAX;
     while turns > 0 {
-        s = turn(input, a, b, join, index, table, laid, output, s);
+        s = turn(rt, input, a, b, join, index, table, laid, output, s);
         if !s.more {
             return;
         }
@@ -52,6 +54,7 @@ pub(crate) fn answer_all(
 
 // Reads once, and answers each line that is whole.
 fn turn(
+    rt: &(impl Input + Print),
     input: &mut [u8],
     a: &mut [u8],
     b: &mut [u8],
@@ -62,9 +65,10 @@ fn turn(
     output: &mut [u8],
     s: State,
 ) -> State {
-    let came = take(input, s.read);
+    let came = take(rt, input, s.read);
     let have = came.have;
     let done = answer_lines(
+        rt,
         fields::part(input, 0, have),
         a,
         b,
@@ -77,14 +81,14 @@ fn turn(
     );
     State {
         read: keep(input, done.from, have),
-        at: flushed(output, done.at, came.n),
+        at: flushed(rt, output, done.at, came.n),
         more: came.n > 0,
     }
 }
 
 // Reads once behind the bytes that wait.
-fn take(input: &mut [u8], read: usize) -> Came {
-    let n = fill(input, read);
+fn take(rt: &impl Input, input: &mut [u8], read: usize) -> Came {
+    let n = fill(rt, input, read);
     Came {
         n,
         have: ended(input, read, n),
@@ -109,11 +113,11 @@ fn ended(input: &mut [u8], read: usize, n: usize) -> usize {
 }
 
 // Writes all out at the end of the input.
-fn flushed(output: &[u8], at: usize, n: usize) -> usize {
+fn flushed(rt: &impl Print, output: &[u8], at: usize, n: usize) -> usize {
     if n > 0 {
         return at;
     }
-    out::flush(output, at)
+    out::flush(rt, output, at)
 }
 
 fn added(a: usize, b: usize) -> usize {
@@ -125,17 +129,20 @@ fn added(a: usize, b: usize) -> usize {
 }
 
 // Reads once behind the bytes that wait, and answers how many bytes came.
-fn fill(input: &mut [u8], read: usize) -> usize {
+fn fill(rt: &impl Input, input: &mut [u8], read: usize) -> usize {
     if input.len() < read {
         return 0;
     }
-    let rest = &mut input[read..];
-    let got = libc::read(libc::STDIN_FILENO, rest);
-    io::count(got, rest)
+    let mut reader = rt.reader();
+    match reader.read(&mut input[read..]) {
+        Ok(n) => n,
+        Err(_) => 0,
+    }
 }
 
 // Answers each line of the buffer that has its LF.
 fn answer_lines(
+    rt: &impl Print,
     lines: &[u8],
     a: &mut [u8],
     b: &mut [u8],
@@ -165,7 +172,7 @@ fn answer_lines(
             output,
             to,
         );
-        to = out::end_line(output, to);
+        to = out::end_line(rt, output, to);
         from = next;
     }
     Answered { from, at: to }

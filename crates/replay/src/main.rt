@@ -1,4 +1,6 @@
 // Answers request lines from standard input, one line for each: the Rattle side of the comparison with the Rust.
+#![tactic(auto)]
+
 mod ask;
 mod brace;
 mod by_line;
@@ -34,7 +36,7 @@ pub(crate) const JOIN: usize = 65535;
 // The longest answer is a sheet's, six times its text and in hex, and stands behind those that wait to be written.
 const OUTPUT: usize = 1048576;
 
-fn main() {
+fn main(rt: HostRuntime) {
     let mut input = [0u8; INPUT];
     let mut a = [0u8; TEXT];
     let mut b = [0u8; TEXT];
@@ -44,6 +46,7 @@ fn main() {
     let mut laid = [0u8; indexes::INDEX];
     let mut output = [0u8; OUTPUT];
     input::answer_all(
+        &rt,
         &mut input,
         &mut a,
         &mut b,

@@ -25,8 +25,8 @@ pub(crate) fn put(output: &mut [u8], at: usize, s: &[u8]) -> usize {
 // Adds a number in decimal.
 pub(crate) fn put_number(output: &mut [u8], at: usize, n: usize) -> usize {
     let mut digits = [0u8; 20];
-    let k = io::decimal(n as u64, &mut digits);
-    put(output, at, &digits[..k])
+    let k = text_digits::put_decimal(&mut digits, 0, n as u64);
+    put(output, at, fields::part(&digits, 0, k))
 }
 
 // Adds bytes in lower-case hex, `-` for none.
@@ -63,16 +63,16 @@ fn digit(n: u8) -> u8 {
 }
 
 // Ends an answer's line, and writes out where many answers wait.
-pub(crate) fn end_line(output: &mut [u8], at: usize) -> usize {
+pub(crate) fn end_line(rt: &impl Print, output: &mut [u8], at: usize) -> usize {
     let next = put_byte(output, at, b'\n');
     if next < 131072 {
         return next;
     }
-    flush(output, next)
+    flush(rt, output, next)
 }
 
 // Writes all out and answers the new place to write at, the front.
-pub(crate) fn flush(output: &[u8], at: usize) -> usize {
-    io::write_all(libc::STDOUT_FILENO, fields::part(output, 0, at));
+pub(crate) fn flush(rt: &impl Print, output: &[u8], at: usize) -> usize {
+    let _ = rt.write_all(fields::part(output, 0, at));
     0
 }

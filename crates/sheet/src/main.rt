@@ -1,38 +1,40 @@
 // The sheet program: it writes the report on a sheet, a line for each block. Without arguments it reads standard input; else the
 // files that its arguments name, one after the other and each under a heading, and for `-` standard input.
-use sheet_files::Sheet;
+#![tactic(auto)]
+
+use sheet_files::{Sheet, System};
 use sheet_report::{Part, Told};
 
-fn main() {
+fn main(rt: HostRuntime) {
     let mut text = [0u8; sheet_files::TEXT];
     let mut join = [0u8; base_refusals::MAX_TEXT];
     let mut out = [0u8; sheet_report::LINE];
-    report_all(&mut text, &mut join, &mut out);
+    report_all(&rt, &mut text, &mut join, &mut out);
 }
 
-fn report_all(text: &mut [u8], join: &mut [u8], out: &mut [u8]) {
-    let count = sheet_files::count();
+fn report_all(rt: &impl System, text: &mut [u8], join: &mut [u8], out: &mut [u8]) {
+    let count = sheet_files::count(rt);
     let mut i = 0;
     while i < count {
-        report_on(i, text, join, out);
+        report_on(rt, i, text, join, out);
         i += 1;
     }
 }
 
 // The report on one sheet, where there is such a file.
-fn report_on(i: usize, text: &mut [u8], join: &mut [u8], out: &mut [u8]) {
-    match sheet_files::read(i, text) {
+fn report_on(rt: &impl System, i: usize, text: &mut [u8], join: &mut [u8], out: &mut [u8]) {
+    match sheet_files::read(rt, i, text) {
         Sheet::Missing => {}
-        Sheet::Bytes(n) => write_report(set_table::bytes_of(text, 0, n), join, out),
+        Sheet::Bytes(n) => write_report(rt, set_table::bytes_of(text, 0, n), join, out),
     }
 }
 
 // Writes the report part by part. A proved loop has to end, so it counts its turns down, from a number that no sheet uses up.
-fn write_report(text: &[u8], join: &mut [u8], out: &mut [u8]) {
+fn write_report(rt: &impl Print, text: &[u8], join: &mut [u8], out: &mut [u8]) {
     let mut part = sheet_report::report_start(text, join, out);
     let mut turns = u64::MAX;
     while turns > 0 {
-        if !write_part(part, out) {
+        if !write_part(rt, part, out) {
             return;
         }
         part = sheet_report::report_part(text, part.at, part.line, join, out);
@@ -41,8 +43,8 @@ fn write_report(text: &[u8], join: &mut [u8], out: &mut [u8]) {
 }
 
 // Writes what a part laid at the buffer's front, and answers whether to go on: more comes, and it could be written.
-fn write_part(part: Part, out: &[u8]) -> bool {
-    if !sheet_files::say(set_table::bytes_of(out, 0, part.len)) {
+fn write_part(rt: &impl Print, part: Part, out: &[u8]) -> bool {
+    if !sheet_files::say(rt, set_table::bytes_of(out, 0, part.len)) {
         return false;
     }
     let told = part.told;

@@ -4,10 +4,10 @@ use crate::{MARK, say, say_number, say_wrote};
 use base_refusals::Outcome;
 use set_table::{Attrs, Filled, Slot};
 
-pub(crate) fn run() {
+pub(crate) fn run(rt: &impl Print) {
     let letters = b"abcdefghijklmnopqrstuvwxyzABCDEFGHIJKLMNOPQRSTUVWXYZacegikmoqsuwyA";
-    tables(letters);
-    merges(letters);
+    tables(rt, letters);
+    merges(rt, letters);
 }
 
 // Where the name of key k ends: names of two letters or of three.
@@ -39,64 +39,67 @@ pub(crate) fn full(long: bool) -> Attrs {
 }
 
 // "counts within the limits", and "slots name exactly the Id, Class and keys present, once each"
-fn tables(text: &[u8]) {
-    told(b"all slots", text, full(false));
+fn tables(rt: &impl Print, text: &[u8]) {
+    told(rt, b"all slots", text, full(false));
     let mut s = full(false);
     s.norder = Attrs::SLOTS as u8 + 1;
-    told(b"all slots that claim to be one more", text, s);
+    told(rt, b"all slots that claim to be one more", text, s);
     let mut s = full(false);
     s.order[Attrs::SLOTS - 1] = slot(Slot::Key(0));
-    told(b"all slots, a row among them twice", text, s);
+    told(rt, b"all slots, a row among them twice", text, s);
     let mut s = full(false);
     s.nclass = 0;
-    told(b"all slots, one for a class that isn't there", text, s);
+    told(rt, b"all slots, one for a class that isn't there", text, s);
 }
 
 // One line: whether the table is well-formed, what the writer answers and leaves, and what a merge with itself comes to.
-fn told<'a>(name: &'a [u8], text: &'a [u8], set: Attrs) {
+fn told<'a>(rt: &impl Print, name: &'a [u8], text: &'a [u8], set: Attrs) {
     let mut out = [MARK; 600];
-    say(name);
+    say(rt, name);
     if set_wellformed::well_formed(text, b"", set) {
-        say(b": well-formed");
+        say(rt, b": well-formed");
     } else {
-        say(b": not well-formed");
+        say(rt, b": not well-formed");
     }
     let wrote = set_writer::write_attrs(text, b"", set, &mut out);
-    say_wrote(wrote, &out);
-    say(b", merged with itself: ");
-    say_counts(set_merge::merge_attrs(text, b"", set, set));
+    say_wrote(rt, wrote, &out);
+    say(rt, b", merged with itself: ");
+    say_counts(rt, set_merge::merge_attrs(text, b"", set, set));
 }
 
 // All keys and as many others are too many, also where they share one; as many that are there already are none more.
-fn merges(text: &[u8]) {
+fn merges(rt: &impl Print, text: &[u8]) {
     let target = full(false);
-    say(b"all keys merged with as many others: ");
-    say_counts(set_merge::merge_attrs(text, b"", target, full(true)));
+    say(rt, b"all keys merged with as many others: ");
+    say_counts(rt, set_merge::merge_attrs(text, b"", target, full(true)));
     let mut one = full(true);
     one.keys[0] = row(0, 2, plain(0, 2));
-    say(b"all keys merged with as many, one of them shared: ");
-    say_counts(set_merge::merge_attrs(text, b"", target, one));
-    say(b"all keys merged with as many, all of them shared: ");
-    say_counts(set_merge::merge_leading_attrs(text, b"", target, full(false)));
+    say(rt, b"all keys merged with as many, one of them shared: ");
+    say_counts(rt, set_merge::merge_attrs(text, b"", target, one));
+    say(rt, b"all keys merged with as many, all of them shared: ");
+    say_counts(
+        rt,
+        set_merge::merge_leading_attrs(text, b"", target, full(false)),
+    );
 }
 
 // A refusal, or how many classes, keys and slots there are.
-pub(crate) fn say_counts(merged: Filled) {
+pub(crate) fn say_counts(rt: &impl Print, merged: Filled) {
     let outcome = merged.outcome;
     let set = merged.set;
     match outcome {
         Outcome::Refused(r) => {
-            say(b"refused ");
-            say_number(base_refusals::number(r) as usize);
+            say(rt, b"refused ");
+            say_number(rt, base_refusals::number(r) as usize);
         }
         Outcome::Passed => {
-            say_number(set.nclass as usize);
-            say(b" classes, ");
-            say_number(set.nkey as usize);
-            say(b" keys, ");
-            say_number(set.norder as usize);
-            say(b" slots");
+            say_number(rt, set.nclass as usize);
+            say(rt, b" classes, ");
+            say_number(rt, set.nkey as usize);
+            say(rt, b" keys, ");
+            say_number(rt, set.norder as usize);
+            say(rt, b" slots");
         }
     }
-    say(b"\n");
+    say(rt, b"\n");
 }

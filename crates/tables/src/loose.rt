@@ -6,14 +6,14 @@ use set_loose::{Consumed, Did};
 use set_table::{Attrs, Name, Origin, Row, Slot, SlotRecord, Text, Value};
 
 // 0 `loose`, 5 `loose-list`, 15 `LOOSE`, 20 `abc`, and its end at 23; the second text is `loose`.
-pub(crate) fn run() {
+pub(crate) fn run(rt: &impl Print) {
     let t = b"looseloose-listLOOSEabc";
     let u = b"loose";
-    values(t, u);
-    names(t, u);
-    refusals(t, u);
-    limits();
-    lent_sets();
+    values(rt, t, u);
+    names(rt, t, u);
+    refusals(rt, t, u);
+    limits(rt);
+    lent_sets(rt);
 }
 
 fn bare() -> Value {
@@ -40,48 +40,51 @@ fn three(k: Row) -> Attrs {
 }
 
 // "it acts only if the key's unescaped value is empty"
-fn values<'a>(t: &'a [u8], u: &'a [u8]) {
-    told(b"bare", t, u, three(row(0, 5, bare())));
+fn values<'a>(rt: &impl Print, t: &'a [u8], u: &'a [u8]) {
+    told(rt, b"bare", t, u, three(row(0, 5, bare())));
     told(
+        rt,
         b"a plain range of no bytes",
         t,
         u,
         three(row(0, 5, plain(7, 7))),
     );
     told(
+        rt,
         b"a quoted range of no bytes",
         t,
         u,
         three(row(0, 5, quoted(7, 7))),
     );
-    told(b"a value", t, u, three(row(0, 5, plain(20, 21))));
+    told(rt, b"a value", t, u, three(row(0, 5, plain(20, 21))));
     let name = row_of(Origin::Second, 0, 5, plain_of(Origin::Second, 5, 5));
-    told(b"name and value of the second text", t, u, three(name));
+    told(rt, b"name and value of the second text", t, u, three(name));
 }
 
-fn names<'a>(t: &'a [u8], u: &'a [u8]) {
-    told(b"a longer name", t, u, three(row(5, 15, bare())));
-    told(b"capital letters", t, u, three(row(15, 20, bare())));
+fn names<'a>(rt: &impl Print, t: &'a [u8], u: &'a [u8]) {
+    told(rt, b"a longer name", t, u, three(row(5, 15, bare())));
+    told(rt, b"capital letters", t, u, three(row(15, 20, bare())));
     let lang = Row {
         name: Name::Lang,
         value: bare(),
     };
-    told(b"lang by a colon", t, u, three(lang));
+    told(rt, b"lang by a colon", t, u, three(lang));
     let mut s = Attrs::empty();
-    told(b"the empty set", t, u, s);
+    told(rt, b"the empty set", t, u, s);
     s.keys[0] = row(0, 5, bare());
     s.nkey = 1;
     s.order[0] = slot(Slot::Key(0));
     s.norder = 1;
-    told(b"nothing but loose", t, u, s);
+    told(rt, b"nothing but loose", t, u, s);
 }
 
 // "1, 2 and 11, in the writer's order": of the first text, of the second, then the table.
-fn refusals<'a>(t: &'a [u8], u: &'a [u8]) {
+fn refusals<'a>(rt: &impl Print, t: &'a [u8], u: &'a [u8]) {
     let s = three(row(0, 5, bare()));
-    told(b"a first text that isn't UTF-8", b"\xFF", u, s);
-    told(b"a second text that isn't UTF-8", t, b"\xFF", s);
+    told(rt, b"a first text that isn't UTF-8", b"\xFF", u, s);
+    told(rt, b"a second text that isn't UTF-8", t, b"\xFF", s);
     told(
+        rt,
         b"a name past the text's end",
         t,
         u,
@@ -89,29 +92,29 @@ fn refusals<'a>(t: &'a [u8], u: &'a [u8]) {
     );
     let mut two = three(row(0, 5, bare()));
     two.order[3] = slot(Slot::Key(1));
-    told(b"two slots of one row", t, u, two);
+    told(rt, b"two slots of one row", t, u, two);
 }
 
 // "1": a text of 65,536 bytes.
-pub(crate) fn too_long(long: &[u8]) {
+pub(crate) fn too_long(rt: &impl Print, long: &[u8]) {
     let t = b"looseloose-listLOOSEabc";
     let s = three(row(0, 5, bare()));
-    told(b"loose of a first text of 65,536 bytes", long, b"", s);
-    told(b"loose of a second text of 65,536 bytes", t, long, s);
+    told(rt, b"loose of a first text of 65,536 bytes", long, b"", s);
+    told(rt, b"loose of a second text of 65,536 bytes", t, long, s);
 }
 
 // As many keys as a set has, `loose` the first, one in the middle and the last of the rows.
-fn limits() {
+fn limits(rt: &impl Print) {
     let t = b"abcdefghijklmnopqrstuvwxyzABCDEFGHIJKLMNOPQRSTUVWXYZacegikmoqsuwyAloose";
     let mut s = full::full(false);
     s.keys[0] = row(66, 71, bare());
-    told(b"the first of all keys", t, b"", s);
+    told(rt, b"the first of all keys", t, b"", s);
     let mut s = full::full(false);
     s.keys[Attrs::KEYS / 2] = row(66, 71, bare());
-    told(b"one in the middle of all keys", t, b"", s);
+    told(rt, b"one in the middle of all keys", t, b"", s);
     let mut s = full::full(false);
     s.keys[Attrs::KEYS - 1] = row(66, 71, bare());
-    told(b"the last of all keys", t, b"", s);
+    told(rt, b"the last of all keys", t, b"", s);
 }
 
 // The slots stand the other way round: the last key's first, the id's last.
@@ -128,196 +131,208 @@ fn reversed() -> Attrs {
 }
 
 // As many keys as a set has, in a lent set: `loose` the first of the rows and the last of the keys' slots, in the middle, and the last row and the first slot.
-fn lent_sets() {
+fn lent_sets(rt: &impl Print) {
     let t = b"abcdefghijklmnopqrstuvwxyzABCDEFGHIJKLMNOPQRSTUVWXYZacegikmoqsuwyAloose";
     let mut s = reversed();
     s.keys[0] = row(66, 71, bare());
-    lent(b"lent, the first row and the last slot", t, b"", s);
+    lent(rt, b"lent, the first row and the last slot", t, b"", s);
     let mut s = reversed();
     s.keys[Attrs::KEYS / 2] = row(66, 71, quoted(7, 7));
-    lent(b"lent, in the middle", t, b"", s);
+    lent(rt, b"lent, in the middle", t, b"", s);
     let mut s = reversed();
     s.keys[Attrs::KEYS - 1] = row(66, 71, plain(7, 7));
-    lent(b"lent, the last row and the first slot", t, b"", s);
-    lent_kept(t);
+    lent(rt, b"lent, the last row and the first slot", t, b"", s);
+    lent_kept(rt, t);
 }
 
 // "it acts only if the key's unescaped value is empty": else, and on each refusal, a lent set stays as it was to its last row.
-fn lent_kept(t: &[u8]) {
+fn lent_kept(rt: &impl Print, t: &[u8]) {
     let mut s = reversed();
     s.keys[Attrs::KEYS - 1] = row(66, 71, plain(0, 1));
-    lent(b"lent, a value", t, b"", s);
+    lent(rt, b"lent, a value", t, b"", s);
     s.order[0] = slot(Slot::Key(0));
-    lent(b"lent, two slots of one row", t, b"", s);
+    lent(rt, b"lent, two slots of one row", t, b"", s);
     let s = three(row(0, 5, plain(20, 21)));
     let t = b"looseloose-listLOOSEabc";
-    lent(b"lent, a value, and rows past the counts", t, b"", s);
-    lent(b"lent, a text that isn't UTF-8", t, b"\xFF", s);
+    lent(rt, b"lent, a value, and rows past the counts", t, b"", s);
+    lent(rt, b"lent, a text that isn't UTF-8", t, b"\xFF", s);
     let past = three(row(19, 24, bare()));
-    lent(b"lent, a name past the text's end", t, b"", past);
+    lent(rt, b"lent, a name past the text's end", t, b"", past);
 }
 
 // One line: what is answered of a lent set, its rows and its slots afterwards, those past the counts too.
-fn lent<'a>(name: &'a [u8], first: &'a [u8], second: &'a [u8], set: Attrs) {
-    say(name);
-    say(b": ");
+fn lent<'a>(rt: &impl Print, name: &'a [u8], first: &'a [u8], second: &'a [u8], set: Attrs) {
+    say(rt, name);
+    say(rt, b": ");
     let left = set_lent::consume_loose_lent(first, second, set);
     let did = left.did;
     let now = left.set;
-    say_did(did);
+    say_did(rt, did);
     let keys = now.keys;
     let order = now.order;
-    say_rows(first, second, keys, now.nkey as usize);
-    say_slots(order, now.norder as usize);
+    say_rows(rt, first, second, keys, now.nkey as usize);
+    say_slots(rt, order, now.norder as usize);
     let consumed = set_loose::consume_loose(first, second, set);
     let by_value = consumed.set;
-    say_stands(now, set, by_value);
-    say(b"\n");
+    say_stands(rt, now, set, by_value);
+    say(rt, b"\n");
 }
 
 // One line: the answer, the names of the rows, the slots, whether what became free is zero, what the writer answers, and what becomes of a lent set.
-fn told<'a>(name: &'a [u8], first: &'a [u8], second: &'a [u8], set: Attrs) {
+fn told<'a>(rt: &impl Print, name: &'a [u8], first: &'a [u8], second: &'a [u8], set: Attrs) {
     let mut out = [MARK; 600];
-    say(name);
-    say(b": ");
+    say(rt, name);
+    say(rt, b": ");
     let consumed = set_loose::consume_loose(first, second, set);
     let did = consumed.did;
     let left = consumed.set;
-    say_did(did);
+    say_did(rt, did);
     let keys = left.keys;
     let order = left.order;
-    say_rows(first, second, keys, left.nkey as usize);
-    say_slots(order, left.norder as usize);
+    say_rows(rt, first, second, keys, left.nkey as usize);
+    say_slots(rt, order, left.norder as usize);
     let wrote = set_writer::write_attrs(first, second, left, &mut out);
-    say_wrote(wrote, &out);
-    say_lent(first, second, set, consumed);
-    say(b"\n");
+    say_wrote(rt, wrote, &out);
+    say_lent(rt, first, second, set, consumed);
+    say(rt, b"\n");
 }
 
-fn say_did(did: Did) {
+fn say_did(rt: &impl Print, did: Did) {
     match did {
         Did::Refused(r) => {
-            say(b"refused ");
-            say_number(base_refusals::number(r) as usize);
+            say(rt, b"refused ");
+            say_number(rt, base_refusals::number(r) as usize);
         }
-        Did::Yes => say(b"yes"),
-        Did::No => say(b"no"),
+        Did::Yes => say(rt, b"yes"),
+        Did::No => say(rt, b"no"),
     }
 }
 
 // The same asked of a lent set.
-fn say_lent<'a>(first: &'a [u8], second: &'a [u8], set: Attrs, consumed: Consumed) {
+fn say_lent<'a>(
+    rt: &impl Print,
+    first: &'a [u8],
+    second: &'a [u8],
+    set: Attrs,
+    consumed: Consumed,
+) {
     let left = set_lent::consume_loose_lent(first, second, set);
     let did = left.did;
     let now = left.set;
     let by_value = consumed.set;
-    say(b", lent: ");
-    say_did(did);
-    say_stands(now, set, by_value);
+    say(rt, b", lent: ");
+    say_did(rt, did);
+    say_stands(rt, now, set, by_value);
 }
 
 // Whether a set is to its last row what it was before, or what is left by value.
-fn say_stands(now: Attrs, was: Attrs, by_value: Attrs) {
+fn say_stands(rt: &impl Print, now: Attrs, was: Attrs, by_value: Attrs) {
     if same_sets(now, was) {
-        say(b", as it was");
+        say(rt, b", as it was");
     } else {
-        say_new(now, by_value);
+        say_new(rt, now, by_value);
     }
 }
 
-fn say_new(now: Attrs, by_value: Attrs) {
+fn say_new(rt: &impl Print, now: Attrs, by_value: Attrs) {
     if same_sets(now, by_value) {
-        say(b", as by value");
+        say(rt, b", as by value");
     } else {
-        say(b", LEFT OTHERWISE");
+        say(rt, b", LEFT OTHERWISE");
     }
 }
 
 // The names of the first n rows, and whether those behind them are zero.
-fn say_rows<'a>(first: &'a [u8], second: &'a [u8], keys: [Row; Attrs::KEYS], n: usize) {
-    say(b", rows");
+fn say_rows<'a>(
+    rt: &impl Print,
+    first: &'a [u8],
+    second: &'a [u8],
+    keys: [Row; Attrs::KEYS],
+    n: usize,
+) {
+    say(rt, b", rows");
     let mut k = 0;
     while k < Attrs::KEYS {
         let r = keys[k];
-        say_row(first, second, r, k < n);
+        say_row(rt, first, second, r, k < n);
         k += 1;
     }
 }
 
 // A row that counts, or one past the count.
-fn say_row<'a>(first: &'a [u8], second: &'a [u8], r: Row, counts: bool) {
+fn say_row<'a>(rt: &impl Print, first: &'a [u8], second: &'a [u8], r: Row, counts: bool) {
     let name = r.name;
     if counts {
-        say(b" ");
-        say_name(first, second, name);
+        say(rt, b" ");
+        say_name(rt, first, second, name);
         return;
     }
-    say_name_past(name);
+    say_name_past(rt, name);
 }
 
-fn say_name<'a>(first: &'a [u8], second: &'a [u8], name: Name) {
+fn say_name<'a>(rt: &impl Print, first: &'a [u8], second: &'a [u8], name: Name) {
     match name {
         Name::Range(o, f, t) => {
             let bytes = set_table::range_of(first, second, o, f as usize, t as usize);
-            say(bytes);
+            say(rt, bytes);
         }
-        Name::Lang => say(b"lang"),
+        Name::Lang => say(rt, b"lang"),
     }
 }
 
 // Nothing of a zero row.
-fn say_name_past(name: Name) {
+fn say_name_past(rt: &impl Print, name: Name) {
     match name {
         Name::Range(_, _, t) => {
             if 0 < t {
-                say(b" AND A ROW");
+                say(rt, b" AND A ROW");
             }
         }
-        Name::Lang => say(b" AND A ROW"),
+        Name::Lang => say(rt, b" AND A ROW"),
     }
 }
 
 // The first n slots, and whether those behind them are zero.
-fn say_slots(order: [SlotRecord; Attrs::SLOTS], n: usize) {
-    say(b", slots");
+fn say_slots(rt: &impl Print, order: [SlotRecord; Attrs::SLOTS], n: usize) {
+    say(rt, b", slots");
     let mut k = 0;
     while k < Attrs::SLOTS {
         let p = order[k];
         let s = p.slot;
-        say_slot(s, k < n);
+        say_slot(rt, s, k < n);
         k += 1;
     }
 }
 
 // A slot that counts, or one past the count.
-fn say_slot(slot: Slot, counts: bool) {
+fn say_slot(rt: &impl Print, slot: Slot, counts: bool) {
     if counts {
-        say_place(slot);
+        say_place(rt, slot);
         return;
     }
-    say_slot_past(slot);
+    say_slot_past(rt, slot);
 }
 
-fn say_place(slot: Slot) {
+fn say_place(rt: &impl Print, slot: Slot) {
     match slot {
         Slot::Key(k) => {
-            say(b" ");
-            say_number(k as usize);
+            say(rt, b" ");
+            say_number(rt, k as usize);
         }
-        Slot::Id => say(b" id"),
-        Slot::Class => say(b" class"),
+        Slot::Id => say(rt, b" id"),
+        Slot::Class => say(rt, b" class"),
     }
 }
 
 // Nothing of a zero slot.
-fn say_slot_past(slot: Slot) {
+fn say_slot_past(rt: &impl Print, slot: Slot) {
     match slot {
         Slot::Key(k) => {
             if 0 < k {
-                say(b" AND A SLOT");
+                say(rt, b" AND A SLOT");
             }
         }
-        Slot::Id => say(b" AND A SLOT"),
-        Slot::Class => say(b" AND A SLOT"),
+        Slot::Id => say(rt, b" AND A SLOT"),
+        Slot::Class => say(rt, b" AND A SLOT"),
     }
 }

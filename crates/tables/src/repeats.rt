@@ -4,12 +4,13 @@ use crate::good::{plain, plain_of, quoted, quoted_of};
 use crate::{good, over};
 use set_table::{Attrs, Origin, Text, Value};
 
-pub(crate) fn run<'a>(t: &'a [u8], u: &'a [u8]) {
-    equal(t, u);
-    unequal(t, u);
-    escaped(t);
+pub(crate) fn run<'a>(rt: &impl Print, t: &'a [u8], u: &'a [u8]) {
+    equal(rt, t, u);
+    unequal(rt, t, u);
+    escaped(rt, t);
     // rows that are zero have no bytes
     counts(
+        rt,
         b"as many classes as fit, all but the first of no bytes",
         t,
         Attrs::CLASSES as u8,
@@ -19,36 +20,46 @@ pub(crate) fn run<'a>(t: &'a [u8], u: &'a [u8]) {
 }
 
 // The good table with two classes.
-fn pair<'a>(name: &'a [u8], t: &'a [u8], u: &'a [u8], a: Value, b: Value) {
+fn pair<'a>(rt: &impl Print, name: &'a [u8], t: &'a [u8], u: &'a [u8], a: Value, b: Value) {
     let mut s = good::set();
     s.classes[0] = a;
     s.classes[1] = b;
     s.nclass = 2;
-    over(name, t, u, s, good::set());
+    over(rt, name, t, u, s, good::set());
 }
 
 // "a class equal byte for byte to an earlier one doesn't count"
-fn equal<'a>(t: &'a [u8], u: &'a [u8]) {
+fn equal<'a>(rt: &impl Print, t: &'a [u8], u: &'a [u8]) {
     let none = Value { text: Text::Empty };
     let side = plain_of(Origin::Second, 15, 19);
     let space = quoted_of(Origin::Second, 14, 15);
     pair(
+        rt,
         b"a class twice by one range",
         t,
         u,
         plain(4, 9),
         plain(4, 9),
     );
-    pair(b"a class plain and quoted", t, u, plain(4, 9), quoted(4, 9));
     pair(
+        rt,
+        b"a class plain and quoted",
+        t,
+        u,
+        plain(4, 9),
+        quoted(4, 9),
+    );
+    pair(
+        rt,
         b"a class twice, once by each text",
         t,
         u,
         plain(10, 14),
         side,
     );
-    pair(b"a space of each text", t, u, plain(9, 10), space);
+    pair(rt, b"a space of each text", t, u, plain(9, 10), space);
     pair(
+        rt,
         b"no bytes by a range and by none",
         t,
         u,
@@ -57,10 +68,11 @@ fn equal<'a>(t: &'a [u8], u: &'a [u8]) {
     );
 }
 
-fn unequal<'a>(t: &'a [u8], u: &'a [u8]) {
-    pair(b"a class and its front", t, u, plain(4, 9), plain(4, 7));
-    pair(b"classes that overlap", t, u, plain(4, 8), plain(5, 9));
+fn unequal<'a>(rt: &impl Print, t: &'a [u8], u: &'a [u8]) {
+    pair(rt, b"a class and its front", t, u, plain(4, 9), plain(4, 7));
+    pair(rt, b"classes that overlap", t, u, plain(4, 8), plain(5, 9));
     pair(
+        rt,
         b"the same places of two texts",
         t,
         u,
@@ -70,10 +82,11 @@ fn unequal<'a>(t: &'a [u8], u: &'a [u8]) {
 }
 
 // The second text is a backslash and a double quote: in quotes they are the double quote alone.
-fn escaped(t: &[u8]) {
+fn escaped(rt: &impl Print, t: &[u8]) {
     let u = b"\\\"";
     let quote = plain_of(Origin::Second, 1, 2);
     pair(
+        rt,
         b"a quote, and one with its backslash, quoted",
         t,
         u,
@@ -81,6 +94,7 @@ fn escaped(t: &[u8]) {
         quoted_of(Origin::Second, 0, 2),
     );
     pair(
+        rt,
         b"a quote, and one with its backslash, plain",
         t,
         u,

@@ -1,4 +1,6 @@
 // Runs the worked examples of RFC 3629, of RFC 5646, of CommonMark 0.31.2 and of document 01 against the leaf functions.
+#![tactic(auto)]
+
 mod commonmark;
 mod lines_and_names;
 mod refused;
@@ -13,9 +15,9 @@ pub(crate) struct Tally {
 }
 
 // One example more.
-pub(crate) fn held(t: Tally, ok: bool) -> Tally {
+pub(crate) fn held(rt: &impl Print, t: Tally, ok: bool) -> Tally {
     if !ok {
-        return failed(t);
+        return failed(rt, t);
     }
     Tally {
         hold: next(t.hold),
@@ -24,30 +26,35 @@ pub(crate) fn held(t: Tally, ok: bool) -> Tally {
 }
 
 // One that fails is told by its number among all.
-fn failed(t: Tally) -> Tally {
+fn failed(rt: &impl Print, t: Tally) -> Tally {
     let fail = next(t.fail);
-    io::write_all(libc::STDOUT_FILENO, b"fails: ");
-    io::print_decimal(
-        libc::STDOUT_FILENO,
-        std::num::wrapping_add_u64(t.hold, fail),
-    );
-    io::write_all(libc::STDOUT_FILENO, b"\n");
+    say(rt, "fails: ");
+    say_number(rt, t.hold.wrapping_add(fail));
+    say(rt, "\n");
     Tally { hold: t.hold, fail }
 }
 
-fn next(n: u64) -> u64 {
-    std::num::wrapping_add_u64(n, 1)
+fn say(rt: &impl Print, words: &str) {
+    let _ = rt.print(words);
 }
 
-fn main() {
+fn say_number(rt: &impl Print, n: u64) {
+    let _ = rt.print(n);
+}
+
+fn next(n: u64) -> u64 {
+    n.wrapping_add(1)
+}
+
+fn main(rt: HostRuntime) {
     let start = Tally { hold: 0, fail: 0 };
-    let encoded = rfc3629::run(start);
-    let marked = commonmark::run(encoded);
-    let named = lines_and_names::run(marked);
-    let tagged = rfc5646::run(named);
-    let t = refused::run(tagged);
-    io::print_decimal(libc::STDOUT_FILENO, t.hold);
-    io::write_all(libc::STDOUT_FILENO, b" examples hold, ");
-    io::print_decimal(libc::STDOUT_FILENO, t.fail);
-    io::write_all(libc::STDOUT_FILENO, b" fail\n");
+    let encoded = rfc3629::run(&rt, start);
+    let marked = commonmark::run(&rt, encoded);
+    let named = lines_and_names::run(&rt, marked);
+    let tagged = rfc5646::run(&rt, named);
+    let t = refused::run(&rt, tagged);
+    say_number(&rt, t.hold);
+    say(&rt, " examples hold, ");
+    say_number(&rt, t.fail);
+    say(&rt, " fail\n");
 }

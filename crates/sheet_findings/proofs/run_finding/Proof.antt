@@ -1,7 +1,7 @@
 use Rattle.sheet_findings.proofs.Lines as laws
 use native.Mathlib.Omega.{arith}
 use mathlib.Core.Path.{sym}
-use Rattle.read_blocks.proofs.Finds.{joined_in, joined_long}
+use Rattle.read_blocks.proofs.Finds.{joined_in_lem, joined_long}
 use borrow.Author.Rules.{rules}
 use Rattle.sheet_findings.proofs.run_finding.Statement.{statement}
 use Rattle.sheet_findings.proofs.run_finding.Tie as tie
@@ -24,7 +24,7 @@ enum_told c = search rules
 
 -- src/lib.rt:193:62
 slice-reshare-prefix-joined-finding : tie.Need-slice-reshare-prefix-joined-finding
-slice-reshare-prefix-joined-finding c = joined_in c.before.before.before.before.before.before.before.before.args.text.now c.before.before.before.before.before.before.before.before.args.at 0 c.before.before.before.before.before.before.before.before.args.join.now c.before.before.before.before.join-run.ensures.0 c.before.before.before.before.join-run.ensures.1.0
+slice-reshare-prefix-joined-finding c = joined_in_lem c.before.before.before.before.before.before.before.before.args.text.now c.before.before.before.before.before.before.before.before.args.at 0 c.before.before.before.before.before.before.before.before.args.join.now c.before.before.before.before.join-run.ensures.0 c.before.before.before.before.join-run.ensures.1.0
 
 -- src/lib.rt:193:62
 slice-aggregate-joined-finding : tie.Need-slice-aggregate-joined-finding
