@@ -157,11 +157,11 @@ moves-preserved-in-Class c = arms.class_on c.moves.invariant c.next_move-r.ensur
 
 -- src/lib.rt:719:21
 pub name_of-name-requires : goal.name_of-name-requires
-name_of-name-requires c = (let p = arms.by_key c.next_move-r.ensures (refused.opened c.in_default.in_default-own.keys5) in (omega (arith, p.short.0, c.requires.0), omega (arith, p.short.1, c.requires.0)))
+name_of-name-requires c = (let p = arms.by_key c.next_move-r.ensures c.in_default.in_default-own.keys5 in (omega (arith, p.short.0, c.requires.0), omega (arith, p.short.1, c.requires.0)))
 
 -- src/lib.rt:720:21
 pub value_of-v-requires : goal.value_of-v-requires
-value_of-v-requires c = (let p = arms.by_key c.next_move-r.ensures (refused.opened c.in_default.in_default-own.keys5) in (omega (arith, p.short.2, c.requires.0), omega (arith, p.short.3, c.requires.0)))
+value_of-v-requires c = (let p = arms.by_key c.next_move-r.ensures c.in_default.in_default-own.keys5 in (omega (arith, p.short.2, c.requires.0), omega (arith, p.short.3, c.requires.0)))
 
 -- src/lib.rt:721:25
 pub overflow_cast-n-in_default : goal.overflow_cast-n-in_default
@@ -185,19 +185,19 @@ bounds-set-k-then-k-n c = omega (arith, holding.few (c.moves.invariant.fits.hold
 
 -- src/lib.rt:669:5
 pub moves-smaller-then-k-n : goal.moves-smaller-then-k-n
-moves-smaller-then-k-n c = loop.less c.moves.invariant (arms.by_key c.next_move-r.ensures (refused.opened c.in_default.in_default-own.keys5))
+moves-smaller-then-k-n c = loop.less c.moves.invariant (arms.by_key c.next_move-r.ensures c.in_default.in_default-own.keys5)
 
 -- src/lib.rt:669:5
 pub moves-preserved-then-k-n : goal.moves-preserved-then-k-n
-moves-preserved-then-k-n c = arms.key_on c.moves.invariant c.next_move-r.ensures (refused.opened c.in_default.in_default-own.keys5) _ c.spoken-last.ensures c.name_of-name.ensures c.value_of-v.ensures (holding.key_again (c.moves.invariant.fits.holds) _ _ _ c.find_key-k.ensures (omega (arith, c.if-k-n.true)))
+moves-preserved-then-k-n c = arms.key_on c.moves.invariant c.next_move-r.ensures c.in_default.in_default-own.keys5 _ c.spoken-last.ensures c.name_of-name.ensures c.value_of-v.ensures (holding.key_again (c.moves.invariant.fits.holds) _ _ _ c.find_key-k.ensures (omega (arith, c.if-k-n.true)))
 
 -- src/lib.rt:669:5
 pub moves-smaller-then-n-ge-KEYS : goal.moves-smaller-then-n-ge-KEYS
-moves-smaller-then-n-ge-KEYS c = loop.less c.moves.invariant (arms.by_key c.next_move-r.ensures (refused.opened c.in_default.in_default-own.keys5))
+moves-smaller-then-n-ge-KEYS c = loop.less c.moves.invariant (arms.by_key c.next_move-r.ensures c.in_default.in_default-own.keys5)
 
 -- src/lib.rt:669:5
 pub moves-preserved-then-n-ge-KEYS : goal.moves-preserved-then-n-ge-KEYS
-moves-preserved-then-n-ge-KEYS c = arms.key_over c.moves.invariant c.next_move-r.ensures (refused.opened c.in_default.in_default-own.keys5) _ c.spoken-last.ensures c.name_of-name.ensures c.value_of-v.ensures c.find_key-k.ensures (omega (arith, c.if-k-n.false)) (omega (arith, c.if-n-ge-KEYS.true))
+moves-preserved-then-n-ge-KEYS c = arms.key_over c.moves.invariant c.next_move-r.ensures c.in_default.in_default-own.keys5 _ c.spoken-last.ensures c.name_of-name.ensures c.value_of-v.ensures c.find_key-k.ensures (omega (arith, c.if-k-n.false)) (omega (arith, c.if-n-ge-KEYS.true))
 
 -- src/lib.rt:734:25
 pub overflow_cast-p-in_default : goal.overflow_cast-p-in_default
@@ -229,8 +229,11 @@ overflow_add-set-in_default-2 c = omega (arith, holding.few (c.moves.invariant.f
 
 -- src/lib.rt:669:5
 pub moves-smaller : goal.moves-smaller
-moves-smaller c = loop.less c.moves.invariant (arms.by_key c.next_move-r.ensures (refused.opened c.in_default.in_default-own.keys5))
+moves-smaller c = loop.less c.moves.invariant (arms.by_key c.next_move-r.ensures c.in_default.in_default-own.keys5)
 
 -- src/lib.rt:669:5
 pub moves-preserved : goal.moves-preserved
-moves-preserved c = arms.key_on c.moves.invariant c.next_move-r.ensures (refused.opened c.in_default.in_default-own.keys5) _ c.spoken-last.ensures c.name_of-name.ensures c.value_of-v.ensures (holding.key_first (c.moves.invariant.fits.holds) _ _ _ c.find_key-k.ensures (omega (arith, c.if-k-n.false)) (omega (arith, c.if-n-ge-KEYS.false)))
+moves-preserved c = arms.key_on c.moves.invariant c.next_move-r.ensures c.in_default.in_default-own.keys5 _ c.spoken-last.ensures c.name_of-name.ensures c.value_of-v.ensures (holding.key_first (c.moves.invariant.fits.holds) _ _ _ c.find_key-k.ensures (omega (arith, c.if-k-n.false)) (omega (arith, c.if-n-ge-KEYS.false)))
+
+pub offset_bounds-set-p-in-Class : goal.offset_bounds-set-p-in-Class
+offset_bounds-set-p-in-Class c = omega (arith, holding.few c.moves.invariant.fits.holds)
