@@ -25,11 +25,11 @@ slice_bounds-is_blank_line-end c = omega (arith, line_in _ _ (c.if-text-at.false
 pub slice_bounds-indent_columns-count : goal.slice_bounds-indent_columns-count
 slice_bounds-indent_columns-count c = omega (arith, line_in _ _ (c.if-text-at.false) (c.line_from-l.ensures))
 
-pub slice_bounds-indent_columns-column-start : goal.slice_bounds-indent_columns-column-start
-slice_bounds-indent_columns-column-start c = omega (arith, line_in _ _ (c.if-text-at.false) (c.line_from-l.ensures))
+pub slice_bounds-indent_columns-start : goal.slice_bounds-indent_columns-start
+slice_bounds-indent_columns-start c = omega (arith, line_in _ _ (c.if-text-at.false) (c.line_from-l.ensures))
 
-pub slice_bounds-indent_columns-column-end : goal.slice_bounds-indent_columns-column-end
-slice_bounds-indent_columns-column-end c = omega (arith, line_in _ _ (c.if-text-at.false) (c.line_from-l.ensures))
+pub slice_bounds-indent_columns-end : goal.slice_bounds-indent_columns-end
+slice_bounds-indent_columns-end c = omega (arith, line_in _ _ (c.if-text-at.false) (c.line_from-l.ensures))
 
 pub slice_bounds-closes_comment-count : goal.slice_bounds-closes_comment-count
 slice_bounds-closes_comment-count c = omega (arith, line_in _ _ c.if-text-at.false c.line_from-l.ensures)

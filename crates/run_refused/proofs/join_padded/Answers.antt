@@ -28,11 +28,11 @@ overflow_add-from c =
 pub slice_bounds-spot_at-count : goal.slice_bounds-spot_at-count
 slice_bounds-spot_at-count c = omega (arith, laws.here_in (c.lines.invariant) (c.line_from-l.ensures))
 
-pub slice_bounds-spot_at-spot-start : goal.slice_bounds-spot_at-spot-start
-slice_bounds-spot_at-spot-start c = omega (arith, laws.here_in (c.lines.invariant) (c.line_from-l.ensures))
+pub slice_bounds-spot_at-start : goal.slice_bounds-spot_at-start
+slice_bounds-spot_at-start c = omega (arith, laws.here_in (c.lines.invariant) (c.line_from-l.ensures))
 
-pub slice_bounds-spot_at-spot-end : goal.slice_bounds-spot_at-spot-end
-slice_bounds-spot_at-spot-end c = omega (arith, laws.here_in (c.lines.invariant) (c.line_from-l.ensures))
+pub slice_bounds-spot_at-end : goal.slice_bounds-spot_at-end
+slice_bounds-spot_at-end c = omega (arith, laws.here_in (c.lines.invariant) (c.line_from-l.ensures))
 
 pub spot_at-spot-requires : goal.spot_at-spot-requires
 spot_at-spot-requires c = omega (arith, laws.here_in c.lines.invariant c.line_from-l.ensures, c.requires.0)
@@ -67,12 +67,12 @@ pub slice_bounds-pass_over-count : goal.slice_bounds-pass_over-count
 slice_bounds-pass_over-count c =
     omega (arith, laws.here_in c.lines.invariant c.line_from-l.ensures, laws.from_in c.lines.invariant c.line_from-l.ensures (ap (λ z. c.lines.at + z) c.trim_ascii_start.ensures))
 
-pub slice_bounds-pass_over-end-start : goal.slice_bounds-pass_over-end-start
-slice_bounds-pass_over-end-start c =
+pub slice_bounds-pass_over-start : goal.slice_bounds-pass_over-start
+slice_bounds-pass_over-start c =
     omega (arith, laws.here_in c.lines.invariant c.line_from-l.ensures, laws.from_in c.lines.invariant c.line_from-l.ensures (ap (λ z. c.lines.at + z) c.trim_ascii_start.ensures))
 
-pub slice_bounds-pass_over-end-end : goal.slice_bounds-pass_over-end-end
-slice_bounds-pass_over-end-end c =
+pub slice_bounds-pass_over-end : goal.slice_bounds-pass_over-end
+slice_bounds-pass_over-end c =
     omega (arith, laws.here_in c.lines.invariant c.line_from-l.ensures, laws.from_in c.lines.invariant c.line_from-l.ensures (ap (λ z. c.lines.at + z) c.trim_ascii_start.ensures))
 
 pub pass_over-end-requires : goal.pass_over-end-requires

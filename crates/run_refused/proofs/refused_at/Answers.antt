@@ -25,11 +25,11 @@ returns-then-not-opens_brace c = let r = laws.unjoined_told _ _ (laws.told_none 
 pub slice_bounds-indent_columns-count : goal.slice_bounds-indent_columns-count
 slice_bounds-indent_columns-count c = omega (arith, line_in c.args.text.now c.args.at c.requires.1 c.line_from-l.ensures)
 
-pub slice_bounds-indent_columns-opener-start : goal.slice_bounds-indent_columns-opener-start
-slice_bounds-indent_columns-opener-start c = omega (arith, line_in c.args.text.now c.args.at c.requires.1 c.line_from-l.ensures)
+pub slice_bounds-indent_columns-start : goal.slice_bounds-indent_columns-start
+slice_bounds-indent_columns-start c = omega (arith, line_in c.args.text.now c.args.at c.requires.1 c.line_from-l.ensures)
 
-pub slice_bounds-indent_columns-opener-end : goal.slice_bounds-indent_columns-opener-end
-slice_bounds-indent_columns-opener-end c = omega (arith, line_in c.args.text.now c.args.at c.requires.1 c.line_from-l.ensures)
+pub slice_bounds-indent_columns-end : goal.slice_bounds-indent_columns-end
+slice_bounds-indent_columns-end c = omega (arith, line_in c.args.text.now c.args.at c.requires.1 c.line_from-l.ensures)
 
 pub slice_bounds-opens_comment-count : goal.slice_bounds-opens_comment-count
 slice_bounds-opens_comment-count c = omega (arith, line_in c.args.text.now c.args.at c.requires.1 c.line_from-l.ensures)
@@ -62,9 +62,11 @@ refused_block-requires c = (
 )
 
 pub returns-then-shallow : goal.returns-then-shallow
-returns-then-shallow c = let r = rw (laws.told_block (length c.args.join.now) c.args.text.now c.args.at c.requires.1 c.line_from-l.ensures
+returns-then-shallow c =
+    let e = (laws.told_block (length c.args.join.now) c.args.text.now c.args.at c.requires.1 c.line_from-l.ensures
     (sym (c.if-not-opens_brace.false) ∙ c.opens_brace.ensures) c.requires.0 c.indent_columns-opener.ensures (sym c.if-opens_comment.false ∙ c.opens_comment.ensures) c.if-shallow.true
-    (sym c.in-Block.is ∙ c.walk_run.ensures)).1 (c.refused_block.ensures.value, c.refused_block.ensures.join_after) in record { value = r.0; join_after = r.1 }
+    (sym c.in-Block.is ∙ c.walk_run.ensures)).1 in
+    record { value = rw e c.refused_block.ensures.value; join_after = rw e c.refused_block.ensures.join_after }
 
 pub returns-in-No : goal.returns-in-No
 returns-in-No c = let r = laws.unjoined_told _ _ (laws.told_no (length c.args.join.now) c.args.text.now c.args.at c.requires.1 c.line_from-l.ensures

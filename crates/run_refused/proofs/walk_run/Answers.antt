@@ -8,14 +8,6 @@ use Rattle.run_refused.specs.Inner.{walk_at, shown_walk}
 use Rattle.run_refused.proofs.Walking as laws
 use Rattle.run_refused.proofs.walk_run.Goals as goal
 
-part-trim-ascii-start-start :
-    tie.Need-slice-bounds-trim-ascii-start-start invariant-loop decreases-loop invariant-lines decreases-lines
-part-trim-ascii-start-start c = let at6 = c.before.before.before.before.before.before in let at7 = at6.before in omega (arith, laws.line_in _ _ at7.if1.false at6.line-from.ensures)
-
-shared-slice-read-spot-after :
-    tie.Need-shared-slice-read-spot-after invariant-loop decreases-loop invariant-lines decreases-lines
-shared-slice-read-spot-after c = omega (arith, c.before.before.before.before.before.loop.invariant.within)
-
 pub lines-init : goal.lines-init
 lines-init c = laws.start _ _ _ (c.requires.1)
 
@@ -34,11 +26,11 @@ halts_at-requires c = omega (arith, c.lines.invariant.low)
 pub slice_bounds-spot_at-count : goal.slice_bounds-spot_at-count
 slice_bounds-spot_at-count c = omega (arith, laws.line_in _ _ (c.if-text-at.false) (c.line_from-l.ensures))
 
-pub slice_bounds-spot_at-spot-start : goal.slice_bounds-spot_at-spot-start
-slice_bounds-spot_at-spot-start c = omega (arith, laws.line_in _ _ (c.if-text-at.false) (c.line_from-l.ensures))
+pub slice_bounds-spot_at-start : goal.slice_bounds-spot_at-start
+slice_bounds-spot_at-start c = omega (arith, laws.line_in _ _ (c.if-text-at.false) (c.line_from-l.ensures))
 
-pub slice_bounds-spot_at-spot-end : goal.slice_bounds-spot_at-spot-end
-slice_bounds-spot_at-spot-end c = omega (arith, laws.line_in _ _ (c.if-text-at.false) (c.line_from-l.ensures))
+pub slice_bounds-spot_at-end : goal.slice_bounds-spot_at-end
+slice_bounds-spot_at-end c = omega (arith, laws.line_in _ _ (c.if-text-at.false) (c.line_from-l.ensures))
 
 pub spot_at-spot-requires : goal.spot_at-spot-requires
 spot_at-spot-requires c =
@@ -46,6 +38,9 @@ spot_at-spot-requires c =
 
 pub slice_bounds-trim_ascii_start-count : goal.slice_bounds-trim_ascii_start-count
 slice_bounds-trim_ascii_start-count c = omega (arith, laws.line_in _ _ c.if-text-at.false c.line_from-l.ensures)
+
+pub slice_bounds-trim_ascii_start-start : goal.slice_bounds-trim_ascii_start-start
+slice_bounds-trim_ascii_start-start c = omega (arith, laws.line_in _ _ c.if-text-at.false c.line_from-l.ensures)
 
 pub slice_bounds-trim_ascii_start-end : goal.slice_bounds-trim_ascii_start-end
 slice_bounds-trim_ascii_start-end c = omega (arith, laws.line_in _ _ c.if-text-at.false c.line_from-l.ensures)
@@ -60,6 +55,9 @@ loop-i-init c =
 
 pub bounds-text-i : goal.bounds-text-i
 bounds-text-i c = omega (arith, c.loop-i.invariant.within)
+
+pub bounds-text-i-in-loop-i : goal.bounds-text-i-in-loop-i
+bounds-text-i-in-loop-i c = omega (arith, c.loop-i.invariant.within)
 
 pub spot_after-spot-requires : goal.spot_after-spot-requires
 spot_after-spot-requires c = omega (arith, c.loop-i.invariant.column)
