@@ -10,36 +10,36 @@ mod inputs;
 use std::hint::black_box;
 use std::time::Instant;
 
-/// A slice as the modules' functions take it, by a pointer to its two words.
-#[repr(C)]
+/// A slice: the functions take it as these two words, one behind the other.
+#[derive(Clone, Copy)]
 struct Slice(*const u8, usize);
 
 /// The functions of one commit.
 #[derive(Clone, Copy)]
 struct Side {
     name: &'static str,
-    read_set: unsafe extern "C" fn(*mut u8, &Slice, usize, &u8),
-    is_utf8: unsafe extern "C" fn(&Slice) -> bool,
-    read_attrs_at: unsafe extern "C" fn(&Slice, usize, u8, &Slice, &Slice) -> u8,
-    line: unsafe extern "C" fn(&Slice, usize, &Slice, &Slice) -> u8,
-    block: unsafe extern "C" fn(&Slice, usize, &Slice, &Slice, &Slice) -> u8,
-    merge: unsafe extern "C" fn(&Slice, usize, usize, &Slice, &Slice) -> u8,
-    start: unsafe extern "C" fn(&Slice, &Slice, &Slice, &Slice) -> u8,
-    part: unsafe extern "C" fn(&Slice, usize, usize, &Slice, &Slice, &Slice) -> u8,
+    read_set: unsafe extern "C" fn(*mut u8, *const u8, usize, usize, u8),
+    is_utf8: unsafe extern "C" fn(*const u8, usize) -> bool,
+    read_attrs_at: unsafe extern "C" fn(*const u8, usize, usize, u8, *const u8, usize, *const u8, usize) -> u8,
+    line: unsafe extern "C" fn(*const u8, usize, usize, *const u8, usize, *const u8, usize) -> u8,
+    block: unsafe extern "C" fn(*const u8, usize, usize, *const u8, usize, *const u8, usize, *const u8, usize) -> u8,
+    merge: unsafe extern "C" fn(*const u8, usize, usize, usize, *const u8, usize, *const u8, usize) -> u8,
+    start: unsafe extern "C" fn(*const u8, usize, *const u8, usize, *const u8, usize, *const u8, usize) -> u8,
+    part: unsafe extern "C" fn(*const u8, usize, usize, usize, *const u8, usize, *const u8, usize, *const u8, usize) -> u8,
 }
 
 /// The commits and the names of their functions, as `bench/commits` writes them.
 macro_rules! sides {
     ($($name:literal $set:ident $utf8:ident $at:ident $line:ident $block:ident $merge:ident $start:ident $part:ident;)*) => {
         extern "C" {$(
-            fn $set(answer: *mut u8, text: &Slice, place: usize, mode: &u8);
-            fn $utf8(text: &Slice) -> bool;
-            fn $at(text: &Slice, place: usize, loose: u8, out: &Slice, told: &Slice) -> u8;
-            fn $line(text: &Slice, line: usize, out: &Slice, told: &Slice) -> u8;
-            fn $block(text: &Slice, line: usize, join: &Slice, out: &Slice, told: &Slice) -> u8;
-            fn $merge(text: &Slice, common: usize, variant: usize, out: &Slice, told: &Slice) -> u8;
-            fn $start(text: &Slice, join: &Slice, out: &Slice, told: &Slice) -> u8;
-            fn $part(text: &Slice, at: usize, line: usize, join: &Slice, out: &Slice, told: &Slice) -> u8;
+            fn $set(answer: *mut u8, text: *const u8, len: usize, place: usize, mode: u8);
+            fn $utf8(text: *const u8, len: usize) -> bool;
+            fn $at(text: *const u8, len: usize, place: usize, loose: u8, out: *const u8, out_len: usize, told: *const u8, told_len: usize) -> u8;
+            fn $line(text: *const u8, len: usize, line: usize, out: *const u8, out_len: usize, told: *const u8, told_len: usize) -> u8;
+            fn $block(text: *const u8, len: usize, line: usize, join: *const u8, join_len: usize, out: *const u8, out_len: usize, told: *const u8, told_len: usize) -> u8;
+            fn $merge(text: *const u8, len: usize, common: usize, variant: usize, out: *const u8, out_len: usize, told: *const u8, told_len: usize) -> u8;
+            fn $start(text: *const u8, len: usize, join: *const u8, join_len: usize, out: *const u8, out_len: usize, told: *const u8, told_len: usize) -> u8;
+            fn $part(text: *const u8, len: usize, at: usize, line: usize, join: *const u8, join_len: usize, out: *const u8, out_len: usize, told: *const u8, told_len: usize) -> u8;
         )*}
         const SIDES: &[Side] = &[$(Side {
             name: $name, read_set: $set, is_utf8: $utf8, read_attrs_at: $at, line: $line, block: $block, merge: $merge, start: $start, part: $part,
@@ -81,23 +81,36 @@ enum Ask {
 
 /// One call, or as many as a report takes: the number that it answers.
 fn ask(side: &Side, ask: Ask, bytes: &[u8], m: &mut Lent) -> u8 {
-    let text = &Slice(bytes.as_ptr(), bytes.len());
-    let (join, out) = (&m.join(), &m.out());
+    let (text, len) = (bytes.as_ptr(), bytes.len());
+    let (join, out) = (m.join(), m.out());
     unsafe {
         match ask {
-            Ask::Utf8 => (side.is_utf8)(text) as u8,
+            Ask::Utf8 => (side.is_utf8)(text, len) as u8,
             Ask::Set => {
-                (side.read_set)(m.set.as_mut_ptr().cast(), text, 0, &0);
+                (side.read_set)(m.set.as_mut_ptr().cast(), text, len, 0, 0);
                 0
             }
-            Ask::At => (side.read_attrs_at)(text, 0, 0, out, &m.told(2)),
-            Ask::Line(n) => (side.line)(text, n, out, &m.told(1)),
-            Ask::Block(n) => (side.block)(text, n, join, out, &m.told(5)),
-            Ask::Merge(a, b) => (side.merge)(text, a, b, out, &m.told(2)),
+            Ask::At => {
+                let told = m.told(2);
+                (side.read_attrs_at)(text, len, 0, 0, out.0, out.1, told.0, told.1)
+            }
+            Ask::Line(n) => {
+                let told = m.told(1);
+                (side.line)(text, len, n, out.0, out.1, told.0, told.1)
+            }
+            Ask::Block(n) => {
+                let told = m.told(5);
+                (side.block)(text, len, n, join.0, join.1, out.0, out.1, told.0, told.1)
+            }
+            Ask::Merge(a, b) => {
+                let told = m.told(2);
+                (side.merge)(text, len, a, b, out.0, out.1, told.0, told.1)
+            }
             Ask::Sheet => {
-                let mut number = (side.start)(text, join, out, &m.told(3));
+                let told = m.told(3);
+                let mut number = (side.start)(text, len, join.0, join.1, out.0, out.1, told.0, told.1);
                 while number == 0 && m.told[2] != 0 {
-                    number = (side.part)(text, m.told[1], m.told[2], join, out, &m.told(3));
+                    number = (side.part)(text, len, m.told[1], m.told[2], join.0, join.1, out.0, out.1, told.0, told.1);
                 }
                 number
             }

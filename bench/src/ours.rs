@@ -1,12 +1,5 @@
 //! The proved code, as the static library has it, and one function from inside the module of `door_sets`.
 
-/// A slice as the module's inner functions take it.
-#[repr(C)]
-struct Slice {
-    ptr: *const u8,
-    len: usize,
-}
-
 extern "C" {
     fn bridlesnow_is_utf8(text: *const u8, len: usize) -> bool;
     fn bridlesnow_read_attrs_at(
@@ -52,11 +45,11 @@ extern "C" {
         index: *const u8, index_len: usize, join: *mut u8, join_len: usize,
         table: *mut usize, table_len: usize, out: *mut u8, out_len: usize, told: *mut usize, told_len: usize,
     ) -> u8;
-    /// `read_brace::read_attrs_at_with`, which `bench/run` makes visible: it answers by a struct that the caller has room for, takes a slice by a
-    /// pointer to its two words, and the mode by a pointer to its number.
-    fn read_brace__read_attrs_at_with(answer: *mut u8, text: *const Slice, place: usize, mode: *const u8);
-    /// The second reader, likewise; its choice of tags by a pointer to its number.
-    fn read_once__read_attrs_once_with(answer: *mut u8, text: *const Slice, place: usize, mode: *const u8, tags: *const u8);
+    /// `read_brace::read_attrs_at_with`, which `bench/run` makes visible: it answers by a struct that the caller has room for, and takes the mode as a
+    /// number.
+    fn read_brace__read_attrs_at_with(answer: *mut u8, text: *const u8, len: usize, place: usize, mode: u8);
+    /// The second reader, likewise; its choice of tags as a number.
+    fn read_once__read_attrs_once_with(answer: *mut u8, text: *const u8, len: usize, place: usize, mode: u8, tags: u8);
 }
 
 /// The set of a block at a brace as the reader hands it out: the answer's number stands first, 2 where a set was read.
@@ -105,14 +98,12 @@ pub fn is_utf8(text: &[u8]) -> bool {
 
 /// The strict reading at a brace, its set left in memory.
 pub fn read_set(text: &[u8], place: usize, set: &mut Set) {
-    let slice = Slice { ptr: text.as_ptr(), len: text.len() };
-    unsafe { read_brace__read_attrs_at_with(set.0.as_mut_ptr(), &slice, place, &0u8) }
+    unsafe { read_brace__read_attrs_at_with(set.0.as_mut_ptr(), text.as_ptr(), text.len(), place, 0) }
 }
 
 /// The same by the second reader, any tag taken.
 pub fn read_set_once(text: &[u8], place: usize, set: &mut Set) {
-    let slice = Slice { ptr: text.as_ptr(), len: text.len() };
-    unsafe { read_once__read_attrs_once_with(set.0.as_mut_ptr(), &slice, place, &0u8, &0u8) }
+    unsafe { read_once__read_attrs_once_with(set.0.as_mut_ptr(), text.as_ptr(), text.len(), place, 0, 0) }
 }
 
 /// The strict reading at a brace, its canonical text left in `out`: its length.

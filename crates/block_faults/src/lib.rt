@@ -1,4 +1,6 @@
 // Where blocks that should stand back to back go wrong, and why.
+#![tactic(auto)]
+
 ghost use Rattle.std.specs.Prelude.{◌≡◌, drop};
 ghost use Rattle.block_faults.specs.Faults.{fault_from, fault_paper};
 

@@ -1,4 +1,3 @@
 -- The laws of block_next_token.
 pub mod Steps
 pub mod Counting
-pub mod Taken

@@ -1,4 +1,6 @@
 // The line that begins at a place, trimmed.
+#![tactic(auto)]
+
 ghost use Rattle.std.specs.Prelude.{◌≡◌};
 ghost use Rattle.text_lines.specs.Lines.{line_at};
 ghost use Rattle.block_payloads.specs.Payloads.{begins_open, ends_in_close};

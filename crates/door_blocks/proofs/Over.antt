@@ -38,8 +38,14 @@ over-found t at f j buf = rw (texts_found t at f j)
 
 module _ (t j told : List ℕ) (at : ℕ) (f : Found) (buf : List ℕ) where
   pub block_says : {b : Block} {i o v : List ℕ} {r : ℕ} → b ≡ block_of t at f → i ≡ join_holds j f → Says buf told (block_said_by b (two t (slice 0 b.joined i)) buf) r o v
-      → (r ≡ (block_said t at f buf).number) × ((i ≡ join_holds j f) × ((o ≡ (block_said t at f buf).out) × (v ≡ told_in told (block_said t at f buf).told)))
-  block_says {b} {i} p q (x, (y, z)) = (x ∙ ap (λ s. s.number) e, (q, (y ∙ ap (λ s. s.out) e, z ∙ ap (λ s. told_in told s.told) e)))
+      → record { value : r ≡ (block_said t at f buf).number; join_after : i ≡ join_holds j f; out_after : o ≡ (block_said t at f buf).out; told_after : v ≡ told_in told (block_said t at f buf).told }
+  block_says {b} {i} p q x =
+      record {
+        value = x.value ∙ ap (λ s. s.number) e;
+        join_after = q;
+        out_after = x.out_after ∙ ap (λ s. s.out) e;
+        told_after = x.told_after ∙ ap (λ s. told_in told s.told) e;
+      }
     where
       e : block_said_by b (two t (slice 0 b.joined i)) buf ≡ block_said t at f buf
       e = rw (p, q) (over-found t at f j buf)

@@ -1,4 +1,6 @@
 // What C and Rust call to read a block of one or more lines: the number of its refusal or 0, and its set as canonical text.
+#![tactic(auto)]
+
 ghost use Rattle.std.specs.Prelude.{◌≡◌, ◌&&◌, not, ltb, length};
 ghost use Rattle.std.proofs.Math.Seq.{slice};
 ghost use Rattle.set_table.specs.Types.{two};

@@ -1,4 +1,6 @@
 // What C and Rust call to measure a block: the number of its refusal, 0 where nothing is refused; what was measured is told.
+#![tactic(auto)]
+
 ghost use Rattle.std.specs.Prelude.{◌≡◌, length};
 ghost use Rattle.read_blocks.specs.Blocks.{join_holds};
 ghost use Rattle.read_lengths.specs.Lengths.{length_no, length_of, lines_in, standalone_found, indented_found};

@@ -1,4 +1,6 @@
 // What C and Rust call about runs that are refused only for a line too far left: the number of a refusal, 0 where there is none.
+#![tactic(auto)]
+
 ghost use Rattle.std.specs.Prelude.{◌≡◌, length};
 ghost use Rattle.base_lists.specs.Lists.{over};
 ghost use Rattle.run_refused.specs.Refused.{reply_paper, refused_run};

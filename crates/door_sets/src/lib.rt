@@ -1,4 +1,6 @@
 // What C and Rust call to read or merge a set within a line: the number of its refusal or 0, and the set as canonical text. The sets are of one text, so the second is lent empty.
+#![tactic(auto)]
+
 ghost use Rattle.std.specs.Prelude.{◌≡◌};
 ghost use Rattle.text_checks.specs.Check.{check_of};
 ghost use Rattle.text_checks.specs.Outcomes.{or_else};

@@ -106,19 +106,19 @@ pub record Came (buf told : List ℕ) (c : Outcome) (t : Texts) (a : Attrs) (tel
 
 -- by what `write_out` promises, and the length and the number of its answer
 abbrev pub came : {buf told : List ℕ} {c : Outcome} {t : Texts} {a : Attrs} {tell : ℕ → List ℕ} {r : ℕ} {o v : List ℕ} {w : Wrote} {n : ℕ} {A : Type 0}
-    → (w ≡ or_refused c (wrote_of (canon (meaning_of t a)) (length buf))) × ((o ≡ or_left c buf (content_after buf (canon (meaning_of t a)))) × A)
+    → record { value : w ≡ or_refused c (wrote_of (canon (meaning_of t a)) (length buf)); out_after : o ≡ or_left c buf (content_after buf (canon (meaning_of t a))); result_value : A }
     → n ≡ len_of w → v ≡ told_in told (tell n) → r ≡ (wrote_paper w).number → Came buf told c t a tell r o v
-came {w = w} {n = n} p e f g = record { wrote = w; len = n; writes = p.0; out = p.1.0; counts = e; tells = f; number = g }
+came {w = w} {n = n} p e f g = record { wrote = w; len = n; writes = p.value; out = p.out_after; counts = e; tells = f; number = g }
 
 module _ (buf told : List ℕ) where
   -- an answer as it is promised
   abbrev pub Says : Said → ℕ → List ℕ → List ℕ → Type 0
-  Says s r o v = (r ≡ s.number) × ((o ≡ s.out) × (v ≡ told_in told s.told))
+  Says s r o v = record { value : r ≡ s.number; out_after : o ≡ s.out; told_after : v ≡ told_in told s.told }
 
   -- it is that of the definition, whose outcome and texts are d and u
   pub set-said : {a : Attrs} {tell : ℕ → List ℕ} {c d : Outcome} {t u : Texts} {r : ℕ} {o v : List ℕ} → c ≡ d → t ≡ u → Came buf told c t a tell r o v → Says (set_said d u a buf tell) r o v
   set-said {tell = tell} e f k =
-      rw (← e, ← f) (k.number ∙ ap (λ x. (wrote_paper x).number) k.writes, (k.out, k.tells ∙ ap (λ i. told_in told (tell i)) (k.counts ∙ ap len_of k.writes)))
+      rw (← e, ← f) (record { value = k.number ∙ ap (λ x. (wrote_paper x).number) k.writes; out_after = k.out; told_after = k.tells ∙ ap (λ i. told_in told (tell i)) (k.counts ∙ ap len_of k.writes) })
 
 -- the number of what is written out: what is refused already, then 10
 pub out_no : (c : Outcome) (xs : List ℕ) (size : ℕ) → wrote_paper (or_refused c (wrote_of xs size)) ≡ on_paper (met c ++ room_order xs size) (length xs ∷ [])

@@ -1,4 +1,6 @@
 // What the crates for C and Rust share: numbers told in lent memory, and a set handed out there as its canonical text.
+#![tactic(auto)]
+
 ghost use Rattle.std.specs.Prelude.{◌≡◌, [], ◌∷◌, ◌++◌, length, set};
 ghost use Rattle.base_refusals.specs.Numbers.{outcome_no};
 ghost use Rattle.base_refusals.specs.Orders.{on_paper, order_no, met};

@@ -1,4 +1,6 @@
 // What C and Rust call with a text alone: yes or no, or the number of a refusal.
+#![tactic(auto)]
+
 ghost use Rattle.std.specs.Prelude.{◌≡◌};
 ghost use Rattle.base_refusals.specs.Numbers.{outcome_no};
 ghost use Rattle.base_bytes.specs.declared.Mode.TheVariants.{Strict, Loose};

@@ -27,7 +27,7 @@ use Rattle.read_lengths.specs.Lengths.{flush_left}
 use Rattle.run_lines.specs.Runs.{past_lines}
 use Rattle.proved_sets.proofs.WellFormedShape.{decides}
 use Rattle.proved_reading.specs.HandedSets.{SetFormed}
-use Rattle.proved_reading.proofs.BlockSets.{found_ok}
+use Rattle.proved_reading.proofs.BlockSets.{found_ok_lem}
 use Rattle.proved_sheets.specs.Order.{Stands, InOrder}
 use Rattle.proved_sheets.proofs.Order.{sheet_in_order}
 use Rattle.sheet_blocks.specs.Sheets.{Try, is_block, blocks_of}
@@ -57,7 +57,7 @@ id_flat t a e = go a.given e
 
 module _ (t : List ℕ) (h : is_text t ≡ true) where
   set_formed : (at : ℕ) → is_block (flush_left t max_text at) ≡ true → SetFormed t at (flush_left t max_text at)
-  set_formed at = flush_by (λ f. is_block f ≡ true → SetFormed t at f) t at max_text (λ e. let z : ◌≡◌ {A = ℕ} 0 1 = cc in absurd (omega arith)) (λ e. found_ok t h at 0 max_text)
+  set_formed at = flush_by (λ f. is_block f ≡ true → SetFormed t at f) t at max_text (λ e. let z : ◌≡◌ {A = ℕ} 0 1 = cc in absurd (omega arith)) (λ e. found_ok_lem t h at 0 max_text)
 
   block_fits : {n at : ℕ} (x : Try) → Stands t max_text n at x → 1 ≤ n → n ≤ at + 1 → InBounds (record_of t x)
   unfolding record_of block_of

@@ -1,1 +1,3 @@
 // Theorems about well-formed language tags.
+
+#![tactic(auto)]

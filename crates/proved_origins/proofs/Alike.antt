@@ -129,7 +129,7 @@ module _ {P : Value → Value → Type 0} {Q : Name → Name → Type 0} {t t' :
   pub with_puts_lem : {s s' : Rows} {ps ps' : List Put} → RowsLike P Q s s' → Pairs (PutLike P Q) ps ps' → RowsLike P Q (with_puts t s ps) (with_puts t' s' ps')
   unfolding with_puts
   with_puts_lem h Pairs.none = h
-  with_puts_lem h (Pairs.more x e) = with_puts_lem (with_put_lem h x) e
+  with_puts_lem {s = s} {s' = s'} h (Pairs.more {x = x'} {y = y'} x e) = with_puts_lem {s = with_put t s x'} {s' = with_put t' s' y'} (with_put_lem h x) e
 
   -- what alike rows put is alike, if their slots name what is there
   module _ {s s' : Rows} (h : RowsLike P Q s s') where

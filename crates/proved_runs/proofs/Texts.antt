@@ -25,7 +25,7 @@ use Rattle.text_lines.specs.declared.Range.{Range}
 use Rattle.text_lines.specs.declared.Line.{Line}
 use Rattle.text_lines.specs.declared.Line.TheVariants.{Missing, At}
 use Rattle.text_lines.proofs.Lines.{ranges_end, ranges_at, line_found, lines_end}
-use Rattle.text_lines.proofs.Trim.{trim_start, trim_end-take}
+use Rattle.text_lines.proofs.Trim.{trim_start_lem, trim_end-take}
 use Rattle.text_lines.proofs.First.{rest_of, first_le, first_take, first_whole, first_cut}
 use Rattle.run_lines.specs.Runs.{as_is, start, Run, run_from, run_at, past_lines}
 use Rattle.run_joins.specs.Joins.{Lined, So, is_first, added}
@@ -56,7 +56,7 @@ NoLf s = all (λ b. not (eqb b 10)) s ≡ true
 
 all-trim : (f : ℕ → Bool) (s : List ℕ) → all f s ≡ true → all f (trim s) ≡ true
 unfolding trim
-all-trim f s e = rw (trim_end-take (trim_start s)) (all_take f (length (trim_end (trim_start s))) (trim_start s) (rw (trim_start s) (all_drop f (run is_space s) s e)))
+all-trim f s e = rw (trim_end-take (trim_start s)) (all_take f (length (trim_end (trim_start s))) (trim_start s) (rw (trim_start_lem s) (all_drop f (run is_space s) s e)))
 
 no_lf_join : (t l : List ℕ) (first : Bool) → NoLf t → NoLf l → NoLf (t ++ added first l)
 unfolding all

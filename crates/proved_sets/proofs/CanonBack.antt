@@ -60,7 +60,7 @@ pair_token {p} h = IsToken.quoted h.key refl (inside_escape p.value)
 pairs_chain : {p : Pair} {ps : List Pair} (at : ℕ) → Sure p → Sures ps → Chain Strict at (pair_text p ++ more_text ps) (items_at at (p ∷ ps))
 unfolding more_text flat_map items_at is_blank is_in
 pairs_chain at h Sures.none = Chain.last (pair_token h) (no_blanks Strict)
-pairs_chain at h (Sures.and g gs) = Chain.more 32 (pair_token h) refl (pairs_chain _ g gs)
+pairs_chain {p = p} at h (Sures.and {p = p'} {ps = ps} g gs) = Chain.more 32 (pair_token h) refl (pairs_chain {p = p'} {ps = ps} _ g gs)
 
 -- ======== by the meaning
 pair_said : {p : Pair} → Sure p → said (pair_item p) ≡ pair_entry p

@@ -20,7 +20,7 @@ use Rattle.block_grammar.specs.Computed.{read_payload}
 use Rattle.block_grammar.specs.Grammar.{Reading}
 use Rattle.block_chain.specs.Computed.{read_blocks}
 use Rattle.set_table.specs.Types.{Texts, one, max_classes, max_keys, max_slots}
-use Rattle.set_table.specs.Rows.{Rows, Put, no_rows, with_puts, table_of, rows_in}
+use Rattle.set_table.specs.Rows.{Rows, Put, no_rows, with_put, with_puts, table_of, rows_in}
 use Rattle.set_table.specs.Puts.{puts_in}
 use Rattle.set_table.specs.Filled.{refusing, limited}
 use Rattle.set_table.specs.Inner.{OneEach}
@@ -74,7 +74,7 @@ never_given f h = never_eight (outcome_no f.outcome) f.set (outcome_eight f.outc
 each_puts : (t : Texts) {s : Rows} (ps : List Put) → OneEach s → OneEach (with_puts t s ps)
 unfolding with_puts
 each_puts t [] h = h
-each_puts t (p ∷ ps) h = each_puts t ps (shaped_put t p h)
+each_puts t {s = s} (p ∷ ps) h = each_puts t {s = with_put t s p} ps (shaped_put t p h)
 
 limited_few : (s : Rows) → OneEach s → Few (limited s).set
 unfolding limited table_of

@@ -115,6 +115,7 @@ unescaped utf8.Octets.none true = ascii (92 ∷ []) refl
 unescaped (utf8.Octets.more {k} {s} c o) b = go k (kind c) (char c) b (λ x. unescaped o x)
   where
     go : (k : List ℕ) → Kind k → is_utf8 k ≡ true → (b : Bool) → ((b : Bool) → is_utf8 (unescape_from b s) ≡ true) → is_utf8 (unescape_from b (k ++ s)) ≡ true
+    go [] x4 u _ ih = elim x4 [ ]
     go (a ∷ []) (Kind.low h) u false ih = either (eqb a 92) (unescape_from true s) (a ∷ unescape_from false s) (ih true) (low_utf8 a _ h (ih false))
     go (a ∷ []) (Kind.low h) u true ih =
         let z = low_utf8 a (unescape_from false s) h (ih false) in
@@ -134,6 +135,7 @@ escaped utf8.Octets.none = ascii [] refl
 escaped (utf8.Octets.more {k} {s} c o) = go k (kind c) (char c) (escaped o)
   where
     go : (k : List ℕ) → Kind k → is_utf8 k ≡ true → is_utf8 (escape s) ≡ true → is_utf8 (escape (k ++ s)) ≡ true
+    go [] x4 u ih = elim x4 [ ]
     go (a ∷ []) (Kind.low h) u ih = also (is_in (34 ∷ 92 ∷ []) a) (low_utf8 a (escape s) h ih)
       where
         also : (x : Bool) → is_utf8 (a ∷ escape s) ≡ true → is_utf8 (cond x (92 ∷ (a ∷ [])) (a ∷ []) ++ escape s) ≡ true

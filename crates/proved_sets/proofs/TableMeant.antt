@@ -149,12 +149,12 @@ module _ {t : Texts} {s : Rows} (h : Shaped t s) where
 pub shaped_puts : {t : Texts} {s : Rows} → Shaped t s → (ps : List Put) → all (is_allowed t) ps ≡ true → Shaped t (with_puts t s ps)
 unfolding with_puts all
 shaped_puts h [] a = h
-shaped_puts {t} h (p ∷ ps) a = let z = both (is_allowed t p) (all (is_allowed t) ps) a in shaped_puts (shaped_put h p z.0) ps z.1
+shaped_puts {t = t} {s = s} h (p ∷ ps) a = let z = both (is_allowed t p) (all (is_allowed t) ps) a in shaped_puts {s = with_put t s p} (shaped_put h p z.0) ps z.1
 
 -- what puts add, one after the other
 pub puts-meant : {t : Texts} {s : Rows} → Shaped t s → (ps : List Put) → all (is_allowed t) ps ≡ true → meant t (with_puts t s ps) ≡ puts (meant t s) (map (put_entry t) ps)
 unfolding with_puts puts all
 puts-meant h [] a = refl
-puts-meant {t} h (p ∷ ps) a =
+puts-meant {t = t} {s = s} h (p ∷ ps) a =
     let z = both (is_allowed t p) (all (is_allowed t) ps) a in
-    puts-meant (shaped_put h p z.0) ps z.1 ∙ ap (λ m. puts m (map (put_entry t) ps)) (put-meant h p z.0)
+    puts-meant {s = with_put t s p} (shaped_put h p z.0) ps z.1 ∙ ap (λ m. puts m (map (put_entry t) ps)) (put-meant h p z.0)

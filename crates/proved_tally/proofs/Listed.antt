@@ -39,7 +39,7 @@ use Rattle.proved_sets.proofs.WellFormedMeans.{lists_wf}
 use Rattle.proved_sets.proofs.Settled.{chain_settled}
 use Rattle.proved_origins.proofs.Checks.{empty_text}
 use Rattle.proved_reading.specs.HandedSets.{SetFormed}
-use Rattle.proved_reading.proofs.BlockSets.{found_ok, none_ok}
+use Rattle.proved_reading.proofs.BlockSets.{found_ok_lem, none_ok}
 use Rattle.proved_sheets.specs.Order.{Each}
 use Rattle.proved_tally.specs.Listed.{AsListed, CountsListed}
 use Rattle.proved_tally.proofs.Sheets.{tries-found}
@@ -98,7 +98,7 @@ module _ (t : List ℕ) (x : is_text t ≡ true) where
     where
       go : (b : Bool) → SetFormed t at (cond b (nothing NothingThere) (found t at 0 max_text))
       go true = none_ok t x at NothingThere [] 0 empty_text
-      go false = found_ok t x at 0 max_text
+      go false = found_ok_lem t x at 0 max_text
 
   formed_table : (u : Texts) (a : Attrs) → well_formed u a ≡ true → table_ok u a ≡ true
   unfolding well_formed

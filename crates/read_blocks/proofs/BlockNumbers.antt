@@ -95,5 +95,5 @@ module _ (t : List ℕ) (at base cap : ℕ) where
   sized-wrapped_no = by_size (wrapped t at base cap) (wrapped_order read_order t at base cap) wrapped_read_no
 
 -- what is answered, beside what the join buffer then holds, has the number of what it is equal to
-pub said : {x y : Block} {b d : List ℕ} {n : ℕ} → outcome_no y.outcome ≡ n → (x ≡ y) × (b ≡ d) → (x ≡ y) × ((b ≡ d) × (outcome_no x.outcome ≡ n))
-said k e = (e.0, (e.1, ap (λ z. outcome_no z.outcome) e.0 ∙ k))
+pub said : {x y : Block} {b d : List ℕ} {n : ℕ} → outcome_no y.outcome ≡ n → (x ≡ y) × (b ≡ d) → record { value : x ≡ y; join_after : b ≡ d; outcome_value : outcome_no x.outcome ≡ n }
+said k e = record { value = e.0; join_after = e.1; outcome_value = ap (λ z. outcome_no z.outcome) e.0 ∙ k }

@@ -1,4 +1,6 @@
 // Blocks at a place: a line of blocks, and a wrapped run.
+#![tactic(auto)]
+
 ghost use Rattle.std.specs.Prelude.{◌≡◌, ◌≤◌, length};
 ghost use Rattle.base_refusals.specs.Numbers.{max_text, number_of, outcome_no};
 ghost use Rattle.base_refusals.specs.Orders.{order_no};

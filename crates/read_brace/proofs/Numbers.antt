@@ -59,5 +59,5 @@ module _ (m : Mode) (t : List ℕ) (i : ℕ) where
       (close_order m t i (find_close t (suc i))) (close_no (find_close t (suc i)))
 
 -- what is read has the number, the values and the place of what it is equal to
-pub said : {r d : Read} {p : Paper} {n : ℕ} → brace_paper d.answer ≡ p → place_said d.answer ≡ n → r ≡ d → (r ≡ d) × ((brace_paper r.answer ≡ p) × (place_said r.answer ≡ n))
-said k l e = (e, (ap (λ x. brace_paper x.answer) e ∙ k, ap (λ x. place_said x.answer) e ∙ l))
+pub said : {r d : Read} {p : Paper} {n : ℕ} → brace_paper d.answer ≡ p → place_said d.answer ≡ n → r ≡ d → record { value : r ≡ d; answer_value : brace_paper r.answer ≡ p; answer_value_2 : place_said r.answer ≡ n }
+said k l e = record { value = e; answer_value = ap (λ x. brace_paper x.answer) e ∙ k; answer_value_2 = ap (λ x. place_said x.answer) e ∙ l }

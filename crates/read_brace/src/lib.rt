@@ -1,4 +1,6 @@
 // Reading an attribute block at a brace.
+#![tactic(auto)]
+
 ghost use Rattle.std.specs.Prelude.{◌≡◌, suc, ◌+◌, ◌≤◌, ◌<◌, length, eqb, cond};
 ghost use Rattle.std.proofs.Math.Seq.{slice};
 ghost use Rattle.base_bytes.specs.declared.Mode.TheVariants.{Strict};

@@ -1,4 +1,6 @@
 // The entries by line number: a line of blocks, a block of one or more lines, and a run.
+#![tactic(auto)]
+
 ghost use Rattle.std.specs.Prelude.{◌≡◌, length};
 ghost use Rattle.base_refusals.specs.Numbers.{outcome_no};
 ghost use Rattle.base_refusals.specs.Orders.{order_no};

@@ -96,5 +96,5 @@ module _ (t : List ℕ) (n : ℕ) where
   indented_paper cap = with_lines (indented_found t n cap) (indented_order t n cap) (indented_no t n cap)
 
 -- what is answered, beside what the join buffer then holds, has the number and the lines of what it is equal to
-pub said : {x y : Measure} {b d : List ℕ} {p : Paper} → length_paper y.length ≡ p → (x ≡ y) × (b ≡ d) → (x ≡ y) × ((b ≡ d) × (length_paper x.length ≡ p))
-said k e = (e.0, (e.1, ap (λ z. length_paper z.length) e.0 ∙ k))
+pub said : {x y : Measure} {b d : List ℕ} {p : Paper} → length_paper y.length ≡ p → (x ≡ y) × (b ≡ d) → record { value : x ≡ y; join_after : b ≡ d; length_value : length_paper x.length ≡ p }
+said k e = record { value = e.0; join_after = e.1; length_value = ap (λ z. length_paper z.length) e.0 ∙ k }

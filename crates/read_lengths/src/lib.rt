@@ -1,4 +1,6 @@
 // How many lines a block has: the entries that measure, by line number.
+#![tactic(auto)]
+
 ghost use Rattle.std.specs.Prelude.{◌≡◌, [], ◌∷◌, length};
 ghost use Rattle.base_refusals.specs.Orders.{on_paper};
 ghost use Rattle.text_line_start.specs.Starts.{place_of};

@@ -95,6 +95,5 @@ module _ (m : Mode) (t : List ℕ) (i : ℕ) where
       tagged_says g ∙ ap place_by (ap (λ p. p.number) (tagged_no g m t i) ∙ paper_no (tagged_order g m t i) (behind_close (find_close t (suc i))))
 
 pub tagged_said_lem : (g : Tags) (m : Mode) (t : List ℕ) (i : ℕ) {r : Read} → r ≡ read_tagged g m t i
-    → (r ≡ read_tagged g m t i)
-    × ((brace_paper r.answer ≡ on_paper (tagged_order g m t i) (behind_close (find_close t (suc i)))) × (place_said r.answer ≡ tagged_place_at g m t i))
+    → record { value : r ≡ read_tagged g m t i; answer_value : brace_paper r.answer ≡ on_paper (tagged_order g m t i) (behind_close (find_close t (suc i))); answer_value_2 : place_said r.answer ≡ tagged_place_at g m t i }
 tagged_said_lem g m t i = said (tagged_no g m t i) (tagged_place m t i g)

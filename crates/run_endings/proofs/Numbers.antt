@@ -68,5 +68,5 @@ ends_no buf t =
 
 -- what is promised
 pub said-ends : (buf t : List ℕ) {g : EndsRun} {x : List ℕ} → (g ≡ ends_shown (ends_in buf t)) × (x ≡ (ends_in buf t).join)
-    → (g ≡ ends_shown (ends_in buf t)) × ((x ≡ (ends_in buf t).join) × (ends_paper g.answer ≡ on_paper (ends_order buf t) (yes_no (length buf) (tries_of (lines t)))))
-said-ends buf t w = (w.0, (w.1, ap (λ g. ends_paper g.answer) w.0 ∙ ends_no buf t))
+    → record { value : g ≡ ends_shown (ends_in buf t); join_after : x ≡ (ends_in buf t).join; answer_value : ends_paper g.answer ≡ on_paper (ends_order buf t) (yes_no (length buf) (tries_of (lines t))) }
+said-ends buf t w = record { value = w.0; join_after = w.1; answer_value = ap (λ g. ends_paper g.answer) w.0 ∙ ends_no buf t }

@@ -1,4 +1,6 @@
 // Whether a text ends in a run that is refused only for a line too far left.
+#![tactic(auto)]
+
 ghost use Rattle.std.specs.Prelude.{◌≡◌, ◌<◌, ◌≤◌, length};
 ghost use Rattle.base_refusals.specs.Numbers.{max_text};
 ghost use Rattle.base_refusals.specs.Orders.{on_paper};

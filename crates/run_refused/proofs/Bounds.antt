@@ -9,7 +9,7 @@ use lib.Dec.{ltb}
 use lib.ListN.{length, length-drop}
 use Rattle.block_payloads.specs.Payloads.{opens}
 use Rattle.text_lines.specs.Trim.{trim_start, is_blank_line}
-use Rattle.text_lines.proofs.Trim.{trim_start}
+use Rattle.text_lines.proofs.Trim.{trim_start_lem}
 use Rattle.base_lists.specs.Lists.{run, begins_pair}
 use Rattle.base_bytes.specs.Bytes.{is_space}
 use Rattle.text_tabs.specs.Columns.{indent_columns}
@@ -85,7 +85,7 @@ unfolding sizes
 size_more opener w l ls ms h = omega arith
 
 trim_le : (l : List ℕ) → length (trim_start l) ≤ length l
-trim_le l = rw (trim_start l) (omega (arith, length-drop (run is_space l) l))
+trim_le l = rw (trim_start_lem l) (omega (arith, length-drop (run is_space l) l))
 
 cost_more : (opener : ℕ) (w : On) (l : List ℕ) (ls : List Lined) (ms : List (List ℕ)) → costs ls ≤ costs (map as_is ms) → costs (padded_line opener w l ∷ ls) ≤ costs (map as_is (l ∷ ms))
 unfolding costs

@@ -114,10 +114,10 @@ refused_no cap t n =
 -- ---- what is promised
 
 abbrev Promised : RunTold → List Ground → List ℕ → RefusedRun → List ℕ → Type 0
-Promised T gs buf g buf' = (g ≡ handed_out T) × ((buf' ≡ over T.text buf) × (reply_paper g.answer ≡ on_paper gs (reply_paper T.answer).values))
+Promised T gs buf g buf' = record { value : g ≡ handed_out T; join_after : buf' ≡ over T.text buf; answer_value : reply_paper g.answer ≡ on_paper gs (reply_paper T.answer).values }
 
 said : (T : RunTold) (gs : List Ground) (buf : List ℕ) {g : RefusedRun} {buf' : List ℕ} → Replies T.answer gs → Tells T buf g buf' → Promised T gs buf g buf'
-said T gs buf e w = (w.0, (w.1, ap (λ x. reply_paper x.answer) w.0 ∙ e))
+said T gs buf e w = record { value = w.0; join_after = w.1; answer_value = ap (λ x. reply_paper x.answer) w.0 ∙ e }
 
 module _ (buf t : List ℕ) (n : ℕ) {g : RefusedRun} {buf' : List ℕ} where
   pub said_at : Tells (refused_at (length buf) t n) buf g buf' → Promised (refused_at (length buf) t n) (place_order (length buf) t n) buf g buf'

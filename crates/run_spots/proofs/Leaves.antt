@@ -13,7 +13,7 @@ use lib.Seq.{drop-cons}
 use Rattle.base_lists.specs.Lists.{run, begins_pair}
 use Rattle.base_bytes.specs.Bytes.{is_space}
 use Rattle.text_lines.specs.Trim.{trim_start}
-use Rattle.text_lines.proofs.Trim.{trim_start}
+use Rattle.text_lines.proofs.Trim.{trim_start_lem}
 use Rattle.block_payloads.specs.Payloads.{begins_open, opens}
 use Rattle.run_spots.specs.Spots.{closes_comment}
 
@@ -21,7 +21,7 @@ use Rattle.run_spots.specs.Spots.{closes_comment}
 
 module _ (l : List ℕ) {from : ℕ} (e : from ≡ run is_space l) where
   pub front : drop from l ≡ trim_start l
-  front = rw e (sym (trim_start l))
+  front = rw e (sym (trim_start_lem l))
 
   pub opens_none : length l ≤ from → false ≡ opens l
   opens_none h = ap begins_open (sym (drop_of_length-le l h) ∙ front)

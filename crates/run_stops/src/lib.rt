@@ -1,4 +1,6 @@
 // Why the lines of a wrapped run end where they do, and where a place of the joined text stands in the sheet.
+#![tactic(auto)]
+
 ghost use Rattle.std.specs.Prelude.{◌≡◌, cond, ◌&&◌, ◌+◌, ◌-◌, ◌<◌, ◌≤◌, eqb, length, get_or, take};
 ghost use Rattle.base_bytes.specs.declared.Mode.TheVariants.{Loose};
 ghost use Rattle.base_bytes.specs.Bytes.{close_brace, open_brace};

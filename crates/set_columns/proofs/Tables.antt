@@ -268,7 +268,7 @@ columns_no t a =
 
 module _ (t : Texts) (a : Attrs) {f : Made} {c : Outcome} (e : c ≡ both_of t.first t.second) where
   tells : f ≡ columns_of t a → (f ≡ columns_of t a) × (outcome_no f.outcome ≡ order_no (columns_order t a))
-  tells g = said (λ (x : Made). outcome_no x.outcome) (columns_no t a) g
+  tells g = let r = said (λ (x : Made). outcome_no x.outcome) (columns_no t a) g in (r.value, r.result_value)
 
   pub by_check : {r : Refusal} → c ≡ outcome.Refused r → f ≡ none_made r → (f ≡ columns_of t a) × (outcome_no f.outcome ≡ order_no (columns_order t a))
   unfolding columns_of

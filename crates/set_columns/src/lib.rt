@@ -1,4 +1,6 @@
 // The column settings of a table: the lists `aligns`, `valigns` and `widths` of a set, column by column.
+#![tactic(auto)]
+
 mod lists;
 
 ghost use Rattle.std.specs.Prelude.{◌≡◌, max, length};

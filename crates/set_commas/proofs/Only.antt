@@ -154,7 +154,7 @@ module _ (q : Bool) (s : List ℕ) where
       let a = step to (omega (arith, l)) d in
       let b = step (to + 1) l e in
       let n : to + 1 + 1 ≡ to + 2 = omega arith in
-      behind h ∙ rw (a, y, b, n) (ap (λ z. cut_range from to ∷ z) (rw y at (only p)))
+      behind h ∙ rw (a, y, b, n) (ap (λ z. cut_range from to ∷ z) (only p))
 
 pub cuts_only : (q : Bool) (s : List ℕ) (rs : List PieceAt) → Parted q s 0 rs → cuts_of q s ≡ rs
 unfolding cuts_of

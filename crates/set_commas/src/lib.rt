@@ -1,4 +1,6 @@
 // A value's pieces between its commas, by their places in the raw text: no buffer, and one walk over the value.
+#![tactic(auto)]
+
 ghost use Rattle.std.specs.Prelude.{◌≡◌, length};
 ghost use Rattle.set_marks.specs.Marks.{bytes_in};
 ghost use Rattle.set_commas.specs.Commas.{comma_pieces, cut_at, cut_paper};

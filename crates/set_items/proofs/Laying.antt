@@ -112,5 +112,12 @@ laid_no Passed size ps = go (leb (length (laid_bytes ps)) size) refl
     go false e = rw e
 
 module _ (c : Outcome) (buf : List ℕ) (ps : List Pair) {r : Laid} {d : List ℕ} where
-  pub said : (r ≡ laid_of c (length buf) ps) × (d ≡ laid_in c buf ps) → (r ≡ laid_of c (length buf) ps) × ((d ≡ laid_in c buf ps) × (laid_paper r ≡ numbered_laid c (length buf) ps))
-  said (e, f) = (e, (f, ap laid_paper e ∙ laid_no c (length buf) ps))
+  pub said : (r ≡ laid_of c (length buf) ps) × (d ≡ laid_in c buf ps) → record { value : r ≡ laid_of c (length buf) ps; out_after : d ≡ laid_in c buf ps; result_value : laid_paper r ≡ numbered_laid c (length buf) ps }
+  said (e, f) = record { value = e; out_after = f; result_value = ap laid_paper e ∙ laid_no c (length buf) ps }
+
+-- two clauses as a pair, and back
+pub both : {A B : Type 0} → A × B → record { value : A; out_after : B }
+both e = record { value = e.0; out_after = e.1 }
+
+pub pair : {A B : Type 0} → record { value : A; out_after : B } → A × B
+pair e = (e.value, e.out_after)

@@ -149,3 +149,7 @@ module _ (t : Texts) (a k : Attrs) (e : listed_of t k ≡ classes_once (listed_o
   value_said i {s} q f g =
       let z : values_under n (meaning_of t a) ≡ flat_map (item_as unnamed t) (slot_items k s) = rw (under, q) (sym (slot_as k unnamed t s)) in
       rw (z, f, g) (sym (as_many unnamed t (slot_items k s) (slot_there k s)), nth_thing unnamed t (slot_items k s) (slot_there k s) i)
+
+-- two clauses of a pair
+pub both : {A B : Type 0} → A × B → record { count_value : A; item_value : B }
+both e = record { count_value = e.0; item_value = e.1 }

@@ -1,4 +1,6 @@
 // The items of a set's canonical text one by one, and the values under a name, each class once: which there is, and its bytes laid in lent memory, unescaped.
+#![tactic(auto)]
+
 ghost use Rattle.std.specs.Prelude.{◌≡◌, [], ◌∷◌, map, ◌≤◌, ◌+◌, min, leb, length, get_or, take};
 ghost use Rattle.std.proofs.lemmas.List.Edits.{sets};
 ghost use Rattle.base_refusals.specs.declared.Refusal.TheVariants.{CanonTooLong};

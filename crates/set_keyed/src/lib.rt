@@ -1,4 +1,6 @@
 // The value of a key by its literal name: what it is, whether it is a given string, and its number. No key is named here.
+#![tactic(auto)]
+
 ghost use Rattle.std.specs.Prelude.{◌≡◌, map, get_or, take, true};
 ghost use Rattle.base_lists.specs.Lists.{same};
 ghost use Rattle.block_grammar.specs.Meaning.{lookup};

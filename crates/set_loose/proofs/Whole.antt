@@ -227,5 +227,5 @@ unfolding loose_of both_of
 loose_no t a =
     paper_by (λ o. did_paper (loose_by o t a).did) outcome.Refused (acted_no (is_loose (meaning_of t a)) ∷ []) (λ r. refl) (both_order t.first t.second) (Ground.lacking NotWellFormed (table_ok t a) ∷ []) (lacked (table_ok t a) t a)
 
-pub loose_said : (t : Texts) (a : Attrs) {c : Consumed} → c ≡ loose_of t a → (c ≡ loose_of t a) × (did_paper c.did ≡ on_paper (loose_order t a) (acted_no (is_loose (meaning_of t a)) ∷ []))
-loose_said t a e = said (λ x. did_paper x.did) (loose_no t a) e
+pub loose_said : (t : Texts) (a : Attrs) {c : Consumed} → c ≡ loose_of t a → record { value : c ≡ loose_of t a; did_value : did_paper c.did ≡ on_paper (loose_order t a) (acted_no (is_loose (meaning_of t a)) ∷ []) }
+loose_said t a e = let r = said (λ x. did_paper x.did) (loose_no t a) e in record { value = r.value; did_value = r.result_value }

@@ -1,4 +1,6 @@
 // The key `loose` of a check list: where it has no value it is taken out of the set, with its slot, and the answer says so.
+#![tactic(auto)]
+
 ghost use Rattle.std.specs.Prelude.{◌≡◌, [], ◌∷◌, map, ◌+◌, ◌<◌, ◌≤◌, take};
 ghost use Rattle.base_refusals.specs.Orders.{on_paper};
 ghost use Rattle.set_table.specs.Types.{two, max_keys, max_slots, zero_row, zero_slot};

@@ -57,3 +57,7 @@ module _ {really : Bool} {buf₀ : List ℕ} {at : ℕ} {whole buf : List ℕ} {
           left = omega (arith, rw (e, length-append xs more) at inv.left, p);
           same = rw (q, p) (sym (put-append really buf k xs more)) ∙ (rw e at inv.same);
         }
+
+-- what a function promises of its answer and of the lent memory, as its two clauses
+pub both : {A B : Type 0} → A × B → record { value : A; out_after : B }
+both e = record { value = e.0; out_after = e.1 }

@@ -24,8 +24,8 @@ use Rattle.set_writer.specs.declared.Wrote.TheVariants.{Refused}
 use Rattle.set_writer.specs.Write.{wrote_paper, room_order, wrote_of, writable, or_refused, attrs_wrote, writer_order}
 
 -- an answer that comes with what then stands in the lent memory has the number and the values of what it is equal to
-pub said : {w v : Wrote} {p : Paper} {B : Type 0} → wrote_paper v ≡ p → (w ≡ v) × B → (w ≡ v) × (B × (wrote_paper w ≡ p))
-said k e = (e.0, (e.1, ap wrote_paper e.0 ∙ k))
+pub said : {w v : Wrote} {p : Paper} {B : Type 0} → wrote_paper v ≡ p → (w ≡ v) × B → record { value : w ≡ v; out_after : B; result_value : wrote_paper w ≡ p }
+said k e = record { value = e.0; out_after = e.1; result_value = ap wrote_paper e.0 ∙ k }
 
 module _ (xs : List ℕ) (size : ℕ) where
   pub set_no : wrote_paper (wrote_of xs size) ≡ on_paper (room_order xs size) (length xs ∷ [])

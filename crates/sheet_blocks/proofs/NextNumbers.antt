@@ -46,5 +46,5 @@ module _ (t : List ℕ) (cap at : ℕ) where
       (first_order t cap (only_blocks (tries_at t cap 0 at))) (λ e. first_no (order_short t (Ground.given JoinFull (ltb cap max_text) ∷ []) e))
 
 -- what is answered, beside what the join buffer then holds, has the number of what it is equal to
-pub said : {x y : Next} {b d : List ℕ} {n : ℕ} → outcome_no y.block.outcome ≡ n → (x ≡ y) × (b ≡ d) → (x ≡ y) × ((b ≡ d) × (outcome_no x.block.outcome ≡ n))
-said k e = (e.0, (e.1, ap (λ z. outcome_no z.block.outcome) e.0 ∙ k))
+pub said : {x y : Next} {b d : List ℕ} {n : ℕ} → outcome_no y.block.outcome ≡ n → (x ≡ y) × (b ≡ d) → record { value : x ≡ y; join_after : b ≡ d; outcome_value : outcome_no x.block.outcome ≡ n }
+said k e = record { value = e.0; join_after = e.1; outcome_value = ap (λ z. outcome_no z.block.outcome) e.0 ∙ k }

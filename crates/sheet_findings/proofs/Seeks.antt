@@ -80,8 +80,8 @@ next_paper t cap at = go (too_long t) (ltb cap max_text) (only_found t cap (trie
     go false false (z ∷ zs) = refl
 
 -- what is answered, beside what the join buffer then holds, is on paper what it is equal to
-pub said : {x y : Next} {b d : List ℕ} {n : Paper} → found_paper y.told ≡ n → (x ≡ y) × (b ≡ d) → (x ≡ y) × ((b ≡ d) × (found_paper x.told ≡ n))
-said k e = (e.0, (e.1, ap (λ z. found_paper z.told) e.0 ∙ k))
+pub said : {x y : Next} {b d : List ℕ} {n : Paper} → found_paper y.told ≡ n → (x ≡ y) × (b ≡ d) → record { value : x ≡ y; join_after : b ≡ d; told_value : found_paper x.told ≡ n }
+said k e = record { value = e.0; join_after = e.1; told_value = ap (λ z. found_paper z.told) e.0 ∙ k }
 
 -- ---- before the loop
 

@@ -1,4 +1,6 @@
 // Lines of a sheet that look like a block and are none, and blocks that the report refuses: what is wrong with each, and where.
+#![tactic(auto)]
+
 ghost use Rattle.std.specs.Prelude.{◌≡◌, true, ◌<◌, ◌≤◌, length};
 ghost use Rattle.base_refusals.specs.Numbers.{max_text};
 ghost use Rattle.base_refusals.specs.Orders.{on_paper};

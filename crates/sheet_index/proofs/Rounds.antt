@@ -13,7 +13,7 @@ use Rattle.read_lengths.specs.Lengths.{flush_left}
 use Rattle.sheet_blocks.specs.declared.Next.{Next}
 use Rattle.sheet_blocks.specs.Sheets.{tries_at, only_blocks, join_behind, next_of, next_tries}
 use Rattle.sheet_blocks.proofs.Tries.{try}
-use Rattle.sheet_blocks.proofs.Goes.{Goes, goes_on, stops, join_long}
+use Rattle.sheet_blocks.proofs.Goes.{Goes, goes_on_lem, stops, join_long}
 use Rattle.sheet_blocks.proofs.SheetWalk.{walk_start, walk_meets}
 use Rattle.sheet_blocks.proofs.Rooms.{tries-same, blocks_are}
 use Rattle.sheet_verdicts.specs.Verdicts.{verdict_at}
@@ -68,7 +68,7 @@ module _ {t join₀ join : List ℕ} {at line : ℕ} {left : List Record} (inv :
 
   module _ (z : r.block.lines ≡ 0 → ⊥) where
     goes : Goes t (length join₀) at r
-    goes = rw is (goes_on t (length join₀) at inv.fits inv.wide (λ y. z (rw is y)))
+    goes = rw is (goes_on_lem t (length join₀) at inv.fits inv.wide (λ y. z (rw is y)))
 
     abbrev f : Found
     f = flush_left t (length join₀) r.at

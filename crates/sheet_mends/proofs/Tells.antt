@@ -21,7 +21,7 @@ use Rattle.set_table.specs.Types.{Texts, two}
 use Rattle.set_table.specs.declared.Attrs.{Attrs}
 use Rattle.sheet_blocks.specs.declared.Next.{Next}
 use Rattle.sheet_blocks.specs.Sheets.{tries_at, join_behind, next_of, next_tries}
-use Rattle.sheet_blocks.proofs.Goes.{goes_on}
+use Rattle.sheet_blocks.proofs.Goes.{goes_on_lem}
 use Rattle.sheet_verdicts.specs.Verdicts.{block_verdict}
 use Rattle.sheet_records.specs.Records.{RecordId, Record, InBounds, AllIn, numbers_text, record_line, row_at, row_numbers}
 use Rattle.sheet_records.specs.Listed.{listed_if, records_of}
@@ -135,7 +135,7 @@ module _ {t index join₀ table₀ out₀ join table out : List ℕ} {line offse
 
   pub at_before : (r.block.lines ≡ 0 → ⊥) → r.at ≤ max_text
   at_before z =
-      let g = goes_on t (length join) at inv.rounds.fits (omega (arith, inv.rounds.same, inv.rounds.wide)) (λ y. z (rw e y)) in
+      let g = goes_on_lem t (length join) at inv.rounds.fits (omega (arith, inv.rounds.same, inv.rounds.wide)) (λ y. z (rw e y)) in
       omega (arith, ap (λ (x : Next). x.at) e, g.within, inv.rounds.fits)
 
   module _ (z : r.block.lines ≡ 0 → ⊥) {told' : Progress} {table' out' : List ℕ}

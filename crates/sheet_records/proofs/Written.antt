@@ -94,16 +94,16 @@ record_reads t at r s w d =
     let e₂ : drop (suc p₂) t ≡ s₂ = byte_past t p₂ 9 s₂ d₂ in
     let p₃ : ℕ = suc p₂ + length (decimal r.offset) in
     let d₃ : drop p₃ t ≡ s₃ = field_past t (suc p₂) r.offset s₃ e₂ in
-    let x = end_reads t r.line r.count r.offset p₃ r.id s d₃ w.id-fits in
+    let x = end_reads t r.line r.count r.offset p₃ r.id s d₃ w.id_fits_lem in
     let z : p₃ ≡ at + length (numbers_text r.line r.count r.offset) = omega (arith, numbers_long r.line r.count r.offset) in
     rw (← z)
     (record {
       is =
-          ap (λ f. on_field f (λ n p. behind_tab t p (count_at t n))) (field_reads t at r.line (9 ∷ s₁) d₀ 1 refl w.line-from w.line-to)
+          ap (λ f. on_field f (λ n p. behind_tab t p (count_at t n))) (field_reads t at r.line (9 ∷ s₁) d₀ 1 refl w.line_from w.line_to)
           ∙ (tab_reads t p₁ s₁ (count_at t r.line) d₁
-          ∙ (ap (λ f. on_field f (λ n p. behind_tab t p (offset_at t r.line n))) (field_reads t (suc p₁) r.count (9 ∷ s₂) e₁ 1 refl w.count-from w.count-to)
+          ∙ (ap (λ f. on_field f (λ n p. behind_tab t p (offset_at t r.line n))) (field_reads t (suc p₁) r.count (9 ∷ s₂) e₁ 1 refl w.count_from w.count_to)
           ∙ (tab_reads t p₂ s₂ (offset_at t r.line r.count) d₂
-          ∙ (ap (λ f. on_field f (end_at t r.line r.count)) (field_reads t (suc p₂) r.offset s₃ e₂ 0 (id_stops r.id s) (omega arith) w.offset-to)
+          ∙ (ap (λ f. on_field f (end_at t r.line r.count)) (field_reads t (suc p₂) r.offset s₃ e₂ 0 (id_stops r.id s) (omega arith) w.offset_to)
           ∙ x.is))));
       says = x.says;
       on = x.on;

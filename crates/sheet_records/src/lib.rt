@@ -1,4 +1,6 @@
 // Records of an index: reading the one at a place, writing one, the first line, and the rows of a lent table.
+#![tactic(auto)]
+
 ghost use Rattle.std.specs.Prelude.{◌≡◌, ◌≤◌, ◌<◌, ◌+◌, leb, length, drop};
 ghost use Rattle.std.proofs.lemmas.List.Edits.{sets};
 ghost use Rattle.base_refusals.specs.Numbers.{outcome_no};

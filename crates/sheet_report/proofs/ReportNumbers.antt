@@ -60,18 +60,14 @@ start_paper_lem t cap size =
 
 -- what is answered, beside what lent memory then holds, is on paper as what it is equal to
 module _ (join₀ out₀ : List ℕ) {p : Part} {join out : List ℕ} where
-  said : (R : Laid) {n : Paper} → told_paper R.told ≡ n → Tells join₀ out₀ R p join out → (p ≡ shown_part R) × ((join ≡ join_behind join₀ R.past) × ((out ≡ over R.text out₀) × (told_paper p.told ≡ n)))
-  said R k e = (e.0, (e.1.0, (e.1.1, ap (λ x. told_paper x.told) e.0 ∙ k)))
+  said : (R : Laid) {n : Paper} → told_paper R.told ≡ n → Tells join₀ out₀ R p join out → record {value : p ≡ shown_part R; join_after : join ≡ join_behind join₀ R.past; out_after : out ≡ over R.text out₀; told_value : told_paper p.told ≡ n}
+  said R k e = record { value = e.0; join_after = e.1.0; out_after = e.1.1; told_value = ap (λ x. told_paper x.told) e.0 ∙ k }
 
   module _ (t : List ℕ) where
     pub part-said : (at n : ℕ) → Tells join₀ out₀ (part_of t at n (length join₀) (length out₀)) p join out
-        → (p ≡ shown_part (part_of t at n (length join₀) (length out₀))) × ((join ≡ join_behind join₀ (part_of t at n (length join₀) (length out₀)).past)
-        × ((out ≡ over (part_of t at n (length join₀) (length out₀)).text out₀)
-        × (told_paper p.told ≡ on_paper (part_order t at n (length join₀) (length out₀)) (more_to_tell t (length out₀) (tries_at t max_text n at)))))
+        → record {value : p ≡ shown_part (part_of t at n (length join₀) (length out₀)); join_after : join ≡ join_behind join₀ (part_of t at n (length join₀) (length out₀)).past; out_after : out ≡ over (part_of t at n (length join₀) (length out₀)).text out₀; told_value : told_paper p.told ≡ on_paper (part_order t at n (length join₀) (length out₀)) (more_to_tell t (length out₀) (tries_at t max_text n at))}
     part-said at n = said (part_of t at n (length join₀) (length out₀)) (part_paper t at n (length join₀) (length out₀))
 
     pub start-said : Tells join₀ out₀ (start_of t (length join₀) (length out₀)) p join out
-        → (p ≡ shown_part (start_of t (length join₀) (length out₀))) × ((join ≡ join_behind join₀ (start_of t (length join₀) (length out₀)).past)
-        × ((out ≡ over (start_of t (length join₀) (length out₀)).text out₀)
-        × (told_paper p.told ≡ on_paper (start_order t (length join₀) (length out₀)) (more_to_tell t (length out₀) (tries_at t max_text 1 0)))))
+        → record {value : p ≡ shown_part (start_of t (length join₀) (length out₀)); join_after : join ≡ join_behind join₀ (start_of t (length join₀) (length out₀)).past; out_after : out ≡ over (start_of t (length join₀) (length out₀)).text out₀; told_value : told_paper p.told ≡ on_paper (start_order t (length join₀) (length out₀)) (more_to_tell t (length out₀) (tries_at t max_text 1 0))}
     start-said = said (start_of t (length join₀) (length out₀)) (start_paper_lem t (length join₀) (length out₀))

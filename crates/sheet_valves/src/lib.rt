@@ -1,4 +1,6 @@
 // The dealers' table: which valve turns which wheel of which variant.
+#![tactic(auto)]
+
 ghost use Rattle.std.specs.Prelude.{◌≡◌, [], ◌∷◌, ◌≤◌, cond, ltb};
 ghost use Rattle.sheet_valves.specs.Tables.{variant_count, max_valve, empty_table, with_setting};
 ghost use Rattle.sheet_valves.specs.Pairs.{one_valve, repeats, first_pair};

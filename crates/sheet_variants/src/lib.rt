@@ -1,4 +1,6 @@
 // The variant reader: all blocks of a sheet, put into the dealers' table.
+#![tactic(auto)]
+
 ghost use Rattle.std.specs.Prelude.{◌≡◌, ◌≤◌, length};
 ghost use Rattle.std.proofs.Math.Seq.{slice};
 ghost use Rattle.base_refusals.specs.Numbers.{max_text};

@@ -67,7 +67,7 @@ passed_is t a = refl
 
 module _ (t : Texts) (a : Attrs) where
   abbrev pub Judges : Outcome → Outcome → Type 0
-  Judges o r = (r ≡ block_verdict t a o) × (outcome_no r ≡ order_no (verdict_order t a o))
+  Judges o r = record { value : r ≡ block_verdict t a o; result_value : outcome_no r ≡ order_no (verdict_order t a o) }
 
   -- the set is refused already
   pub by_outcome : {o : Outcome} {why : Refusal} → o ≡ outcome.Refused why → Judges o (outcome.Refused why)

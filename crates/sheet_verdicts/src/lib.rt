@@ -1,4 +1,6 @@
 // What the sheet program makes of a block: it prints its canonical text, or why not.
+#![tactic(auto)]
+
 ghost use Rattle.std.specs.Prelude.{◌≡◌};
 ghost use Rattle.std.proofs.Math.Seq.{slice};
 ghost use Rattle.base_refusals.specs.Numbers.{outcome_no};

@@ -1,6 +1,5 @@
 use native.Mathlib.Omega.{arith}
 use Rattle.block_next_token.proofs.Steps as steps
-use borrow.Author.Rules.{rules}
 use Rattle.block_next_token.proofs.step_at.Goals as goal
 
 pub returns-then-text-a : goal.returns-then-text-a

@@ -1,11 +1,7 @@
 use mathlib.Core.Path.{refl, ◌∙◌, ap}
-use Prim.Native.Nat.{◌-◌}
 use native.Mathlib.Omega.{arith}
-use borrow.Author.Rules.{rules}
-use lib.ListN.{length}
 use Rattle.base_refusals.proofs.Said.{said}
-use Rattle.block_grammar.specs.Computed.{read_from}
-use Rattle.block_next_token.specs.Walk.{counted, count_paper}
+use Rattle.block_next_token.specs.Walk.{count_paper}
 use Rattle.block_next_token.specs.declared.Ahead.TheVariants.{Found}
 use Rattle.block_next_token.proofs.Counting as counting
 use borrow.Enum.Refused as refused

@@ -1,14 +1,8 @@
-use mathlib.Core.Path.{refl, ◌∙◌, ap}
 use Prim.Native.Nat.{◌-◌}
-use native.Mathlib.Omega.{arith}
-use borrow.Author.Rules.{rules}
 use lib.ListN.{length}
-use Rattle.base_refusals.proofs.Said.{said}
 use Rattle.block_grammar.specs.Computed.{read_from}
-use Rattle.block_next_token.specs.Walk.{counted, count_paper}
-use Rattle.block_next_token.specs.declared.Ahead.TheVariants.{Found}
+use Rattle.block_next_token.specs.Walk.{counted}
 use Rattle.block_next_token.proofs.Counting as counting
-use borrow.Enum.Refused as refused
 use Rattle.block_next_token.proofs.token_count.Given as goal
 
 abbrev pub invariant-tokens : goal.invariant-tokens

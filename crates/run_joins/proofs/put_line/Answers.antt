@@ -4,7 +4,7 @@ use borrow.Author.Rules.{rules}
 use Rattle.run_joins.proofs.put_line.Goals as goal
 
 pub returns-then-len-eq0 : goal.returns-then-len-eq0
-returns-then-len-eq0 c = laws.put_first c.args.join.now c.args.len c.args.core.now c.if-len-eq0.true c.put_bytes.ensures
+returns-then-len-eq0 c = let r = laws.put_first c.args.join.now c.args.len c.args.core.now c.if-len-eq0.true c.put_bytes.ensures in record { value = r.0; join_after = r.1 }
 
 pub bounds-join-len : goal.bounds-join-len
 bounds-join-len c =
@@ -17,4 +17,4 @@ pub shape_of-join : goal.shape_of-join
 shape_of-join c = laws.same_length c.args.join.now c.args.len c.args.core.now c.put_bytes-2.ensures
 
 pub returns : goal.returns
-returns c = laws.put-later c.args.join.now c.args.len c.args.core.now c.if-len-eq0.false c.put_bytes-2.ensures
+returns c = let r = laws.put-later c.args.join.now c.args.len c.args.core.now c.if-len-eq0.false c.put_bytes-2.ensures in record { value = r.0; join_after = r.1 }

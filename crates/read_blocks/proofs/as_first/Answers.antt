@@ -1,0 +1,12 @@
+use borrow.Author.Rules.{rules}
+use borrow.Author.Tests.{ne_eqb}
+use Rattle.read_blocks.specs.Blocks.{as_first}
+use Rattle.read_blocks.proofs.as_first.Goals as goal
+
+pub returns-then-block-eq0 : goal.returns-then-block-eq0
+unfolding as_first
+returns-then-block-eq0 c = rw c.if-block-eq0.true
+
+pub returns : goal.returns
+unfolding as_first
+returns c = rw (ne_eqb _ 0 c.if-block-eq0.false) c.exchange.ensures

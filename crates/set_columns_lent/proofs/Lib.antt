@@ -1,2 +1,0 @@
--- The laws of set_columns_lent.
-pub mod Walk

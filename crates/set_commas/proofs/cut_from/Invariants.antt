@@ -1,0 +1,16 @@
+use mathlib.Core.Path.{refl}
+use Rattle.base_refusals.proofs.Said.{said}
+use Rattle.set_commas.specs.Commas.{cut_paper}
+use Prim.Native.Nat.{◌-◌}
+use lib.ListN.{length}
+use native.Mathlib.Omega.{arith}
+use borrow.Author.Rules.{rules}
+use Rattle.set_commas.proofs.Loops as loops
+use Rattle.set_commas.proofs.Steps.{turn_at, stop_at}
+use Rattle.set_commas.proofs.cut_from.Given as goal
+
+abbrev pub invariant-bytes : goal.invariant-bytes
+invariant-bytes l = loops.Seeks l.quoted l.s l.at l.i
+
+abbrev pub decreases-bytes : goal.decreases-bytes
+decreases-bytes l = length l.s - l.i

@@ -1,0 +1,14 @@
+use native.Mathlib.Omega.{arith}
+use Rattle.set_items.proofs.Slots as laws
+use mathlib.Core.Path.{◌≡◌}
+use Prim.Native.Nat.{◌-◌}
+use lib.ListN.{length, length-map}
+use Rattle.set_table.specs.Types.{max_slots}
+use borrow.Author.Rules.{rules}
+use Rattle.set_items.proofs.count_in.Given as goal
+
+abbrev pub invariant-loop-p : goal.invariant-loop-p
+invariant-loop-p l = laws.Counts l.set l.slots l.n l.p
+
+abbrev pub decreases-loop-p : goal.decreases-loop-p
+decreases-loop-p l = l.slots - l.p

@@ -1,0 +1,13 @@
+use Rattle.set_loose.proofs.Whole as laws
+use mathlib.Core.Path.{◌∙◌}
+use borrow.Author.Rules.{rules}
+use Rattle.set_loose.proofs.consume_loose.Goals as goal
+
+pub consume-requires : goal.consume-requires
+consume-requires c = (laws.done_loose _ _ (rw c.empty.ensures at c.merge_attrs-clean.ensures.value) c.in-Passed.is).0
+
+pub returns-in-Refused : goal.returns-in-Refused
+returns-in-Refused c = laws.loose_said _ _ (laws.refused_loose _ _ (rw c.empty.ensures at c.merge_attrs-clean.ensures.value) c.in-Refused.is)
+
+pub returns-in-Passed : goal.returns-in-Passed
+returns-in-Passed c = laws.loose_said _ _ (c.consume.ensures ∙ (laws.done_loose _ _ (rw c.empty.ensures at c.merge_attrs-clean.ensures.value) c.in-Passed.is).1)

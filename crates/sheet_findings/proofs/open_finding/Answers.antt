@@ -1,0 +1,17 @@
+use Rattle.sheet_findings.specs.Findings.{open_finding}
+use borrow.Author.Rules.{rules}
+use Rattle.sheet_findings.proofs.open_finding.Reads as reads
+use Rattle.sheet_findings.proofs.open_finding.Lts as lts
+use Rattle.run_stops.proofs.quote_left.Reads as quote-left-reads
+use Rattle.sheet_findings.proofs.here.Reads as here_reads
+use Rattle.sheet_findings.proofs.open_finding.Goals as goal
+
+-- src/lib.rt:103:1
+pub returns-in-Nothing : goal.returns-in-Nothing
+unfolding open_finding
+returns-in-Nothing c = rw (c.here.ensures, ← c.quote_left.ensures.value, c.in-Nothing.is)
+
+-- src/lib.rt:103:1
+pub returns-in-At : goal.returns-in-At
+unfolding open_finding
+returns-in-At c = rw (c.here-in-At.ensures, ← c.quote_left.ensures.value, c.in-At.is)
