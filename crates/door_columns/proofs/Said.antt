@@ -18,20 +18,26 @@ use Rattle.door_columns.specs.Said.{table_nos, Answered, made_said, columns_said
 
 -- an answer as it is promised
 abbrev pub Answers : List ℕ → Answered → ℕ → List ℕ → List ℕ → Type 0
-Answers told s r o v = (r ≡ s.number) × ((o ≡ s.numbers) × (v ≡ told_in told s.told))
+Answers told s r o v = record { value : r ≡ s.number; numbers_after : o ≡ s.numbers; told_after : v ≡ told_in told s.told }
 
 -- ---- a block that was read
 module _ (buf told : List ℕ) (b : Block) {t u : Texts} {m : Made} {c : Outcome} {r : ℕ} {o v : List ℕ} where
   pub made_said_lem : t ≡ u → m ≡ columns_of t b.set → c ≡ or_else b.outcome m.outcome → o ≡ or_left c buf (told_in buf (table_nos m.table))
       → v ≡ told_in told (m.table.count ∷ b.lines ∷ b.joined ∷ []) → r ≡ outcome_no c → Answers told (columns_said_by b u buf) r o v
-  made_said_lem ft fm fc fo fv fr = rw (← ft, ← fm) (fr ∙ ap outcome_no fc, (fo ∙ rw fc, fv))
+  made_said_lem ft fm fc fo fv fr = rw (← ft, ← fm) (record { value = fr ∙ ap outcome_no fc; numbers_after = fo ∙ rw fc; told_after = fv })
 
 -- ---- the block at a line of a text
 module _ (t j told : List ℕ) (at : ℕ) (f : Found) (buf : List ℕ) where
   pub columns_says : {b : Block} {i o v : List ℕ} {r : ℕ} → b ≡ block_of t at f → i ≡ join_holds j f → Answers told (columns_said_by b (two t (slice 0 b.joined i)) buf) r o v
-      → (r ≡ (columns_said t at f buf).number) × ((i ≡ join_holds j f) × ((o ≡ (columns_said t at f buf).numbers) × (v ≡ told_in told (columns_said t at f buf).told)))
+      → record { value : r ≡ (columns_said t at f buf).number; join_after : i ≡ join_holds j f; numbers_after : o ≡ (columns_said t at f buf).numbers; told_after : v ≡ told_in told (columns_said t at f buf).told }
   unfolding columns_said
-  columns_says {b} {i} p q (x, (y, z)) = (x ∙ ap (λ s. s.number) e, (q, (y ∙ ap (λ s. s.numbers) e, z ∙ ap (λ s. told_in told s.told) e)))
+  columns_says {b} {i} p q x =
+      record {
+        value = x.value ∙ ap (λ s. s.number) e;
+        join_after = q;
+        numbers_after = x.numbers_after ∙ ap (λ s. s.numbers) e;
+        told_after = x.told_after ∙ ap (λ s. told_in told s.told) e;
+      }
     where
       e : columns_said_by b (two t (slice 0 b.joined i)) buf ≡ columns_said t at f buf
       e = rw (p, q, texts_found t at f j)

@@ -1,4 +1,6 @@
 // What C and Rust call to read the column settings of a valve table's block: five numbers for each column.
+#![tactic(auto)]
+
 ghost use Rattle.std.specs.Prelude.{◌≡◌, ◌<◌, ◌*◌, length, take};
 ghost use mathlib.Core.List.{flat_map};
 ghost use Rattle.std.proofs.Math.Seq.{slice};

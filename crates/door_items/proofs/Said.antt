@@ -35,11 +35,11 @@ told_7 buf a b c d e f g p q r s i j k = k ∙ ap (λ l. set l 6 g) (told_6 buf 
 module _ (buf told : List ℕ) (c : Outcome) (ps : List Pair) (n : ℕ) (more : List ℕ) {xs : List Pair} {l : Laid} {k r : ℕ} {o v : List ℕ} where
   item_says : (k ≡ length ps) × (xs ≡ nth n ps) → (l ≡ laid_of c (length buf) xs) × (o ≡ laid_in c buf xs) → v ≡ told_in told (k ∷ l.name ∷ l.value ∷ more) → r ≡ outcome_no l.outcome
       → Says buf told (nth_said c ps n both_lengths more buf) r o v
-  item_says (f, e) (g, h) i j = rw (← e) (j ∙ ap (λ x. outcome_no x.outcome) g, (h, i ∙ rw (f, g)))
+  item_says (f, e) (g, h) i j = rw (← e) (record { value = j ∙ ap (λ x. outcome_no x.outcome) g; out_after = h; told_after = i ∙ rw (f, g) })
 
   value_says : (k ≡ length ps) × (xs ≡ nth n ps) → (l ≡ laid_of c (length buf) xs) × (o ≡ laid_in c buf xs) → v ≡ told_in told (k ∷ l.value ∷ more) → r ≡ outcome_no l.outcome
       → Says buf told (nth_said c ps n value_length more buf) r o v
-  value_says (f, e) (g, h) i j = rw (← e) (j ∙ ap (λ x. outcome_no x.outcome) g, (h, i ∙ rw (f, g)))
+  value_says (f, e) (g, h) i j = rw (← e) (record { value = j ∙ ap (λ x. outcome_no x.outcome) g; out_after = h; told_after = i ∙ rw (f, g) })
 
 -- ---- a block that was read, over its texts
 module _ (buf told : List ℕ) (b : Block) {t u : Texts} (n : ℕ) {xs : List Pair} {l : Laid} {k r : ℕ} {o v : List ℕ} (ft : t ≡ u) where
@@ -73,10 +73,16 @@ module _ (t buf told : List ℕ) (i n : ℕ) {m k : Mode} {x : Read} {r : ℕ} {
 -- ---- the block at a line of a text
 module _ (t j told : List ℕ) (at : ℕ) (f : Found) (buf : List ℕ) where
   abbrev Answers : Said → ℕ → List ℕ → List ℕ → List ℕ → Type 0
-  Answers s r i o v = (r ≡ s.number) × ((i ≡ join_holds j f) × ((o ≡ s.out) × (v ≡ told_in told s.told)))
+  Answers s r i o v = record { value : r ≡ s.number; join_after : i ≡ join_holds j f; out_after : o ≡ s.out; told_after : v ≡ told_in told s.told }
 
   by_said : {s u : Said} {i o v : List ℕ} {r : ℕ} → s ≡ u → i ≡ join_holds j f → Says buf told s r o v → Answers u r i o v
-  by_said e q (x, (y, z)) = (x ∙ ap (λ s. s.number) e, (q, (y ∙ ap (λ s. s.out) e, z ∙ ap (λ s. told_in told s.told) e)))
+  by_said e q x =
+      record {
+        value = x.value ∙ ap (λ s. s.number) e;
+        join_after = q;
+        out_after = x.out_after ∙ ap (λ s. s.out) e;
+        told_after = x.told_after ∙ ap (λ s. told_in told s.told) e;
+      }
 
   pub line_item : {b : Block} {i o v : List ℕ} {r : ℕ} (n : ℕ) → b ≡ block_of t at f → i ≡ join_holds j f → Says buf told (item_said_by b (two t (slice 0 b.joined i)) n buf) r o v → Answers (item_said t at f n buf) r i o v
   unfolding item_said

@@ -26,14 +26,20 @@ module _ (buf told : List ℕ) (b : Block) {t u : Texts} {c : Consumed} {w : Wro
   pub left_said_lem : t ≡ u → c ≡ loose_of t b.set → w ≡ or_refused b.outcome (attrs_wrote t c.set (length buf)) → o ≡ or_left b.outcome buf (attrs_content t c.set buf)
       → act ≡ acted_told c.did → len ≡ len_of w → v ≡ told_in told (act ∷ len ∷ b.lines ∷ b.next ∷ b.lookahead ∷ b.joined ∷ []) → r ≡ (wrote_paper w).number
       → Says buf told (loose_said_by b u buf) r o v
-  left_said_lem ft fc fw fo fa fl fv fr = rw (← ft, ← fc) (fr ∙ ap (λ x. (wrote_paper x).number) fw, (fo, fv ∙ rw (fa, fl, fw)))
+  left_said_lem ft fc fw fo fa fl fv fr = rw (← ft, ← fc) (record { value = fr ∙ ap (λ x. (wrote_paper x).number) fw; out_after = fo; told_after = fv ∙ rw (fa, fl, fw) })
 
 -- ---- the block at a line of a text
 module _ (t j told : List ℕ) (at : ℕ) (f : Found) (buf : List ℕ) where
   pub loose_says : {b : Block} {i o v : List ℕ} {r : ℕ} → b ≡ block_of t at f → i ≡ join_holds j f → Says buf told (loose_said_by b (two t (slice 0 b.joined i)) buf) r o v
-      → (r ≡ (loose_said t at f buf).number) × ((i ≡ join_holds j f) × ((o ≡ (loose_said t at f buf).out) × (v ≡ told_in told (loose_said t at f buf).told)))
+      → record { value : r ≡ (loose_said t at f buf).number; join_after : i ≡ join_holds j f; out_after : o ≡ (loose_said t at f buf).out; told_after : v ≡ told_in told (loose_said t at f buf).told }
   unfolding loose_said
-  loose_says {b} {i} p q (x, (y, z)) = (x ∙ ap (λ s. s.number) e, (q, (y ∙ ap (λ s. s.out) e, z ∙ ap (λ s. told_in told s.told) e)))
+  loose_says {b} {i} p q x =
+      record {
+        value = x.value ∙ ap (λ s. s.number) e;
+        join_after = q;
+        out_after = x.out_after ∙ ap (λ s. s.out) e;
+        told_after = x.told_after ∙ ap (λ s. told_in told s.told) e;
+      }
     where
       e : loose_said_by b (two t (slice 0 b.joined i)) buf ≡ loose_said t at f buf
       e = rw (p, q, texts_found t at f j)

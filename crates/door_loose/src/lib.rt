@@ -1,4 +1,6 @@
 // What C and Rust call to read a check list's block and take its key `loose` out: whether that was done, and what is left as canonical text.
+#![tactic(auto)]
+
 ghost use Rattle.std.specs.Prelude.{◌≡◌, length};
 ghost use Rattle.std.proofs.Math.Seq.{slice};
 ghost use Rattle.text_checks.specs.Outcomes.{or_left};

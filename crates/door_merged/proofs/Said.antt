@@ -65,10 +65,22 @@ module _ (buf told : List ℕ) where
         → x ≡ block_of t (place_of t m) (block_found t m 0 (length j)) → i ≡ join_holds j (block_found t m 0 (length j))
         → y ≡ block_of t (place_of t n) (block_found t n 0 (length k)) → l ≡ join_holds k (block_found t n 0 (length k))
         → Says buf told (merged_said_by (two (text_over t i x.joined) (text_over t l y.joined)) x y buf) r o v
-        → (r ≡ (merged_said t m n (length j) (length k) buf).number) × ((i ≡ join_holds j (block_found t m 0 (length j))) × ((l ≡ join_holds k (block_found t n 0 (length k)))
-        × ((o ≡ (merged_said t m n (length j) (length k) buf).out) × (v ≡ told_in told (merged_said t m n (length j) (length k) buf).told))))
+        → record {
+          value : r ≡ (merged_said t m n (length j) (length k) buf).number;
+          join_after : i ≡ join_holds j (block_found t m 0 (length j));
+          other_after : l ≡ join_holds k (block_found t n 0 (length k));
+          out_after : o ≡ (merged_said t m n (length j) (length k) buf).out;
+          told_after : v ≡ told_in told (merged_said t m n (length j) (length k) buf).told;
+        }
     unfolding merged_said
-    merge_says {x} {y} {i} {l} fx fi fy fl (p, (q, s)) = (p ∙ ap (λ z. z.number) e, (fi, (fl, (q ∙ ap (λ z. z.out) e, s ∙ ap (λ z. told_in told z.told) e))))
+    merge_says {x} {y} {i} {l} fx fi fy fl p =
+        record {
+          value = p.value ∙ ap (λ z. z.number) e;
+          join_after = fi;
+          other_after = fl;
+          out_after = p.out_after ∙ ap (λ z. z.out) e;
+          told_after = p.told_after ∙ ap (λ z. told_in told z.told) e;
+        }
       where
         e : merged_said_by (two (text_over t i x.joined) (text_over t l y.joined)) x y buf ≡ merged_said t m n (length j) (length k) buf
         e = rw (fx, fi, fy, fl, text-found t j (place_of t m) (block_found t m 0 (length j)), text-found t k (place_of t n) (block_found t n 0 (length k)))

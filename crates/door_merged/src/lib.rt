@@ -1,4 +1,6 @@
 // What C and Rust call to merge two blocks, each on one line or wrapped: the number of the refusal or 0, and the merged set as canonical text.
+#![tactic(auto)]
+
 ghost use Rattle.std.specs.Prelude.{◌≡◌, length};
 ghost use Rattle.set_table.specs.Types.{two, text_over};
 ghost use Rattle.read_blocks.specs.Blocks.{join_holds};

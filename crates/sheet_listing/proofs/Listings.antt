@@ -16,7 +16,7 @@ use Rattle.text_digits.specs.Decimal.{decimal}
 use Rattle.text_digits.proofs.Decimals.{decimal_le}
 use Rattle.sheet_valves.specs.Tables.{variant_count, wheels}
 use Rattle.sheet_valves.specs.Pairs.{row_of}
-use Rattle.sheet_valves.proofs.Pairs.{row_from, row_from}
+use Rattle.sheet_valves.proofs.Pairs.{row_from, row_from_lem}
 use Rattle.sheet_valves.specs.declared.Valve.{Valve}
 use Rattle.sheet_valves.specs.declared.Table.{Table}
 use Rattle.sheet_variants.specs.declared.Variants.{Variants}
@@ -52,7 +52,7 @@ pub row_put : (t : Table) (v : ℕ) {buf : List ℕ} {at e f : ℕ} {p q : List 
 unfolding row_text
 row_put t v {buf} {at} {e} {f} {p} {q} w x =
     let z : PutAt buf at (decimal (suc v)) e p = rw add-one at w in
-    let y : PutAt p e (fields_text (row_of t (suc v))) f q = rw (row_from t v) x in
+    let y : PutAt p e (fields_text (row_of t (suc v))) f q = rw (row_from_lem t v) x in
     put_then z (put_byte y 10)
 
 -- ---- the lines: v were laid, and `rest` is still to come

@@ -1,4 +1,6 @@
 // The listing of a sheet: the dealers' table as text, a line for each variant, or the line of its refusal.
+#![tactic(auto)]
+
 ghost use Rattle.std.specs.Prelude.{◌≡◌, [], ◌∷◌, suc, ◌+◌, ◌≤◌, ◌<◌, length};
 ghost use Rattle.base_lists.specs.Lists.{over};
 ghost use Rattle.base_bytes.specs.Bytes.{tab};

@@ -128,12 +128,12 @@ module _ (xs : List ℕ) {n : ℕ} {buf b : List ℕ} (p : PutAt buf 0 xs n b) (
   laid_long l = ends ∙ ap length (sym (laid_is l))
 
   module _ (out : List ℕ) where
-    pub wrote_none : length out < n → (Refused CanonTooLong ≡ wrote_of xs (length out)) × ((out ≡ content_after out xs) × (wrote_paper (Refused CanonTooLong) ≡ on_paper (room_order xs (length out)) (length xs ∷ [])))
+    pub wrote_none : length out < n → record { value : Refused CanonTooLong ≡ wrote_of xs (length out); out_after : out ≡ content_after out xs; result_value : wrote_paper (Refused CanonTooLong) ≡ on_paper (room_order xs (length out)) (length xs ∷ []) }
     unfolding wrote_of content_after has_room
     wrote_none l = said (set_no xs (length out)) (rw (lt-leb (length xs) (length out) (omega (arith, ends)), le-leb (length xs) max_text (omega (arith, ends))) (refl, refl))
 
     pub wrote_whole : {out' : List ℕ} → n ≤ length out → out' ≡ sets out 0 xs
-        → (Bytes n ≡ wrote_of xs (length out)) × ((out' ≡ content_after out xs) × (wrote_paper (Bytes n) ≡ on_paper (room_order xs (length out)) (length xs ∷ [])))
+        → record { value : Bytes n ≡ wrote_of xs (length out); out_after : out' ≡ content_after out xs; result_value : wrote_paper (Bytes n) ≡ on_paper (room_order xs (length out)) (length xs ∷ []) }
     unfolding wrote_of content_after has_room
     wrote_whole {out'} l e =
         said (set_no xs (length out))

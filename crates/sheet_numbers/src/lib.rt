@@ -1,4 +1,6 @@
 // The text of a report over sheets: thirteen lines of a name, a tab and a number, written into lent memory and read back.
+#![tactic(auto)]
+
 ghost use Rattle.std.specs.Prelude.{◌≡◌, [], ◌∷◌, ◌+◌, ◌≤◌, length};
 ghost use Rattle.base_refusals.specs.Orders.{on_paper};
 ghost use Rattle.text_digits.specs.Digits.{read_out};

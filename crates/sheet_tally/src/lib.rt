@@ -1,4 +1,6 @@
 // The thirteen numbers of a sheet, and one sheet more in a report.
+#![tactic(auto)]
+
 ghost use Rattle.std.specs.Prelude.{◌≡◌, ◌≤◌, ◌<◌, ◌+◌, length, get_or, drop, [], ◌∷◌, cond, ltb};
 ghost use Rattle.std.proofs.Math.Seq.{slice};
 ghost use Rattle.base_refusals.specs.Numbers.{max_text, number_of};
