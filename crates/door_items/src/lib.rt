@@ -1,4 +1,6 @@
 // What C and Rust call to ask for the items of a block's canonical text, or for the values under a name, one by one: unescaped, and with their lengths.
+#![tactic(auto)]
+
 ghost use Rattle.std.specs.Prelude.{◌≡◌, length};
 ghost use Rattle.std.proofs.Math.Seq.{slice};
 ghost use Rattle.text_line_start.specs.Starts.{place_of};

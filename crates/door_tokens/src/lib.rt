@@ -1,4 +1,6 @@
 // What C and Rust call to find the payload of a block at a brace, and to walk over its tokens.
+#![tactic(auto)]
+
 ghost use Rattle.std.specs.Prelude.{◌≡◌};
 ghost use Rattle.read_brace.specs.Brace.{payload_at};
 ghost use Rattle.block_next_token.specs.Walk.{step_at};

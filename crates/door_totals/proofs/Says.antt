@@ -64,24 +64,23 @@ module _ {t : Totals} {buf out : List ℕ} {i : ℕ} (inv : Keeps t buf out i) w
 module _ (buf : List ℕ) {x : Totals} (e : x ≡ report_in buf) {p : Outcome} (f : p ≡ room_in buf) where
   pub add_said : (more : List ℕ) {y : Totals} {s : Added} {q room o : Outcome} {r : ℕ} {out : List ℕ} → y ≡ report_in more → s ≡ add_totals x y → q ≡ room_in more → room ≡ or_else p q → o ≡ or_else s.outcome room
       → r ≡ outcome_no o → out ≡ or_left o buf (told_in buf s.totals.numbers)
-      → (r ≡ outcome_no (add_kept buf more)) × (out ≡ or_left (add_kept buf more) buf (told_in buf (add_totals (report_in buf) (report_in more)).totals.numbers))
+      → record { value : r ≡ outcome_no (add_kept buf more); totals_after : out ≡ or_left (add_kept buf more) buf (told_in buf (add_totals (report_in buf) (report_in more)).totals.numbers) }
   add_said more g h k l m n z =
       let a : _ ≡ add_totals (report_in buf) (report_in more) = h ∙ rw (e, g) in
       let b : _ ≡ add_kept buf more = m ∙ rw (a, l, f, k) in
-      (n ∙ ap outcome_no b, z ∙ rw (b, a))
+      record { value = n ∙ ap outcome_no b; totals_after = z ∙ rw (b, a) }
 
   pub feed_said : (t : List ℕ) (cap : ℕ) {s : Added} {o : Outcome} {r : ℕ} {out i j : List ℕ} → s ≡ feed_of x t cap → i ≡ j → o ≡ or_else s.outcome p
       → r ≡ outcome_no o → out ≡ or_left o buf (told_in buf s.totals.numbers)
-      → (r ≡ outcome_no (feed_kept buf t cap)) × ((out ≡ or_left (feed_kept buf t cap) buf (told_in buf (feed_of (report_in buf) t cap).totals.numbers)) × (i ≡ j))
+      → record { value : r ≡ outcome_no (feed_kept buf t cap); totals_after : out ≡ or_left (feed_kept buf t cap) buf (told_in buf (feed_of (report_in buf) t cap).totals.numbers); join_after : i ≡ j }
   feed_said t cap g h m n z =
       let a : _ ≡ feed_of (report_in buf) t cap = g ∙ rw e in
       let b : _ ≡ feed_kept buf t cap = m ∙ rw (a, f) in
-      (n ∙ ap outcome_no b, (z ∙ rw (b, a), h))
+      record { value = n ∙ ap outcome_no b; totals_after = z ∙ rw (b, a); join_after = h }
 
   pub text-said : (out told : List ℕ) {w : Wrote} {k r : ℕ} {o v : List ℕ} → w ≡ or_refused p (wrote_of (totals_text x.numbers) (length out)) → o ≡ or_left p out (content_after out (totals_text x.numbers))
       → k ≡ len_of w → v ≡ set told 0 k → r ≡ (wrote_paper w).number
-      → (r ≡ (wrote_paper (text_kept buf (length out))).number)
-      × ((o ≡ or_left (room_in buf) out (content_after out (totals_text (report_in buf).numbers))) × (v ≡ told_in told (len_of (text_kept buf (length out)) ∷ [])))
+      → record { value : r ≡ (wrote_paper (text_kept buf (length out))).number; out_after : o ≡ or_left (room_in buf) out (content_after out (totals_text (report_in buf).numbers)); told_after : v ≡ told_in told (len_of (text_kept buf (length out)) ∷ []) }
   text-said out told {w} h l m n z =
       let a : w ≡ text_kept buf (length out) = h ∙ rw (e, f) in
-      (z ∙ ap (λ y. (wrote_paper y).number) a, (l ∙ rw (e, f), told_1 told (len_of (text_kept buf (length out))) (n ∙ ap (λ y. set told 0 y) (m ∙ ap len_of a))))
+      record { value = z ∙ ap (λ y. (wrote_paper y).number) a; out_after = l ∙ rw (e, f); told_after = told_1 told (len_of (text_kept buf (length out))) (n ∙ ap (λ y. set told 0 y) (m ∙ ap len_of a)) }

@@ -1,4 +1,6 @@
 // What C and Rust call for a report over sheets, thirteen numbers in lent memory, which are changed only where 0 is returned.
+#![tactic(auto)]
+
 ghost use Rattle.std.specs.Prelude.{◌≡◌, [], ◌∷◌, length};
 ghost use Rattle.base_refusals.specs.Numbers.{outcome_no};
 ghost use Rattle.text_checks.specs.Outcomes.{or_left};

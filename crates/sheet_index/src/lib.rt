@@ -1,4 +1,6 @@
 // An index beside a sheet: building it, reading it, and looking a record up.
+#![tactic(auto)]
+
 ghost use Rattle.std.specs.Prelude.{◌≡◌, true, suc, ◌≤◌, ◌+◌, [], ◌∷◌, length};
 ghost use Rattle.std.proofs.Math.Seq.{slice};
 ghost use Rattle.base_lists.specs.Lists.{over};

@@ -60,7 +60,7 @@ unfolding Till
 tokens_till {at = at} (Tokens.one {t = t} k) = (rw (token_text k) (omega arith), tt)
 tokens_till {at = at} (Tokens.more {t = t} {b = b} {s = s} {is = is} k g r) =
     let z : at + length (t ++ (b ++ s)) ≡ at + length t + length b + length s = omega (arith, length-append t (b ++ s), length-append b s) in
-    rw (z, token_text k) (omega arith, tokens_till r)
+    (rw (z, token_text k) (omega arith), till_on (at + length t + length b + length s) (at + length (t ++ (b ++ s))) is (omega (arith, z)) (tokens_till r))
 
 payload_till : {m : Mode} {at : ℕ} {s : List ℕ} {is : List Placed} → Payload m at s is → Till (at + length s) is
 payload_till {at = at} (Payload.payload {b = b} {t = t} {e = e} {is = is} g r f) =

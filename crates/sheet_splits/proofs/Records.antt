@@ -150,10 +150,10 @@ unfolding Each flat_map
 flat_each P f g h [] e = refl
 flat_each P f g h (x ∷ xs) e = rw (h x e.0, flat_each P f g h xs e.1)
 
-flat_map : (f : Try → List Record) (h : Try → Try) (xs : List Try) → flat_map f (map h xs) ≡ flat_map (λ x. f (h x)) xs
+flat_map_lem : (f : Try → List Record) (h : Try → Try) (xs : List Try) → flat_map f (map h xs) ≡ flat_map (λ x. f (h x)) xs
 unfolding flat_map
-flat_map f h [] = refl
-flat_map f h (x ∷ xs) = ap (λ (ys : List Record). f (h x) ++ ys) (flat_map f h xs)
+flat_map_lem f h [] = refl
+flat_map_lem f h (x ∷ xs) = ap (λ (ys : List Record). f (h x) ++ ys) (flat_map_lem f h xs)
 
 map_flat : (h : Record → Record) (f : Try → List Record) (xs : List Try) → map h (flat_map f xs) ≡ flat_map (λ x. map h (f x)) xs
 unfolding flat_map
@@ -219,7 +219,7 @@ module _ (x y : List ℕ) (w : is_whole x ≡ true) (f : Flat (lines y)) (k : le
       ∙ flat_append (records_at (x ++ y)) (tries_at x max_text 1 0) (map (farther d o) (tries_at y max_text 1 0))
       ∙ (rw (
         flat_each (Stands x) (records_at (x ++ y)) (records_at x) front_own (tries_at x max_text 1 0) (each_stands x (length x) 1 0 (omega arith)),
-        flat_map (records_at (x ++ y)) (farther d o) (tries_at y max_text 1 0),
+        flat_map_lem (records_at (x ++ y)) (farther d o) (tries_at y max_text 1 0),
         flat_each (Stands y) (λ r. records_at (x ++ y) (farther d o r)) (λ r. map (moved_on d o) (records_at y r)) (behind_own d) (tries_at y max_text 1 0) (each_stands y (length y) 1 0 (omega arith)),
         ← map_flat (moved_on d o) (records_at y) (tries_at y max_text 1 0),
         ← records_are x k_x,

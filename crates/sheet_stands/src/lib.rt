@@ -1,4 +1,6 @@
 // Whether a record's line stands at a place of an index text.
+#![tactic(auto)]
+
 ghost use Rattle.std.specs.Prelude.{◌≡◌, ◌∷◌, [], ◌++◌, ◌≤◌, ◌<◌, length};
 ghost use Rattle.base_lists.specs.Lists.{same};
 ghost use Rattle.base_bytes.specs.Bytes.{lf};
