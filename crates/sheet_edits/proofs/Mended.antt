@@ -44,6 +44,6 @@ module _ (t : List ℕ) (p e : ℕ) (h : p ≤ e) (l : e ≤ length t) where
 pub cuts_mend : {old new : List ℕ} {p e n : ℕ} → Cuts old new p e n → length old ≤ max_text → length new ≤ max_text → Mends old new p e n
 cuts_mend {old} {new} {p} {e} {n} c k m =
     record {
-      old_records = parts_records old p e c.ordered c.within c.old-front c.old-end k;
-      new_records = rw (c.front, c.end) at (parts_records new p n c.new-ordered c.new-within c.new-front c.new-end m);
+      old_records = parts_records old p e c.ordered c.within c.old_front c.old_end k;
+      new_records = rw (c.front, c.end) at (parts_records new p n c.new_ordered c.new_within c.new_front c.new_end m);
     }

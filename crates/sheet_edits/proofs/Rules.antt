@@ -153,5 +153,5 @@ module _ (old new : List ℕ) (a b : ℕ) where
       let f = first_of r in
       let i : last_flat (take r.from old) ≡ p = omega (arith, one_last w.begin l, one_last l w.begin) in
       let k : length new - (length old - r.to) + more_again old new r.to ≡ n = omega (arith, one_first w.end f, one_first f w.end) in
-      let j : r.to + more_again old new r.to ≡ e = omega (arith, k, w.old-end, place_of r) in
+      let j : r.to + more_again old new r.to ≡ e = omega (arith, k, w.old_end, place_of r) in
       computed r ∙ cc

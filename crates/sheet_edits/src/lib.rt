@@ -1,4 +1,6 @@
 // Lines of a text that were replaced: where they stood, and which lines have to be read again.
+#![tactic(auto)]
+
 ghost use Rattle.std.specs.Prelude.{◌≡◌, length, get_or, ◌-◌, ◌<◌, ◌≤◌, eqb};
 ghost use Rattle.text_lines.specs.Lines.{lines};
 ghost use Rattle.sheet_splits.specs.Parting.{is_whole};

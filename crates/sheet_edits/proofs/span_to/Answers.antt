@@ -1,0 +1,17 @@
+use Rattle.sheet_edits.specs.Edits.{span_to}
+use borrow.Author.Rules.{rules}
+use Rattle.sheet_edits.proofs.span_to.Reads as reads
+use Rattle.sheet_edits.proofs.span_to.Lts as lts
+use Rattle.text_lines.proofs.line_from.Reads as line-from-reads
+use Rattle.text_lines.proofs.line_of.Reads as line-of-reads
+use Rattle.sheet_edits.proofs.span_to.Goals as goal
+
+-- src/lib.rt:25:1
+pub returns-in-Missing : goal.returns-in-Missing
+unfolding span_to
+returns-in-Missing c = rw (← c.line_of.ensures.value, c.in-Missing.is)
+
+-- src/lib.rt:25:1
+pub returns-in-At : goal.returns-in-At
+unfolding span_to
+returns-in-At c = rw (← c.line_of.ensures.value, c.in-At.is, c.line_from-e.ensures)
