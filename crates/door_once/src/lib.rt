@@ -1,4 +1,6 @@
 // What C and Rust call to read a block within a line in one pass: told as by the first reader.
+#![tactic(auto)]
+
 ghost use Rattle.std.specs.Prelude.{◌≡◌};
 ghost use Rattle.door_shared.specs.Tells.{told_in};
 ghost use Rattle.door_sets.specs.Sets.{mode_of};

@@ -16,8 +16,8 @@ pub strict_is : (n : ℕ) → (n ≡ 0 → ⊥) → WellFormed ≡ tags_of n
 strict_is zero h = absurd (h refl)
 strict_is (suc n) h = refl
 
-pub both_said : {g k : Tags} → g ≡ k → (g ≡ k) × (tags_paper g ≡ tags_paper k)
-both_said e = (e, ap tags_paper e)
+pub both_said : {g k : Tags} → g ≡ k → record { value : g ≡ k; result_value : tags_paper g ≡ tags_paper k }
+both_said e = record { value = e; result_value = ap tags_paper e }
 
 pub tagged_said_lem : (t buf told : List ℕ) (i : ℕ) {g k : Tags} {m n : Mode} {x : Read} {r : ℕ} {o v : List ℕ} → g ≡ k → m ≡ n → x ≡ read_tagged g m t i
     → Says buf told (brace_by t buf x) r o v → Says buf told (tagged_said k n t i buf) r o v

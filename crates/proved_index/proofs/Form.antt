@@ -59,7 +59,7 @@ unfolding index_text index_rows
 text_read rs w = version_read index_version rs w
 
 pub index_is_read : IndexIsRead
-index_is_read t rs w = rw w.text (text_read rs w.in-range)
+index_is_read t rs w = rw w.text (text_read rs w.in_range)
 
 -- what is read has the first line of this version
 pub read_own : (t : List ℕ) {es : List IndexRow} → read_index t ≡ rows es → is_other index_version t ≡ false
@@ -84,7 +84,7 @@ from_back (suc left) t at es e = go (ltb at (length t)) refl e (from_back left t
         let v : en ∷ ys ≡ es = cc in
         let w = record_back t at en q in
         let y = ih en.next ys g in
-        rw (← v) (record { in_range = (w.in-range, y.in_range); text = w.text ∙ ap (λ (l : List ℕ). record_line (record_in t en) ++ l) y.text })
+        rw (← v) (record { in_range = (w.in_range, y.in_range); text = w.text ∙ ap (λ (l : List ℕ). record_line (record_in t en) ++ l) y.text })
 
     one : (r : RecordAt) → record_at t at ≡ r → on_row r (rows_from left t) ≡ rows es
         → ((at : ℕ) (es : List IndexRow) → rows_from left t at ≡ rows es → Held t at (records_by t es)) → Held t at (records_by t es)
@@ -107,7 +107,7 @@ read_is_index t es e = go (is_other index_version t) (is_headed t) refl e
     go false true b f =
         let w = from_back (suc (length t)) t (length index_header) es f in
         let h : take (length index_header) t ≡ index_header = same_true (take (length index_header) t) index_header b in
-        record { in_range = w.in-range; text = sym (take-append-drop (length index_header) t) ∙ (ap (λ (l : List ℕ). l ++ drop (length index_header) t) h ∙ ap (λ (l : List ℕ). index_header ++ l) w.text) }
+        record { in_range = w.in_range; text = sym (take-append-drop (length index_header) t) ∙ (ap (λ (l : List ℕ). l ++ drop (length index_header) t) h ∙ ap (λ (l : List ℕ). index_header ++ l) w.text) }
     go false false b f = let z : ◌≡◌ {A = ℕ} 0 1 = cc in absurd (omega arith)
 
 -- one list for each text

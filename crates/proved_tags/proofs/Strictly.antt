@@ -118,7 +118,7 @@ pub merge_passes : MergePasses
 unfolding is_class same
 merge_passes t a b e f g v q =
     let w = merge_gives t a b e in
-    go (absent lang_name (meaning_of t b)) refl (w.later-wins lang_name) (w.earlier-stays lang_name)
+    go (absent lang_name (meaning_of t b)) refl (w.later_wins lang_name) (w.earlier_stays lang_name)
   where
     go : (x : Bool) → absent lang_name (meaning_of t b) ≡ x
         → (absent lang_name (meaning_of t b) ≡ false → is_class lang_name ≡ false → lookup lang_name (merge_meaning t a b) ≡ lookup lang_name (meaning_of t b))

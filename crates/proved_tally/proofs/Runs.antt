@@ -95,7 +95,7 @@ later_join : (so : So) (l : Lined) (ls : List Lined) (R : Run) → may_join so l
 unfolding all NoPad
 later_join so l ls R p w =
     let z : R.lines - so.lines ≡ suc (R.lines - suc so.lines) = omega (arith, w.counted) in
-    record { counted = omega (arith, w.counted); all_indented = λ f h. rw (z, joins_indented so l f h.0 p) (w.all-indented (not_first so l) h.1) }
+    record { counted = omega (arith, w.counted); all_indented = λ f h. rw (z, joins_indented so l f h.0 p) (w.all_indented (not_first so l) h.1) }
 
 -- of a run: all lines behind its first
 abbrev Behind : So → List Lined → Run → Type 0
@@ -108,7 +108,7 @@ behind_join : (so : So) (l : Lined) (ls : List Lined) (R : Run) → Later (after
 unfolding NoPad
 behind_join so l ls R w z p k q =
     let y : R.lines - suc so.lines ≡ k = omega (arith, z, q) in
-    rw y at (w.all-indented (not_first so l) p.1)
+    rw y at (w.all_indented (not_first so l) p.1)
 
 -- the first line is joined, and the rest are later ones
 abbrev Both : So → List Lined → Run → Type 0

@@ -20,5 +20,5 @@ unfolding limited order_no
 limited_no s = behind_no (limit_order s) [] (record { outcome = Passed; set = table_of s }) refl
 
 -- what is handed out has the number of what it is equal to
-pub said : {f g : Filled} {n : ℕ} → outcome_no g.outcome ≡ n → f ≡ g → record {value : f ≡ g; outcome_value : outcome_no f.outcome ≡ n}
+pub said : {f g : Filled} {n : ℕ} → outcome_no g.outcome ≡ n → f ≡ g → record { value : f ≡ g; outcome_value : outcome_no f.outcome ≡ n }
 said k e = record { value = e; outcome_value = ap (λ x. outcome_no x.outcome) e ∙ k }
