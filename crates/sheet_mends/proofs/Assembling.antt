@@ -180,10 +180,10 @@ module _ (old new : List ℕ) (p e n : ℕ) (index join : List ℕ) (seen : Seen
   fresh = map (moved_on (lines_to old p) p) (records_of (slice p n new)) ++ map (moved_on (lines_to old p + length (lines (slice p n new))) n) (records_of (drop e old))
 
   old_is : records_of old ≡ front ++ (again_records old p e ++ behind)
-  old_is = parts_records old p e cuts.ordered cuts.within cuts.old_front cuts.old_end w.old-short
+  old_is = parts_records old p e cuts.ordered cuts.within cuts.old_front cuts.old_end w.old_short
 
   new_is : records_of new ≡ front ++ fresh
-  new_is = rw (cuts.front, cuts.end) at (parts_records new p n cuts.new_ordered cuts.new_within cuts.new_front cuts.new_end w.new-short)
+  new_is = rw (cuts.front, cuts.end) at (parts_records new p n cuts.new_ordered cuts.new_within cuts.new_front cuts.new_end w.new_short)
 
   index_is : index ≡ index_header ++ (lines_text front ++ (lines_text (again_records old p e) ++ lines_text behind))
   unfolding index_text
@@ -229,7 +229,7 @@ module _ (old new : List ℕ) (p e n : ℕ) (index join : List ℕ) (seen : Seen
   rest_stands = rw (rest_moved, take-length index) past_again
 
   in_all : AllIn (front ++ (again_records old p e ++ behind))
-  in_all = rw old_is at w.old-in
+  in_all = rw old_is at w.old_in
 
   pub front_in : AllIn (map (moved_on 0 0) (records_of (slice 0 p old)))
   front_in = rw (later_none front) (in_parts front (again_records old p e ++ behind) in_all).0
@@ -255,8 +255,8 @@ module _ (old new : List ℕ) (p e n : ℕ) (index join : List ℕ) (seen : Seen
         × (((seen.to ≤ length index) × (length index ≤ most_index))
         × ((slice seen.to (length index) index ≡ lines_text (map (moved_on seen.less e) (records_of rest))) × AllIn (map (moved_on seen.less e) (records_of rest)))))
     rest_asks =
-        let a : length text ≤ max_text = omega (arith, text_end, cuts.new_within, w.new-short) in
-        let b : p + length text ≤ max_text = omega (arith, text_end, cuts.new_within, w.new-short) in
+        let a : length text ≤ max_text = omega (arith, text_end, cuts.new_within, w.new_short) in
+        let b : p + length text ≤ max_text = omega (arith, text_end, cuts.new_within, w.new_short) in
         let d : length (take p old) ≡ p = length-take-le p old (omega (arith, cuts.ordered, cuts.within)) in
         let c : seen.line + length (lines text) ≤ max_text = omega (arith, b, d, lines_few text, lines_few (take p old), line_is) in
         ((a, w.wide), ((c, b), ((index_room.1.1, w.short), (rw er rest_stands, rw er rest_in))))
@@ -301,7 +301,7 @@ module _ (old new : List ℕ) (p e n : ℕ) (index join : List ℕ) (seen : Seen
 
   -- the join buffer keeps its length
   pub still : {join' : List ℕ} → max_text ≤ length join' → MayMend old new p e n index join' seen
-  still h = record { old_short = w.old-short; old_in = w.old-in; new_short = w.new-short; wide = h; again = w.again; own = w.own; short = w.short; few = w.few; is = w.is }
+  still h = record { old_short = w.old_short; old_in = w.old_in; new_short = w.new_short; wide = h; again = w.again; own = w.own; short = w.short; few = w.few; is = w.is }
 
   pub so_far_lem : so_far (record { good = false; records = seen.records; next = seen.from })
   so_far_lem = (omega (arith, w.few), omega (arith, index_room.1, w.short))
@@ -309,7 +309,7 @@ module _ (old new : List ℕ) (p e n : ℕ) (index join : List ℕ) (seen : Seen
 -- ---- the old text was compared
 
 pub parts_of : (old new : List ℕ) (p e n : ℕ) → AreAgain old new p e n → OldParts old p e
-parts_of old new p e n a = let c = again_cuts old new a.0 a.1.0 a.1.1 in (c.ordered, (c.within, (c.old-front, c.old-end)))
+parts_of old new p e n a = let c = again_cuts old new a.0 a.1.0 a.1.1 in (c.ordered, (c.within, (c.old_front, c.old_end)))
 
 module _ (old new : List ℕ) (p e n : ℕ) (index : List ℕ) where
   pub good_is : {seen : Seen} → seen ≡ seen_of old p e index → seen.good ≡ same index (index_text (records_of old))

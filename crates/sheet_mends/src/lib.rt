@@ -1,4 +1,6 @@
 // Mending an index after lines of its sheet were replaced.
+#![tactic(auto)]
+
 ghost use Rattle.std.specs.Prelude.{◌≡◌, ◌&&◌, [], ◌∷◌, map, ◌≤◌, ◌+◌, length};
 ghost use Rattle.std.proofs.Math.Seq.{slice};
 ghost use Rattle.base_lists.specs.Lists.{over};
