@@ -1,4 +1,6 @@
 // What C and Rust call to mend an index beside a sheet after an edit, in lent memory: the number of its refusal, 0 where nothing is refused.
+#![tactic(auto)]
+
 ghost use Rattle.std.specs.Prelude.{◌≡◌, length};
 ghost use Rattle.base_lists.specs.Lists.{over};
 ghost use Rattle.sheet_blocks.specs.Sheets.{join_behind};
