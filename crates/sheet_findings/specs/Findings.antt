@@ -99,11 +99,11 @@ abbrev pub stopped : kinds.Kind → Stop → ℕ → Finding
 stopped k s n = record { kind = k; row = s.row; place = s.place; number = n }
 
 abbrev pub stop_by : Stop → ℕ → kinds.Kind → whys.Why → Finding
-stop_by s from left why.End = here kind.Unclosed from
-stop_by s from left why.Blank = stopped kind.Blank s 0
-stop_by s from left why.Quoted = stopped kind.Quoted s 0
-stop_by s from left why.Left = stopped left s s.brace
-stop_by s from left why.Entries = stopped kind.Entries s 0
+stop_by s from k why.End = here kind.Unclosed from
+stop_by s from k why.Blank = stopped kind.Blank s 0
+stop_by s from k why.Quoted = stopped kind.Quoted s 0
+stop_by s from k why.Left = stopped k s s.brace
+stop_by s from k why.Entries = stopped kind.Entries s 0
 
 -- why a run isn't closed; its first brace stands at `from`
 unfoldable pub stop_finding : Stop → ℕ → kinds.Kind → Finding
