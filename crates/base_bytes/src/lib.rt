@@ -5,7 +5,7 @@ ghost use Rattle.std.specs.Prelude.{◌≡◌};
 ghost use Rattle.base_bytes.specs.Bytes.{is_space, is_punct, is_quote, is_plain, is_blank, is_indent, is_tail};
 
 // Which bytes part tokens: spaces alone, or also CR and LF.
-#[derive(Clone, Copy)]
+#[derive(Clone, Copy, PartialEq, Eq)]
 pub enum Mode {
     Strict,
     Loose,
@@ -15,40 +15,31 @@ pub enum Mode {
 pub fn is_space(b: u8) -> bool
     ensures { result ≡ is_space b }
 {
-    match b {
-        b'\t' | b'\n' | 12 | b'\r' | b' ' => true,
-        _ => false,
-    }
+    matches!(b, b'\t' | b'\n' | 12 | b'\r' | b' ')
 }
 
 // ASCII punctuation: what a backslash can escape.
 pub fn is_punct(b: u8) -> bool
     ensures { result ≡ is_punct b }
 {
-    match b {
-        b'!'..=b'/' | b':'..=b'@' | b'['..=b'`' | b'{'..=b'~' => true,
-        _ => false,
-    }
+    matches!(b, b'!'..=b'/' | b':'..=b'@' | b'['..=b'`' | b'{'..=b'~')
 }
 
 // A quote of either kind.
 pub fn is_quote(b: u8) -> bool
     ensures { result ≡ is_quote b }
 {
-    match b {
-        b'"' | b'\'' => true,
-        _ => false,
-    }
+    matches!(b, b'"' | b'\'')
 }
 
 // A byte of an unquoted value.
 pub fn is_plain(b: u8) -> bool
     ensures { result ≡ is_plain b }
 {
-    match b {
-        b'\t' | b'\n' | b'\r' | b' ' | b'"' | b'\'' | b'\\' | b'|' | b'}' => false,
-        _ => true,
-    }
+    !matches!(
+        b,
+        b' ' | b'\t' | b'\n' | b'\r' | b'"' | b'\'' | b'\\' | b'|' | b'}'
+    )
 }
 
 // A byte that parts tokens.
@@ -57,10 +48,7 @@ pub fn is_blank(mode: Mode, b: u8) -> bool
 {
     match mode {
         Mode::Strict => b == b' ',
-        Mode::Loose => match b {
-            b'\n' | b'\r' | b' ' => true,
-            _ => false,
-        },
+        Mode::Loose => matches!(b, b'\n' | b'\r' | b' '),
     }
 }
 
@@ -68,18 +56,12 @@ pub fn is_blank(mode: Mode, b: u8) -> bool
 pub fn is_indent(b: u8) -> bool
     ensures { result ≡ is_indent b }
 {
-    match b {
-        b'\t' | b' ' => true,
-        _ => false,
-    }
+    matches!(b, b'\t' | b' ')
 }
 
 // A byte that goes on a character of UTF-8.
 pub fn is_tail(b: u8) -> bool
     ensures { result ≡ is_tail b }
 {
-    match b {
-        0x80..=0xBF => true,
-        _ => false,
-    }
+    matches!(b, 0x80..=0xBF)
 }

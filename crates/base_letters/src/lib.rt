@@ -104,14 +104,12 @@ pub fn is_attr_ident_start(b: u8) -> bool
 pub fn run_end(table: &[u64; 16], mask: u64, s: &[u8], i: usize) -> usize
     ensures { result ≡ i + run (is_of table.now mask) (drop i s.now) }
 {
-    let mut k = i;
-    while k < s.len() {
+    for k in i..s.len() {
         if !is_of(table, mask, s[k]) {
             return k;
         }
-        k += 1;
     }
-    k
+    i.max(s.len())
 }
 
 // Behind the later bytes of a name from i on.

@@ -3,13 +3,13 @@
 use mathlib.Core.Path.{◌≡◌, refl, ap}
 use mathlib.Core.Bool.{Bool, true, false, ◌&&◌}
 use mathlib.Core.List.{List, [], ◌∷◌}
-use Prim.Native.Nat.{ℕ, suc, ◌+◌, ◌<◌, ◌≤◌, zero-le, ◌-◌}
+use Prim.Native.Nat.{ℕ, suc, ◌≤◌, zero-le}
 use native.Mathlib.Omega.{arith}
-use native.Mathlib.Numerals.{add-one}
 use borrow.Author.Tests.{eqb-true, eq-eqb, ne_eqb, leb-true, leb-false}
 use lib.Dec.{eqb, leb}
 use lib.ListN.{length, get_or, drop, drop_of_length-le}
 use lib.Seq.{drop-cons}
+use lib.Pointwise.{pointwise}
 use Rattle.base_lists.specs.Lists.{same}
 use Rattle.base_lists.proofs.Scan.{both}
 
@@ -28,6 +28,14 @@ same_true (a ∷ s) (b ∷ t) e =
     let p = eqb-true a b h.0 in
     let q = same_true s t h.1 in
     cc
+
+-- what `==` answers at two slices
+pub same_pointwise : (s t : List ℕ) → pointwise eqb s t ≡ same s t
+unfolding same
+same_pointwise [] [] = refl
+same_pointwise [] (b ∷ t) = refl
+same_pointwise (a ∷ s) [] = refl
+same_pointwise (a ∷ s) (b ∷ t) = rw (same_pointwise s t)
 
 pub same_of : {s t : List ℕ} → s ≡ t → same s t ≡ true
 same_of {s} {t} e = rw e (same_refl t)
@@ -61,19 +69,6 @@ pub agrees_start : {s t : List ℕ} → length s ≡ length t → Agrees s t 0
 agrees_start e = record { long = e; within = zero-le; rest = refl }
 
 module _ {s t : List ℕ} {i : ℕ} (inv : Agrees s t i) where
-  pub agrees_stop : i < length s → (get_or s i 0 ≡ get_or t i 0 → ⊥) → false ≡ same s t
-  unfolding same
-  agrees_stop h e = rw (drop-cons s i 0 h, drop-cons t i 0 (omega (arith, inv.long)), ne_eqb (get_or s i 0) (get_or t i 0) e) at inv.rest
-
-  pub agrees_go : i < length s → get_or s i 0 ≡ get_or t i 0 → Agrees s t (i + 1)
-  unfolding same
-  agrees_go h e =
-      record {
-        long = inv.long;
-        within = omega arith;
-        rest = rw add-one (rw (drop-cons s i 0 h, drop-cons t i 0 (omega (arith, inv.long)), eq-eqb (get_or s i 0) (get_or t i 0) e) at inv.rest);
-      }
-
   pub agrees_end : length s ≤ i → true ≡ same s t
   unfolding same
   agrees_end h = rw (drop_of_length-le s h, drop_of_length-le t {i = i} (omega (arith, inv.long))) at inv.rest

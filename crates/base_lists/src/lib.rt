@@ -9,31 +9,15 @@ ghost use Rattle.base_lists.specs.Lists.{same};
 pub fn same_bytes(a: &[u8], b: &[u8]) -> bool
     ensures { result ≡ same a.now b.now }
 {
-    if a.len() != b.len() {
-        return false;
-    }
-    let mut i = 0;
-    while i < a.len() {
-        if a[i] != b[i] {
-            return false;
-        }
-        i += 1;
-    }
-    true
+    a == b
 }
 
 // Writes the bytes s into lent memory from the place `at` on; what has no room is left out.
 pub fn put_bytes(out: &mut [u8], at: usize, s: &[u8])
     ensures { out.new ≡ sets out.old at s.now }
 {
-    let mut k = at;
-    let mut i = 0;
-    while i < s.len() {
-        if out.len() <= k {
-            return;
-        }
-        out[k] = s[i];
-        k += 1;
-        i += 1;
+    if at < out.len() {
+        let n = s.len().min(out.len() - at);
+        out[at..at + n].copy_from_slice(&s[..n]);
     }
 }

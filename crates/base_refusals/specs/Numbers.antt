@@ -1,9 +1,7 @@
 -- The refusals and their numbers: the table of document 01's 'Sizes and refusal numbers'.
-use Rattle.std.specs.Prelude.{ℕ, Bool, List, [], ltb, length}
+use Rattle.std.specs.Prelude.{ℕ, Bool, List, [], ltb, length, Err, Ok, Result}
 use Rattle.base_refusals.specs.declared.Refusal.{Refusal}
 use Rattle.base_refusals.specs.declared.Refusal.TheVariants.{TextTooLong, NotUtf8, NothingThere, NoClose, NoReading, TooManyClasses, TooManyKeys, JoinFull, CanonTooLong, NotWellFormed, EmptySet, BadTag, NotAnIndex, TableFull, AnotherVersion, TotalTooLarge, TooManyColumns, IndexTooLong, BadSetting, SharedValve}
-use Rattle.base_refusals.specs.declared.Outcome.{Outcome}
-use Rattle.base_refusals.specs.declared.Outcome.TheVariants.{Passed, Refused}
 
 -- "Text at most 65,535 bytes"
 abbrev pub max_text : ℕ
@@ -60,10 +58,18 @@ number_of BadSetting = 20
 -- "21, a valve at two wheels"
 number_of SharedValve = 21
 
--- the number of an outcome: 0 where nothing is refused
-abbrev pub outcome_no : Outcome → ℕ
-outcome_no Passed = 0
-outcome_no (Refused r) = number_of r
+-- nothing is refused
+abbrev pub passed : Result (Unit {0}) Refusal
+passed = Ok tt
+
+-- something is, for a reason
+abbrev pub refused : Refusal → Result (Unit {0}) Refusal
+refused r = Err r
+
+-- the number that is told: 0 where nothing is refused
+abbrev pub outcome_no : Result (Unit {0}) Refusal → ℕ
+outcome_no (Ok _) = 0
+outcome_no (Err r) = number_of r
 
 -- ---- "When an answer is an enum, a definition provides this paper's number and values for each of the enum's cases. The promises use that definition."
 

@@ -1,8 +1,6 @@
 -- Orders of refusals: a list of grounds, of which the first that holds is told.
-use Rattle.std.specs.Prelude.{ℕ, Bool, true, cond, List, [], ◌∷◌}
+use Rattle.std.specs.Prelude.{ℕ, Bool, true, cond, List, [], ◌∷◌, Err, Ok, Result}
 use Rattle.base_refusals.specs.declared.Refusal.{Refusal}
-use Rattle.base_refusals.specs.declared.Outcome.{Outcome}
-use Rattle.base_refusals.specs.declared.Outcome.TheVariants.{Passed, Refused}
 use Rattle.base_refusals.specs.Numbers.{number_of, Paper, refused_paper, passed_paper}
 
 -- "Given exactly when": a refusal, with what is so where it is given, or with what isn't so there
@@ -27,6 +25,6 @@ unfolding in_order
 on_paper gs vs = in_order refused_paper gs (passed_paper vs)
 
 -- what is refused already, as an order
-abbrev pub met : Outcome → List Ground
-met Passed = []
-met (Refused r) = Ground.given r true ∷ []
+abbrev pub met : Result (Unit {0}) Refusal → List Ground
+met (Ok _) = []
+met (Err r) = Ground.given r true ∷ []

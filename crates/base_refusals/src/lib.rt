@@ -7,7 +7,8 @@ ghost use Rattle.base_refusals.specs.Numbers.{number_of, outcome_no};
 // The longest text that is read, joined or written.
 pub const MAX_TEXT: usize = 65535;
 
-#[derive(Clone, Copy)]
+// Why an entry refuses, in the order of the numbers.
+#[derive(Clone, Copy, PartialEq, Eq)]
 pub enum Refusal {
     TextTooLong,
     NotUtf8,
@@ -29,13 +30,6 @@ pub enum Refusal {
     IndexTooLong,
     BadSetting,
     SharedValve,
-}
-
-// Whether something is refused, and by what.
-#[derive(Clone, Copy)]
-pub enum Outcome {
-    Passed,
-    Refused(Refusal),
 }
 
 // The number that a person is told.
@@ -67,11 +61,11 @@ pub fn number(r: Refusal) -> u8
 }
 
 // The same of an outcome, 0 where nothing is refused.
-pub fn outcome_number(o: Outcome) -> u8
+pub fn outcome_number(o: Result<(), Refusal>) -> u8
     ensures { result ≡ outcome_no o }
 {
     match o {
-        Outcome::Passed => 0,
-        Outcome::Refused(r) => number(r),
+        Ok(()) => 0,
+        Err(r) => number(r),
     }
 }

@@ -1,5 +1,6 @@
 -- `read_blocks` reads what the rules' `Blocks` derive, and nothing else; so there is at most one reading. And how the reader goes on at a place of a text.
 -- Assumes nothing.
+use Rattle.std.specs.Prelude.{None, Option, Some}
 use mathlib.Core.Path.{◌≡◌, refl, ap, sym, ◌∙◌}
 use mathlib.Core.Bool.{Bool, true, false, cond}
 use mathlib.Core.List.{List, [], ◌∷◌, ◌++◌, append_assoc, append-nil}
@@ -18,8 +19,6 @@ use Rattle.block_grammar.specs.Grammar.{Placed, Payload, Reading}
 use Rattle.block_grammar.specs.Computed.{read_from, one_or_more, read_payload}
 use Rattle.block_grammar.specs.Close.{Closes, fresh}
 use Rattle.block_grammar.specs.ComputedClose.{close_from, find_close}
-use Rattle.block_grammar.specs.declared.Place.{Place}
-use Rattle.block_grammar.specs.declared.Place.TheVariants.{Nothing, At}
 use Rattle.block_grammar.proofs.Close.{close_found, found}
 use Rattle.block_grammar.proofs.Payload as payload
 use Rattle.block_chain.specs.Chain.{OneBlock, Blocks}
@@ -33,7 +32,7 @@ skipped m (b ∷ s) zero at = rw add-zero
 skipped m (b ∷ s) (suc k) at = rw (add-suc, ← suc-add at k) (skipped m s k (suc at))
 
 -- ---- a brace and its close
-pub block_at : (m : Mode) (s : List ℕ) (at : ℕ) {e : ℕ} → close_from s fresh (suc at) ≡ At e → blocks_from m (123 ∷ s) 0 at ≡ joined (read_payload m (suc at) (take (e - suc at) s)) (blocks_from m (drop (suc (e - suc at)) s) 0 (suc e))
+pub block_at : (m : Mode) (s : List ℕ) (at : ℕ) {e : ℕ} → close_from s fresh (suc at) ≡ Some e → blocks_from m (123 ∷ s) 0 at ≡ joined (read_payload m (suc at) (take (e - suc at) s)) (blocks_from m (drop (suc (e - suc at)) s) 0 (suc e))
 unfolding blocks_from
 block_at m s at {e} h =
     let z : suc at + suc (e - suc at) ≡ suc e = omega (arith, (close_found s (suc at) e h).place) in
@@ -78,10 +77,10 @@ sound_from m [] k at is e = let z : [] ≡ is = cc in rw (← z, drop-nil k) Row
 sound_from m (b ∷ s) (suc k) at is e = rw (add-suc, ← suc-add at k) (sound_from m s k (suc at) is e)
 sound_from m (b ∷ s) zero at is e = rw add-zero (go (eqb b 123) (close_from s fresh (suc at)) refl refl e (λ k js. sound_from m s k (suc at) js))
   where
-    go : (x : Bool) (p : Place) → eqb b 123 ≡ x → close_from s fresh (suc at) ≡ p → cond x (block_to m s (suc at) p (λ n. blocks_from m s n (suc at))) Reading.refused ≡ Reading.items is → ((k : ℕ) (js : List Placed) → blocks_from m s k (suc at) ≡ Reading.items js → Row m (suc at + k) (drop k s) js) → Row m at (b ∷ s) is
+    go : (x : Bool) (p : Option ℕ) → eqb b 123 ≡ x → close_from s fresh (suc at) ≡ p → cond x (block_to m s (suc at) p (λ n. blocks_from m s n (suc at))) Reading.refused ≡ Reading.items is → ((k : ℕ) (js : List Placed) → blocks_from m s k (suc at) ≡ Reading.items js → Row m (suc at + k) (drop k s) js) → Row m at (b ∷ s) is
     go false p h c e ih = contra true refl (cc)
-    go true Nothing h c e ih = contra true refl (cc)
-    go true (At a) h c e ih =
+    go true None h c e ih = contra true refl (cc)
+    go true (Some a) h c e ih =
         let w = joined_of (read_payload m (suc at) (take (a - suc at) s)) (blocks_from m s (suc (a - suc at)) (suc at)) is e in
         rw (eqb-true b 123 h, w.4) (block_row m s at a w.0 w.1 (close_found s (suc at) a c) w.2 (ih (suc (a - suc at)) w.1 w.3))
 
@@ -112,20 +111,20 @@ module _ (m : Mode) (w : List ℕ) (i : ℕ) (h : i < length w) where
   unfolding blocks_from
   no_brace n = rw (drop-cons w i 0 h, ne_eqb (get_or w i 0) 123 n)
 
-  module _ (b : get_or w i 0 ≡ 123) {p : Place} (f : p ≡ find_close w (i + 1)) where
-    pub no_close : p ≡ Nothing → blocks_from m (drop i w) 0 i ≡ Reading.refused
+  module _ (b : get_or w i 0 ≡ 123) {p : Option ℕ} (f : p ≡ find_close w (i + 1)) where
+    pub no_close : p ≡ None → blocks_from m (drop i w) 0 i ≡ Reading.refused
     unfolding blocks_from find_close
     no_close q =
-        let z : close_from (drop (suc i) w) fresh (suc i) ≡ Nothing = rw add-one at (sym f ∙ q) in
+        let z : close_from (drop (suc i) w) fresh (suc i) ≡ None = rw add-one at (sym f ∙ q) in
         rw (drop-cons w i 0 h, b, z)
 
-    pub within : {e : ℕ} → p ≡ At e → (i < e) × (e < length w)
+    pub within : {e : ℕ} → p ≡ Some e → (i < e) × (e < length w)
     within {e} q = let z = found w (i + 1) e (sym f ∙ q) in omega (arith, z.from, z.to)
 
-    pub block : {e : ℕ} → p ≡ At e → blocks_from m (drop i w) 0 i ≡ joined (read_payload m (i + 1) (slice (i + 1) e w)) (blocks_from m (drop (e + 1) w) 0 (e + 1))
+    pub block : {e : ℕ} → p ≡ Some e → blocks_from m (drop i w) 0 i ≡ joined (read_payload m (i + 1) (slice (i + 1) e w)) (blocks_from m (drop (e + 1) w) 0 (e + 1))
     unfolding find_close
     block {e} q =
-        let z : close_from (drop (suc i) w) fresh (suc i) ≡ At e = rw add-one at (sym f ∙ q) in
+        let z : close_from (drop (suc i) w) fresh (suc i) ≡ Some e = rw add-one at (sym f ∙ q) in
         let y : suc i + suc (e - suc i) ≡ suc e = omega (arith, within q) in
         rw (drop-cons w i 0 h, b, add-one i, add-one e, slice_part (suc i) e w) (rw (drop-drop (suc (e - suc i)) (suc i) w, y) at (block_at m (drop (suc i) w) i z))
 

@@ -1,5 +1,6 @@
 -- Whether blocks are good, place by place, as the code asks it.
 -- Assumes nothing.
+use Rattle.std.specs.Prelude.{None, Option, Some}
 use mathlib.Core.Path.{◌≡◌, refl, sym, ◌∙◌, ap}
 use mathlib.Core.Bool.{Bool, true, false, ◌&&◌}
 use mathlib.Core.List.{List, [], ◌∷◌}
@@ -14,8 +15,6 @@ use Rattle.base_bytes.specs.Bytes.{is_blank}
 use Rattle.block_grammar.specs.Grammar.{Placed, Reading}
 use Rattle.block_grammar.specs.Computed.{First, text, tail_of, token_of, also, turn, read_from, one_or_more, read_payload}
 use Rattle.block_grammar.specs.ComputedClose.{find_close}
-use Rattle.block_grammar.specs.declared.Place.{Place}
-use Rattle.block_grammar.specs.declared.Place.TheVariants.{Nothing, At}
 use Rattle.block_tokens.specs.Shown.{accepted}
 use Rattle.block_chain.specs.Chain.{good_line}
 use Rattle.block_chain.specs.Computed.{joined, blocks_from, read_blocks}
@@ -66,14 +65,14 @@ both (Reading.items is) Reading.refused = refl
 both (Reading.items is) (Reading.items js) = refl
 
 module _ (m : Mode) (s : List ℕ) (i : ℕ) (h : i < length s) where
-  pub no_brace : (get_or s i 0 ≡ 123 → ⊥) → WentPast m s i Nothing
+  pub no_brace : (get_or s i 0 ≡ 123 → ⊥) → WentPast m s i None
   no_brace n = record { told = rw (blocks.no_brace m s i h n) }
 
-  module _ (b : get_or s i 0 ≡ 123) {p : Place} (f : p ≡ find_close s (i + 1)) where
-    pub no_close : p ≡ Nothing → WentPast m s i Nothing
+  module _ (b : get_or s i 0 ≡ 123) {p : Option ℕ} (f : p ≡ find_close s (i + 1)) where
+    pub no_close : p ≡ None → WentPast m s i None
     no_close q = record { told = rw (blocks.no_close m s i h b f q) }
 
-    module _ {e : ℕ} (q : p ≡ At e) where
+    module _ {e : ℕ} (q : p ≡ Some e) where
       pub within : (i < e) × (e < length s)
       within = blocks.within m s i h b f q
 
@@ -84,10 +83,10 @@ module _ (m : Mode) (s : List ℕ) (i : ℕ) (h : i < length s) where
             let z : accepted (read_payload m (i + 1) (slice (i + 1) e s)) ≡ x = rw (slice_part (i + 1) e s) (anywhere m (take (e - (i + 1)) (drop (i + 1) s)) (i + 1) 0 ∙ sym g) in
             rw (blocks.block m s i h b f q, both (read_payload m (i + 1) (slice (i + 1) e s)) (blocks_from m (drop (e + 1) s) 0 (e + 1)), z)
 
-        pub bad_payload : x ≡ false → WentPast m s i Nothing
+        pub bad_payload : x ≡ false → WentPast m s i None
         bad_payload y = record { told = rw y at good }
 
-        pub good_payload : x ≡ true → WentPast m s i (At e)
+        pub good_payload : x ≡ true → WentPast m s i (Some e)
         good_payload y = record { told = (within.0, within.1, rw y at good) }
 
 -- ---- the loop stands before the block at i, and the answer is r
@@ -103,14 +102,14 @@ module _ {m : Mode} {s : List ℕ} {r : Bool} {i : ℕ} (inv : Walks m s r i) wh
   unfolding blocks_from
   end h = rw (drop_of_length-le s h) at inv.rest
 
-  module _ {p : Place} (y : WentPast m s i p) where
-    pub stop : p ≡ Nothing → false ≡ r
+  module _ {p : Option ℕ} (y : WentPast m s i p) where
+    pub stop : p ≡ None → false ≡ r
     stop q = sym (rw q at y.told) ∙ inv.rest
 
-    pub ahead : {e : ℕ} → p ≡ At e → (i < e) × (e < length s)
+    pub ahead : {e : ℕ} → p ≡ Some e → (i < e) × (e < length s)
     ahead {e} q = let t : (i < e) × (e < length s) × (blocks_ok m s i ≡ blocks_ok m s (e + 1)) = rw q at y.told in (t.0, t.1)
 
-    pub go : {e : ℕ} → p ≡ At e → Walks m s r (e + 1)
+    pub go : {e : ℕ} → p ≡ Some e → Walks m s r (e + 1)
     go {e} q =
         let t : (i < e) × (e < length s) × (blocks_ok m s i ≡ blocks_ok m s (e + 1)) = rw q at y.told in
         record { within = omega (arith, t.1); rest = sym t.2 ∙ inv.rest }

@@ -1,13 +1,11 @@
 -- A line of blocks, read by computing. The rules are `Blocks` of Chain; the two are proved to agree (proved_grammar/specs/Blocks).
-use Rattle.std.specs.Prelude.{cond, List, [], ◌∷◌, ◌++◌, ℕ, zero, suc, ◌-◌, eqb, take}
+use Rattle.std.specs.Prelude.{cond, List, [], ◌∷◌, ◌++◌, ℕ, zero, suc, ◌-◌, eqb, take, None, Option, Some}
 use Rattle.base_bytes.specs.declared.Mode.{Mode}
 use Rattle.base_bytes.specs.Bytes.{open_brace}
 use Rattle.block_grammar.specs.Grammar.{Reading}
 use Rattle.block_grammar.specs.Computed.{one_or_more, read_payload}
 use Rattle.block_grammar.specs.Close.{fresh}
 use Rattle.block_grammar.specs.ComputedClose.{close_from}
-use Rattle.block_grammar.specs.declared.Place.{Place}
-use Rattle.block_grammar.specs.declared.Place.TheVariants.{Nothing, At}
 
 -- one reading after the other: refused if either is
 abbrev pub joined : Reading → Reading → Reading
@@ -16,9 +14,9 @@ joined (Reading.items is) Reading.refused = Reading.refused
 joined (Reading.items is) (Reading.items js) = Reading.items (is ++ js)
 
 -- behind a brace, s begins at `at` and the close is known: the payload, and then the rest, once it is known how many bytes of s the block took
-abbrev pub block_to : Mode → List ℕ → ℕ → Place → (ℕ → Reading) → Reading
-block_to m s at Nothing rest = Reading.refused
-block_to m s at (At e) rest = joined (read_payload m at (take (e - at) s)) (rest (suc (e - at)))
+abbrev pub block_to : Mode → List ℕ → ℕ → Option ℕ → (ℕ → Reading) → Reading
+block_to m s at None rest = Reading.refused
+block_to m s at (Some e) rest = joined (read_payload m at (take (e - at) s)) (rest (suc (e - at)))
 
 -- the list's first byte stands at `at`, and k bytes of the list belong to a block already read
 unfoldable pub blocks_from : Mode → List ℕ → ℕ → ℕ → Reading

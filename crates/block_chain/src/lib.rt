@@ -7,7 +7,6 @@ ghost use Rattle.block_chain.specs.Chain.{good_line};
 ghost use Rattle.block_chain.specs.Inner.{blocks_ok, WentPast};
 
 use base_bytes::Mode;
-use block_grammar::Place;
 
 // The front of the text up to `to`; the whole of it where it is shorter.
 fn front(text: &[u8], to: usize) -> &[u8]
@@ -20,20 +19,20 @@ fn front(text: &[u8], to: usize) -> &[u8]
 }
 
 // Where the block closes whose brace stands at i, if it is a good one.
-fn block_close(s: &[u8], i: usize) -> Place
+fn block_close(s: &[u8], i: usize) -> Option<usize>
     requires { i < length s.now }
     ensures { WentPast Loose s.now i result }
 {
     if s[i] != b'{' {
-        return Place::Nothing;
+        return None;
     }
     match block_close::find_close(s, i + 1) {
-        Place::Nothing => Place::Nothing,
-        Place::At(e) => {
+        None => None,
+        Some(e) => {
             if text_names::is_whole(block_tokens::payload_test(&s[i + 1..e], Mode::Loose)) {
-                return Place::At(e);
+                return Some(e);
             }
-            Place::Nothing
+            None
         }
     }
 }
@@ -49,8 +48,8 @@ fn blocks_ok(s: &[u8], from: usize) -> bool
             break 'blocks true;
         }
         match block_close(s, i) {
-            Place::Nothing => break 'blocks false,
-            Place::At(e) => {
+            None => break 'blocks false,
+            Some(e) => {
                 i = e + 1;
                 continue 'blocks;
             }

@@ -7,8 +7,6 @@ ghost use Rattle.block_grammar.specs.Close.{close_paper};
 ghost use Rattle.block_grammar.specs.ComputedClose.{find_close};
 ghost use Rattle.block_close.specs.Inner.{no_lf_first, Shuts};
 
-use block_grammar::Place;
-
 // Whether the line goes on at k: a byte that is no LF stands there.
 fn goes_on(s: &[u8], k: usize) -> bool
     ensures { result ≡ no_lf_first (drop k s.now) }
@@ -20,21 +18,21 @@ fn goes_on(s: &[u8], k: usize) -> bool
 }
 
 // Where the quote q closes, from i on; an LF before that means no close.
-fn quote_close(s: &[u8], i: usize, q: u8) -> Place
+fn quote_close(s: &[u8], i: usize, q: u8) -> Option<usize>
     requires { is_quote q ≡ true }
     ensures { Shuts s.now q i result }
 {
     let mut k = i;
     'bytes: loop {
         if !goes_on(s, k) {
-            break 'bytes Place::Nothing;
+            break 'bytes None;
         }
         if s[k] == q {
-            break 'bytes Place::At(k);
+            break 'bytes Some(k);
         }
         if s[k] == b'\\' {
             if !goes_on(s, k + 1) {
-                break 'bytes Place::Nothing;
+                break 'bytes None;
             }
             k += 2;
             continue 'bytes;
@@ -45,27 +43,27 @@ fn quote_close(s: &[u8], i: usize, q: u8) -> Place
 }
 
 // The first `}` from `at` on that no quote and no backslash covers, with no LF before it.
-pub fn find_close(s: &[u8], at: usize) -> Place
+pub fn find_close(s: &[u8], at: usize) -> Option<usize>
     ensures value { result ≡ find_close s.now at }
     ensures result_value { close_paper result ≡ close_paper (find_close s.now at) }
 {
     let mut i = at;
     'bytes: loop {
         if !goes_on(s, i) {
-            break 'bytes Place::Nothing;
+            break 'bytes None;
         }
         match s[i] {
-            b'}' => break 'bytes Place::At(i),
+            b'}' => break 'bytes Some(i),
             b'\\' => {
                 if !goes_on(s, i + 1) {
-                    break 'bytes Place::Nothing;
+                    break 'bytes None;
                 }
                 i += 2;
                 continue 'bytes;
             }
             b'"' | b'\'' => match quote_close(s, i + 1, s[i]) {
-                Place::Nothing => break 'bytes Place::Nothing,
-                Place::At(e) => {
+                None => break 'bytes None,
+                Some(e) => {
                     i = e + 1;
                     continue 'bytes;
                 }

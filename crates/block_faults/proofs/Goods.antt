@@ -1,5 +1,6 @@
 -- Nothing is wrong exactly where the blocks are good.
 -- Assumes nothing.
+use Rattle.std.specs.Prelude.{None, Option, Some}
 use mathlib.Core.Path.{◌≡◌, refl, sym, ◌∙◌, ap}
 use mathlib.Core.Bool.{Bool, true, false, cond, ◌&&◌}
 use mathlib.Core.List.{List, [], ◌∷◌}
@@ -12,8 +13,6 @@ use Rattle.block_grammar.specs.Grammar.{Reading}
 use Rattle.block_grammar.specs.Close.{fresh}
 use Rattle.block_grammar.specs.Computed.{read_payload}
 use Rattle.block_grammar.specs.ComputedClose.{close_from}
-use Rattle.block_grammar.specs.declared.Place.{Place}
-use Rattle.block_grammar.specs.declared.Place.TheVariants.{Nothing, At}
 use Rattle.block_places.specs.Computed.{payload_place}
 use Rattle.block_tokens.specs.Shown.{accepted, payload_tested}
 use Rattle.block_chain.specs.Chain.{good_line}
@@ -35,15 +34,15 @@ good_from (b ∷ s) (suc k) at = good_from s k (suc at)
 good_from (b ∷ s) zero at = go (eqb b 123) (close_from s fresh (suc at)) (λ k. good_from s k (suc at))
   where
     payload : (e : ℕ) (x : Bool) → accepted (read_payload Loose 0 (take (e - suc at) s)) ≡ x → is_good (fault_from s (suc (e - suc at)) (suc at)) ≡ accepted (blocks_from Loose s (suc (e - suc at)) (suc at))
-        → is_good (block_fault s at (At e) (λ n. fault_from s n (suc at))) ≡ x && accepted (blocks_from Loose s (suc (e - suc at)) (suc at))
+        → is_good (block_fault s at (Some e) (λ n. fault_from s n (suc at))) ≡ x && accepted (blocks_from Loose s (suc (e - suc at)) (suc at))
     payload e true q ih = rw q ih
     payload e false q ih = rw q
 
-    go : (x : Bool) (p : Place) → ((k : ℕ) → is_good (fault_from s k (suc at)) ≡ accepted (blocks_from Loose s k (suc at)))
-        → is_good (cond x (block_fault s at p (λ n. fault_from s n (suc at))) (Behind at)) ≡ accepted (cond x (block_to Loose s (suc at) p (λ n. blocks_from Loose s n (suc at))) Reading.refused)
+    go : (x : Bool) (p : Option ℕ) → ((k : ℕ) → is_good (fault_from s k (suc at)) ≡ accepted (blocks_from Loose s k (suc at)))
+        → is_good (cond x (block_fault s at p (λ n. fault_from s n (suc at))) (Some (Behind at))) ≡ accepted (cond x (block_to Loose s (suc at) p (λ n. blocks_from Loose s n (suc at))) Reading.refused)
     go false p ih = refl
-    go true Nothing ih = refl
-    go true (At e) ih =
+    go true None ih = refl
+    go true (Some e) ih =
         payload e (accepted (read_payload Loose 0 (take (e - suc at) s))) refl (ih (suc (e - suc at)))
         ∙ sym (both (read_payload Loose (suc at) (take (e - suc at) s)) (blocks_from Loose s (suc (e - suc at)) (suc at)) ∙ ap (λ x. x && accepted (blocks_from Loose s (suc (e - suc at)) (suc at))) (anywhere Loose (take (e - suc at) s) (suc at) 0))
 

@@ -5,36 +5,33 @@ ghost use Rattle.std.specs.Prelude.{◌≡◌, drop};
 ghost use Rattle.block_faults.specs.Faults.{fault_from, fault_paper};
 
 use base_bytes::Mode;
-use block_grammar::Place;
-use text_names::Tested;
 
 // Nothing is wrong; or at that place stands what opens no block, a brace that isn't closed, or the byte at which a payload went wrong.
 #[derive(Clone, Copy)]
 pub enum Fault {
-    Good,
     Behind(usize),
     Open(usize),
     Wrong(usize),
 }
 
 // What is wrong first with the blocks that should stand from `from` on up to the end.
-pub fn chain_fault(s: &[u8], from: usize) -> Fault
+pub fn chain_fault(s: &[u8], from: usize) -> Option<Fault>
     ensures value { result ≡ fault_from (drop from s.now) 0 from }
     ensures result_value { fault_paper result ≡ fault_paper (fault_from (drop from s.now) 0 from) }
 {
     let mut i = from;
     'blocks: loop {
         if s.len() <= i {
-            break 'blocks Fault::Good;
+            break 'blocks None;
         }
         if s[i] != b'{' {
-            break 'blocks Fault::Behind(i);
+            break 'blocks Some(Fault::Behind(i));
         }
         match block_close::find_close(s, i + 1) {
-            Place::Nothing => break 'blocks Fault::Open(i),
-            Place::At(e) => match block_tokens::payload_test(&s[i + 1..e], Mode::Loose) {
-                Tested::Stops(n) => break 'blocks Fault::Wrong(i + 1 + n),
-                Tested::Whole => {
+            None => break 'blocks Some(Fault::Open(i)),
+            Some(e) => match block_tokens::payload_test(&s[i + 1..e], Mode::Loose) {
+                Err(n) => break 'blocks Some(Fault::Wrong(i + 1 + n)),
+                Ok(()) => {
                     i = e + 1;
                     continue 'blocks;
                 }

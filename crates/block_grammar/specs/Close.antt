@@ -1,34 +1,30 @@
 -- Where a block closes, by rules; the search that computes it is ComputedClose.
-use Rattle.std.specs.Prelude.{◌≡◌, Bool, true, false, cond, not, List, [], ◌∷◌, ◌++◌, ℕ, ◌+◌, eqb, length}
+use Rattle.std.specs.Prelude.{◌≡◌, Bool, true, false, cond, not, List, [], ◌∷◌, ◌++◌, ℕ, ◌+◌, eqb, length, None, Option, Some}
 use Rattle.base_lists.specs.Lists.{all, is_in}
 use Rattle.base_refusals.specs.Numbers.{Paper, refused_paper, passed_paper}
 use Rattle.base_refusals.specs.declared.Refusal.TheVariants.{NoClose}
 use Rattle.base_bytes.specs.Bytes.{is_quote, apostrophe, backslash, close_brace, lf, quote}
 use Rattle.block_grammar.specs.Grammar.{Inside}
-use Rattle.block_grammar.specs.declared.Quote.{Quote}
-use Rattle.block_grammar.specs.declared.Quote.TheVariants.{Out, In}
 use Rattle.block_grammar.specs.declared.Scan.{Scan}
-use Rattle.block_grammar.specs.declared.Place.{Place}
-use Rattle.block_grammar.specs.declared.Place.TheVariants.{Nothing, At}
 
 -- ---- over types that code has too
 
 -- in a quote or outside, where no backslash covers the next byte
-abbrev pub uncovered : Quote → Scan
+abbrev pub uncovered : Option ℕ → Scan
 uncovered q = record { quote = q; escaped = false }
 
 -- "text in one kind of quote": a quote opens outside, and the same one closes
-unfoldable pub turned : Quote → ℕ → Quote
-turned Out b = cond (is_quote b) (In b) Out
-turned (In k) b = cond (eqb b k) Out (In k)
+unfoldable pub turned : Option ℕ → ℕ → Option ℕ
+turned None b = cond (is_quote b) (Some b) None
+turned (Some k) b = cond (eqb b k) None (Some k)
 
 abbrev pub fresh : Scan
-fresh = uncovered Out
+fresh = uncovered None
 
 -- on paper: the place, or 4: "at a brace: no close"
-abbrev pub close_paper : Place → Paper
-close_paper Nothing = refused_paper NoClose
-close_paper (At e) = passed_paper (e ∷ [])
+abbrev pub close_paper : Option ℕ → Paper
+close_paper None = refused_paper NoClose
+close_paper (Some e) = passed_paper (e ∷ [])
 
 -- ---- by rules
 

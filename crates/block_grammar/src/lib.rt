@@ -3,24 +3,11 @@
 // The quote that the search stands in, by its byte.
 #![tactic(auto)]
 
-#[derive(Clone, Copy)]
-pub enum Quote {
-    Out,
-    In(u8),
-}
-
 // Where the search stands: in which quote, and whether a backslash covers the next byte.
 #[derive(Clone, Copy)]
 pub struct Scan {
-    pub quote: Quote,
+    pub quote: Option<u8>,
     pub escaped: bool,
-}
-
-// A place of a text, or none.
-#[derive(Clone, Copy)]
-pub enum Place {
-    Nothing,
-    At(usize),
 }
 
 // Where the quick test stands: between tokens, behind `#` or `.`, in the name behind that, in a key or bare name, behind `=`.

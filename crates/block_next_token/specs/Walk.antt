@@ -1,28 +1,22 @@
 -- "a walker that holds the text and its place gives the next token": one step, and what stands ahead.
-use Rattle.std.specs.Prelude.{Bool, true, false, cond, List, [], ◌∷◌, ℕ, ◌+◌, leb, length, drop}
+use Rattle.std.specs.Prelude.{Bool, true, false, cond, List, [], ◌∷◌, ℕ, ◌+◌, leb, length, drop, None, Option, Some}
 use Rattle.std.specs.Borrow.{Bor}
 use Rattle.base_lists.specs.Lists.{run}
 use Rattle.base_refusals.specs.Numbers.{Paper, passed_paper}
 use Rattle.base_bytes.specs.declared.Mode.{Mode}
 use Rattle.base_bytes.specs.Bytes.{is_blank}
 use Rattle.block_grammar.specs.Grammar.{Placed, Reading}
-use Rattle.block_grammar.specs.declared.Place.{Place}
-use Rattle.block_grammar.specs.declared.Place.TheVariants.{Nothing, At}
 use Rattle.block_tokens.specs.Shown.{shown_item, token_at, token_end, token_paper}
 use Rattle.block_tokens.specs.declared.Token.{Token}
-use Rattle.block_next_token.specs.declared.Ahead.{Ahead}
-use Rattle.block_next_token.specs.declared.Ahead.TheVariants.{End, Found}
 use Rattle.block_next_token.specs.declared.Step.{Step}
 use Rattle.block_next_token.specs.declared.Walker.{Walker}
-use Rattle.block_next_token.specs.declared.Count.{Count}
-use Rattle.block_next_token.specs.declared.Count.TheVariants as count
 
 -- ---- one step
 
 -- the place that was found, or else a
-abbrev pub gone_to : ℕ → Place → ℕ
-gone_to a Nothing = a
-gone_to a (At e) = e
+abbrev pub gone_to : ℕ → Option ℕ → ℕ
+gone_to a None = a
+gone_to a (Some e) = e
 
 -- the bytes are no token
 abbrev pub is_bad : Token → Bool
@@ -35,11 +29,11 @@ is_bad (Token.Quoted f k e) = false
 is_bad (Token.Bare f e) = false
 
 abbrev pub step_over : ℕ → Token → Step
-step_over a t = record { ahead = Found t; at = gone_to a (token_end t) }
+step_over a t = record { ahead = Some t; at = gone_to a (token_end t) }
 
 -- a is behind the blanks: the end stands there, or a token
 abbrev pub step_from : Mode → List ℕ → ℕ → Step
-step_from m s a = cond (leb (length s) a) (record { ahead = End; at = a }) (step_over a (token_at m s a))
+step_from m s a = cond (leb (length s) a) (record { ahead = None; at = a }) (step_over a (token_at m s a))
 
 unfoldable pub step_at : Mode → List ℕ → ℕ → Step
 step_at m s at = step_from m s (at + run (is_blank m) (drop at s))
@@ -57,7 +51,7 @@ abbrev pub walker_step : Walker → Step
 walker_step w = step_at w.mode w.text.now w.at
 
 -- what stands ahead of it
-abbrev pub ahead_of : Walker → Ahead
+abbrev pub ahead_of : Walker → Option Token
 ahead_of w = (walker_step w).ahead
 
 -- .. and it goes behind that
@@ -69,19 +63,19 @@ abbrev pub shown_placed : Placed → Token
 shown_placed p = shown_item p.at p.item
 
 -- how many items were read
-abbrev pub counted : Reading → Count
-counted Reading.refused = count.Bad
-counted (Reading.items is) = count.Tokens (length is)
+abbrev pub counted : Reading → Option ℕ
+counted Reading.refused = None
+counted (Reading.items is) = Some (length is)
 
 -- ---- on paper: what stands ahead, none at the end, before it the place behind it; or how many there are
 
-abbrev pub ahead_paper : Ahead → Paper
-ahead_paper End = passed_paper []
-ahead_paper (Found t) = token_paper t
+abbrev pub ahead_paper : Option Token → Paper
+ahead_paper None = passed_paper []
+ahead_paper (Some t) = token_paper t
 
 abbrev pub step_paper : Step → Paper
 step_paper s = passed_paper (s.at ∷ (ahead_paper s.ahead).values)
 
-abbrev pub count_paper : Count → Paper
-count_paper count.Bad = passed_paper []
-count_paper (count.Tokens n) = passed_paper (n ∷ [])
+abbrev pub count_paper : Option ℕ → Paper
+count_paper None = passed_paper []
+count_paper (Some n) = passed_paper (n ∷ [])

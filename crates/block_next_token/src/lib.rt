@@ -16,25 +16,11 @@ pub struct Walker<'a> {
     pub mode: Mode,
 }
 
-// What stands ahead of a walker: the text's end, or a token, which is `Bad` where the bytes are none, with the place at which they stop being one.
-#[derive(Clone, Copy)]
-pub enum Ahead {
-    End,
-    Found(Token),
-}
-
 // What stood ahead, and the place behind it. A walker stays at the end and before bytes that are no token.
 #[derive(Clone, Copy)]
 pub struct Step {
-    pub ahead: Ahead,
+    pub ahead: Option<Token>,
     pub at: usize,
-}
-
-// How many tokens there are, where all bytes belong to one or part two.
-#[derive(Clone, Copy)]
-pub enum Count {
-    Bad,
-    Tokens(usize),
 }
 
 // The place behind the token at a.
@@ -58,15 +44,12 @@ fn step_at(text: &[u8], at: usize, mode: Mode) -> Step
 {
     let a = block_tokens::blank_end(text, at, mode);
     if text.len() <= a {
-        return Step {
-            ahead: Ahead::End,
-            at: a,
-        };
+        return Step { ahead: None, at: a };
     }
     let token = block_tokens::token_at(text, a, mode);
     let e = place_behind(token, a);
     Step {
-        ahead: Ahead::Found(token),
+        ahead: Some(token),
         at: e,
     }
 }
@@ -79,7 +62,7 @@ pub fn new<'a>(text: &'a [u8], mode: Mode) -> Walker<'a>
 }
 
 // What stands ahead.
-pub fn peek<'a>(w: Walker<'a>) -> Ahead
+pub fn peek<'a>(w: Walker<'a>) -> Option<Token>
     ensures { (result ≡ ahead_of w.entry) × (ahead_paper result ≡ ahead_paper (ahead_of w.entry)) }
 {
     let step = step_at(w.text, w.at, w.mode);
@@ -99,7 +82,7 @@ pub fn after<'a>(w: Walker<'a>) -> Walker<'a>
 }
 
 // What stands ahead; the walker goes behind it.
-pub fn next<'s, 'a>(w: &'s mut Walker<'a>) -> Ahead
+pub fn next<'s, 'a>(w: &'s mut Walker<'a>) -> Option<Token>
     ensures { (result ≡ ahead_of w.old) × (w.new ≡ gone w.old) × (ahead_paper result ≡ ahead_paper (ahead_of w.old)) }
 {
     let step = step_at(w.text, w.at, w.mode);
@@ -117,14 +100,14 @@ pub fn step_from(text: &[u8], at: usize, mode: Mode) -> Step
 }
 
 // What stands behind the first token.
-pub fn second(text: &[u8], mode: Mode) -> Ahead
+pub fn second(text: &[u8], mode: Mode) -> Option<Token>
     ensures { (result ≡ ahead_of (gone (at_front text.entry mode))) × (ahead_paper result ≡ ahead_paper (ahead_of (gone (at_front text.entry mode)))) }
 {
     peek(after(new(text, mode)))
 }
 
 // How many tokens a walker gives up to the text's end.
-pub fn token_count(text: &[u8], mode: Mode) -> Count
+pub fn token_count(text: &[u8], mode: Mode) -> Option<usize>
     ensures value { result ≡ counted (read_from mode text.now 0 0) }
     ensures result_value { count_paper result ≡ count_paper (counted (read_from mode text.now 0 0)) }
 {
@@ -134,9 +117,9 @@ pub fn token_count(text: &[u8], mode: Mode) -> Count
         let step = step_from(text, i, mode);
         let ahead = step.ahead;
         match ahead {
-            Ahead::End => break 'tokens Count::Tokens(n),
-            Ahead::Found(token) => match token {
-                Token::Bad(_) => break 'tokens Count::Bad,
+            None => break 'tokens Some(n),
+            Some(token) => match token {
+                Token::Bad(_) => break 'tokens None,
                 _ => {
                     n += 1;
                     i = step.at;

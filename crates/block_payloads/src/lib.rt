@@ -37,13 +37,11 @@ fn behind(s: &[u8], i: usize, best: usize) -> usize
     requires { i + 1 < length s.now }
     ensures { result ≡ cond (eqb (get_or s.now i 0) close_brace && eqb (get_or s.now (i + 1) 0) open_brace) (i + 2) best }
 {
-    if s[i] != b'}' {
-        return best;
+    if s[i] == b'}' && s[i + 1] == b'{' {
+        i + 2
+    } else {
+        best
     }
-    if s[i + 1] != b'{' {
-        return best;
-    }
-    i + 2
 }
 
 // Where what stands behind the last `}{` begins; 0 where there is none.
@@ -51,10 +49,8 @@ fn behind_last(s: &[u8]) -> usize
     ensures { (result ≤ length s.now) × (drop result s.now ≡ behind_last s.now) }
 {
     let mut best = 0;
-    let mut i = 1;
-    while i < s.len() {
+    for i in 1..s.len() {
         best = behind(s, i - 1, best);
-        i += 1;
     }
     best
 }

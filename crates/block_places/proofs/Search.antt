@@ -1,5 +1,6 @@
 -- While the walk goes on, the search for the close is in the same quote or outside, in either mode.
 -- Assumes nothing.
+use Rattle.std.specs.Prelude.{None, Some}
 use mathlib.Core.Path.{◌≡◌, refl, ◌∙◌, ap}
 use mathlib.Core.Bool.{Bool, true, false, cond, not, ◌&&◌, ◌||◌}
 use mathlib.Core.List.{List, [], ◌∷◌}
@@ -16,10 +17,7 @@ use Rattle.base_bytes.specs.declared.Mode.TheVariants.{Strict, Loose}
 use Rattle.base_bytes.specs.Bytes.{is_blank, within, is_letter, is_digit, is_alnum, is_name_start, is_name_part, is_key_start, is_quote, is_plain}
 use Rattle.block_grammar.specs.Close.{uncovered, turned, fresh}
 use Rattle.block_grammar.specs.ComputedClose.{Scanned, going, scan_step, go_on, close_from}
-use Rattle.block_grammar.specs.declared.Quote.TheVariants.{Out, In}
 use Rattle.block_grammar.specs.declared.Scan.{Scan}
-use Rattle.block_grammar.specs.declared.Place.{Place}
-use Rattle.block_grammar.specs.declared.Place.TheVariants.{Nothing, At}
 use Rattle.block_places.specs.Computed.{Spot, Turn, go_if, opening_turn, quoted_turn, solid_turn, blank_turn, turn_of, onward, walk_takes, walk_passes}
 use Rattle.block_places.specs.Inner.{scan_of, is_out}
 use Rattle.block_places.proofs.Sound.{goes_if}
@@ -115,14 +113,14 @@ calm_step : (b : ℕ) → is_in specials b ≡ false → eqb b 10 ≡ false → 
 unfolding scan_step turned is_quote is_in
 calm_step b h n = rw n (go (eqb b 34) (eqb b 39) (eqb b 92) (eqb b 125) h)
   where
-    go : (w x y z : Bool) → (w || (x || (y || (z || false)))) ≡ false → cond y (going Out true) (cond z Scanned.closed (going (cond (w || (x || false)) (In b) Out) false)) ≡ Scanned.on fresh
+    go : (w x y z : Bool) → (w || (x || (y || (z || false)))) ≡ false → cond y (going None true) (cond z Scanned.closed (going (cond (w || (x || false)) (Some b) None) false)) ≡ Scanned.on fresh
     go true x y z h = contra true refl h
     go false true y z h = contra true refl h
     go false false true z h = contra true refl h
     go false false false true h = contra true refl h
     go false false false false h = refl
 
-open_step : (b : ℕ) → is_quote b ≡ true → scan_step fresh b ≡ Scanned.on (uncovered (In b))
+open_step : (b : ℕ) → is_quote b ≡ true → scan_step fresh b ≡ Scanned.on (uncovered (Some b))
 unfolding scan_step turned is_quote all
 open_step b h = rw (among_not (λ x. eqb x 10) (34 ∷ 39 ∷ []) b refl h, among_not (λ x. eqb x 92) (34 ∷ 39 ∷ []) b refl h, among_not (λ x. eqb x 125) (34 ∷ 39 ∷ []) b refl h, h)
 
@@ -139,7 +137,7 @@ fresh_sane Spot.name e = Sane.out refl
 fresh_sane (Spot.word ok) e = Sane.out refl
 fresh_sane Spot.due e = Sane.out refl
 fresh_sane Spot.plain e = Sane.out refl
-fresh_sane (Spot.quoted q x) e = let z : In q ≡ Out = ap (λ s. s.quote) e in contra true refl (cc)
+fresh_sane (Spot.quoted q x) e = let z : Some q ≡ None = ap (λ s. s.quote) e in contra true refl (cc)
 fresh_sane Spot.shut e = Sane.out refl
 
 pub out_scan : (st : Spot) → is_out st ≡ true → scan_of st ≡ fresh

@@ -1,7 +1,6 @@
 -- Of proofs alone: the walk beside the search for the close.
-use Rattle.std.specs.Prelude.{Bool, true, false}
+use Rattle.std.specs.Prelude.{Bool, true, false, Some}
 use Rattle.block_grammar.specs.Close.{fresh}
-use Rattle.block_grammar.specs.declared.Quote.TheVariants.{In}
 use Rattle.block_grammar.specs.declared.Scan.{Scan}
 use Rattle.block_places.specs.Computed.{Spot}
 
@@ -14,7 +13,7 @@ scan_of Spot.name = fresh
 scan_of (Spot.word ok) = fresh
 scan_of Spot.due = fresh
 scan_of Spot.plain = fresh
-scan_of (Spot.quoted q e) = record { quote = In q; escaped = e }
+scan_of (Spot.quoted q e) = record { quote = Some q; escaped = e }
 scan_of Spot.shut = fresh
 
 abbrev pub is_out : Spot → Bool

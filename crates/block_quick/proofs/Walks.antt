@@ -3,11 +3,11 @@
 use mathlib.Core.Path.{◌≡◌, refl, ◌∙◌}
 use mathlib.Core.Bool.{Bool, true, false, cond}
 use mathlib.Core.List.{List, [], ◌∷◌}
-use Prim.Native.Nat.{ℕ, suc, ◌+◌, ◌<◌, ◌≤◌, zero-le}
+use Prim.Native.Nat.{ℕ, suc, ◌+◌, ◌-◌, ◌<◌, ◌≤◌, zero-le}
 use native.Mathlib.Omega.{arith}
 use native.Mathlib.Numerals.{add-one}
-use lib.ListN.{length, get_or, drop, drop_of_length-le}
-use lib.Seq.{drop-cons}
+use lib.ListN.{length, get_or, take, drop, length-drop, drop_of_length-le}
+use lib.Seq.{drop-cons, take_all}
 use types.Run.{OneOf}
 use borrow.Author.Tests.{lt-leb}
 use Rattle.base_lists.specs.Lists.{is_in}
@@ -39,9 +39,11 @@ pub past_end : (s : List ℕ) (brace : ℕ) → length s ≤ brace → true ≡ 
 unfolding quick.quick_refuses quick.quick_from
 past_end s brace h = rw (drop_of_length-le s {i = suc brace} (omega arith))
 
-pub start : (s : List ℕ) (brace : ℕ) → Walks s (quick.quick_refuses s brace) (brace + 1) Edge
+pub start : (s : List ℕ) (brace : ℕ) → Walks (take (length s - (brace + 1)) (drop (brace + 1) s)) (quick.quick_refuses s brace) 0 Edge
 unfolding quick.quick_refuses
-start s brace = record { rest = rw add-one }
+start s brace =
+    let h : length (drop (brace + 1) s) ≤ length s - (brace + 1) = omega (arith, length-drop (brace + 1) s) in
+    record { rest = rw (take_all (length s - (brace + 1)) (drop (brace + 1) s) h, add-one) }
 
 module _ {s : List ℕ} {r : Bool} {i : ℕ} {w : Walk} (inv : Walks s r i w) where
   pub end : length s ≤ i → true ≡ r

@@ -94,14 +94,12 @@ pub fn attr_payload_provably_invalid(s: &[u8], brace: usize) -> bool
     }
     let table = base_letters::CLASS;
     let mut w = Walk::Edge;
-    let mut i = brace + 1;
-    while i < s.len() {
-        match turn_by(&table, w, s[i]) {
+    for b in &s[brace + 1..] {
+        match turn_by(&table, w, *b) {
             Turn::Refuse => return true,
             Turn::Leave => return false,
             Turn::On(v) => w = v,
         }
-        i += 1;
     }
     true
 }

@@ -1,5 +1,6 @@
 -- The loop that looks for the closing quote, and the text in quotes.
 -- Assumes nothing.
+use Rattle.std.specs.Prelude.{None, Option, Some}
 use mathlib.Core.Path.{◌≡◌, refl, ap}
 use mathlib.Core.Bool.{Bool, true, false}
 use mathlib.Core.List.{List, [], ◌∷◌}
@@ -13,13 +14,11 @@ use lib.Seq.{drop-cons, drop-drop}
 use borrow.Author.Tests.{eq-eqb, ne_eqb}
 use Rattle.base_lists.proofs.More.{contra}
 use Rattle.block_grammar.specs.Computed.{Shut, later, shut_step, shut_of}
-use Rattle.block_grammar.specs.declared.Place.{Place}
-use Rattle.block_grammar.specs.declared.Place.TheVariants.{Nothing, At}
 use Rattle.block_tokens.specs.Inner.{shut_at}
 
 at_later : (k : ℕ) (c : Shut) → shut_at k (later c) ≡ shut_at (suc k) c
 at_later k Shut.never = refl
-at_later k (Shut.after n) = ap (λ x. At x) (omega arith)
+at_later k (Shut.after n) = ap (λ x. Some x) (omega arith)
 
 -- a backslash covers the next byte, if there is one
 covered : (q : ℕ) (t : List ℕ) → shut_of q t true ≡ later (shut_of q (drop 1 t) false)
@@ -28,19 +27,19 @@ covered q [] = refl
 covered q (b ∷ t) = refl
 
 -- the loop stands before byte k, which no backslash covers, and the answer is r
-pub record Quotes (q : ℕ) (s : List ℕ) (r : Place) (k : ℕ) : Type 0 where
+pub record Quotes (q : ℕ) (s : List ℕ) (r : Option ℕ) (k : ℕ) : Type 0 where
   pub rest : shut_at k (shut_of q (drop k s) false) ≡ r
 
 pub start : (q : ℕ) (s : List ℕ) (i : ℕ) → Quotes q s (shut_at i (shut_of q (drop i s) false)) i
 start q s i = record { rest = refl }
 
-module _ {q : ℕ} {s : List ℕ} {r : Place} {k : ℕ} (inv : Quotes q s r k) where
-  pub end : length s ≤ k → Nothing ≡ r
+module _ {q : ℕ} {s : List ℕ} {r : Option ℕ} {k : ℕ} (inv : Quotes q s r k) where
+  pub end : length s ≤ k → None ≡ r
   unfolding shut_of
   end h = rw (drop_of_length-le s h) at inv.rest
 
   module _ (h : k < length s) where
-    pub shut : get_or s k 0 ≡ q → At k ≡ r
+    pub shut : get_or s k 0 ≡ q → Some k ≡ r
     unfolding shut_of
     shut e = rw (drop-cons s k 0 h, eq-eqb (get_or s k 0) q e, add-zero) at inv.rest
 
@@ -77,10 +76,10 @@ pub record Closed (q : ℕ) (s : List ℕ) (a e : ℕ) : Type 0 where
   pub place : e ≡ a + count
   pub within : e < length s
 
-pub closed : (q : ℕ) (s : List ℕ) (a : ℕ) {e : ℕ} → At e ≡ shut_at a (shut_of q (drop a s) false) → a ≤ length s → Closed q s a e
+pub closed : (q : ℕ) (s : List ℕ) (a : ℕ) {e : ℕ} → Some e ≡ shut_at a (shut_of q (drop a s) false) → a ≤ length s → Closed q s a e
 closed q s a {e} h l = go (shut_of q (drop a s) false) refl h
   where
-    go : (c : Shut) → shut_of q (drop a s) false ≡ c → At e ≡ shut_at a c → Closed q s a e
+    go : (c : Shut) → shut_of q (drop a s) false ≡ c → Some e ≡ shut_at a c → Closed q s a e
     go Shut.never p h = contra true refl (cc)
     go (Shut.after n) p h =
         let z : e ≡ a + n = cc in

@@ -1,5 +1,6 @@
 -- For callers of `blank_end` and `token_at`: what the ranges of a token say, and how the reader goes on behind it.
 -- Assumes nothing.
+use Rattle.std.specs.Prelude.{Ok, Some}
 use mathlib.Core.Path.{◌≡◌, refl, ap, sym, ◌∙◌}
 use mathlib.Core.Bool.{true, false}
 use mathlib.Core.List.{List, [], ◌∷◌, ◌++◌, append_assoc, append-nil}
@@ -16,7 +17,6 @@ use Rattle.base_bytes.specs.Bytes.{is_blank}
 use Rattle.block_grammar.specs.Grammar.{Item, Placed, Reading}
 use Rattle.block_grammar.specs.Grammar as rules
 use Rattle.block_grammar.specs.Computed.{First, text, token_of, also, read_from}
-use Rattle.block_grammar.specs.declared.Place.TheVariants.{At}
 use Rattle.block_grammar.proofs.Tokens.{token_sound}
 use Rattle.block_grammar.proofs.Payload.{token_front}
 use Rattle.block_grammar.proofs.Places.{part}
@@ -25,7 +25,6 @@ use Rattle.block_places.specs.Computed.{token_place}
 use Rattle.block_tokens.specs.declared.Token.{Token}
 use Rattle.block_tokens.specs.declared.Token.TheVariants.{Bad, Tag, Id, Class, Plain, Quoted, Bare}
 use Rattle.block_tokens.specs.Shown.{shown_item, shown, token_at, token_end}
-use Rattle.block_tokens.specs.declared.Behind.TheVariants.{Next}
 use Rattle.block_tokens.specs.Inner.{behind_of}
 
 -- ---- the item of a token, by the bytes of its ranges
@@ -57,20 +56,20 @@ item_spans a (Item.plain k v) = (refl, omega arith, omega arith)
 item_spans a (Item.quoted k q v) = (refl, omega arith, omega arith)
 item_spans a (Item.bare n) = (refl, omega arith)
 
-pub item_behind : (a : ℕ) (j : Item) → token_end (shown_item a j) ≡ At (a + length (text j))
+pub item_behind : (a : ℕ) (j : Item) → token_end (shown_item a j) ≡ Some (a + length (text j))
 unfolding shown_item text
-item_behind a (Item.tag n) = ap (λ x. At x) (omega arith)
-item_behind a (Item.id n) = ap (λ x. At x) (omega arith)
-item_behind a (Item.class n) = ap (λ x. At x) (omega arith)
-item_behind a (Item.plain k v) = ap (λ x. At x) (omega (arith, length-append k (61 ∷ v)))
-item_behind a (Item.quoted k q v) = ap (λ x. At x) (omega (arith, length-append k (61 ∷ (q ∷ (v ++ (q ∷ [])))), length-append v (q ∷ [])))
+item_behind a (Item.tag n) = ap (λ x. Some x) (omega arith)
+item_behind a (Item.id n) = ap (λ x. Some x) (omega arith)
+item_behind a (Item.class n) = ap (λ x. Some x) (omega arith)
+item_behind a (Item.plain k v) = ap (λ x. Some x) (omega (arith, length-append k (61 ∷ v)))
+item_behind a (Item.quoted k q v) = ap (λ x. Some x) (omega (arith, length-append k (61 ∷ (q ∷ (v ++ (q ∷ [])))), length-append v (q ∷ [])))
 item_behind a (Item.bare n) = refl
 
 -- so a loop goes on behind it
-pub item_next : (a : ℕ) (j : Item) → behind_of (shown_item a j) ≡ Next (a + length (text j))
+pub item_next : (a : ℕ) (j : Item) → behind_of (shown_item a j) ≡ Ok (a + length (text j))
 item_next a j = go (shown_item a j) (item_behind a j)
   where
-    go : (t : Token) {n : ℕ} → token_end t ≡ At n → behind_of t ≡ Next n
+    go : (t : Token) {n : ℕ} → token_end t ≡ Some n → behind_of t ≡ Ok n
     go (Bad k) e = contra true refl (cc)
     go (Tag f e) q = cc
     go (Id f e) q = cc
@@ -166,7 +165,7 @@ module _ (m : Mode) (s : List ℕ) {i a : ℕ} (fits : i ≤ length s) (is : a �
   pub refused : {n : ℕ} → a < length s → Bad n ≡ token_at m s a → read_from m (drop i s) 0 i ≡ Reading.refused
   refused h e = none_refused h (ranges m s a e)
 
-  pub token_stepped : {j : Item} {e : ℕ} → token_of m (drop a s) ≡ First.token j → At e ≡ token_end (shown_item a j) → Stepped m s i a j e
+  pub token_stepped : {j : Item} {e : ℕ} → token_of m (drop a s) ≡ First.token j → Some e ≡ token_end (shown_item a j) → Stepped m s i a j e
   token_stepped {j} {e} x q =
       let w : a + length (text j) ≡ e = cc (item_behind a j) in
       let f = token_sound m (drop a s) j x in
@@ -181,7 +180,7 @@ module _ (m : Mode) (s : List ℕ) {i a : ℕ} (fits : i ≤ length s) (is : a �
       }
 
   -- j and e are found from the token t, as `item_of` and `token_end` compute at it: `stepped m s fits is q refl refl`
-  pub stepped : {t : Token} {j : Item} {e : ℕ} → t ≡ token_at m s a → item_of s t ≡ First.token j → At e ≡ token_end t → Stepped m s i a j e
+  pub stepped : {t : Token} {j : Item} {e : ℕ} → t ≡ token_at m s a → item_of s t ≡ First.token j → Some e ≡ token_end t → Stepped m s i a j e
   unfolding shown
   stepped q p b = let x = ranges m s a q ∙ p in token_stepped x (rw x at (b ∙ ap token_end q))
 

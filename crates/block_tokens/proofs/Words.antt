@@ -1,5 +1,6 @@
 -- From the places that the code finds to a token by ranges.
 -- Assumes nothing.
+use Rattle.std.specs.Prelude.{None}
 use mathlib.Core.Path.{◌≡◌, refl, sym, ◌∙◌, ap}
 use mathlib.Core.Bool.{Bool, true, false, ◌&&◌, cond}
 use mathlib.Core.List.{List, [], ◌∷◌}
@@ -25,7 +26,6 @@ use Rattle.text_names.proofs.Told.{whole_language}
 use Rattle.block_grammar.specs.Grammar.{Item, is_value}
 use Rattle.block_grammar.specs.Computed.{First, Shut, ends, finish, front_token, shut_of, quoted_token, plain_token, value_token, after_name, name_token, token_of}
 use Rattle.block_grammar.proofs.Bytes.{start-part, key_part, letter_key}
-use Rattle.block_grammar.specs.declared.Place.TheVariants.{Nothing}
 use Rattle.block_places.specs.Computed.{Spot, Turn, solid_turn, turn_of, walk_passes, token_place}
 use Rattle.block_places.proofs.Ways as ways
 use Rattle.block_tokens.specs.declared.Token.{Token}
@@ -154,11 +154,11 @@ module _ (m : Mode) (i k : ℕ) (s : List ℕ) where
   key_shown v h l e = rw (part_length i k s h l, e)
 
   -- ---- in quotes
-  pub quoted_none : (q : ℕ) → k + 2 ≤ length s → Nothing ≡ shut_at (k + 2) (shut_of q (drop (k + 2) s) false) → Bad (length s) ≡ shown i (spot_place (Spot.quoted q false) (k + 2) s) (quoted_from m (part i k s) q (drop (k + 2) s))
+  pub quoted_none : (q : ℕ) → k + 2 ≤ length s → None ≡ shut_at (k + 2) (shut_of q (drop (k + 2) s) false) → Bad (length s) ≡ shown i (spot_place (Spot.quoted q false) (k + 2) s) (quoted_from m (part i k s) q (drop (k + 2) s))
   unfolding shown
   quoted_none q l e = rw (ways.quote_way q (drop (k + 2) s) false) (go (shut_of q (drop (k + 2) s) false) e)
     where
-      go : (c : Shut) → Nothing ≡ shut_at (k + 2) c → Bad (length s) ≡ shown i (k + 2 + ways.shut_place (drop (k + 2) s) c) (quoted_token m (part i k s) q (drop (k + 2) s) c)
+      go : (c : Shut) → None ≡ shut_at (k + 2) c → Bad (length s) ≡ shown i (k + 2 + ways.shut_place (drop (k + 2) s) c) (quoted_token m (part i k s) q (drop (k + 2) s) c)
       go Shut.never e = ap (λ x. Bad x) (omega (arith, length-drop (k + 2) s))
       go (Shut.after n) e = contra true refl (cc)
 

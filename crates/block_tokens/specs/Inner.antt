@@ -1,18 +1,14 @@
 -- What the code's own functions read of a token. No definition of a public promise rests on these.
-use Rattle.std.specs.Prelude.{Bool, false, List, [], ◌∷◌, ℕ, suc, ◌+◌, ◌-◌, take, drop}
+use Rattle.std.specs.Prelude.{Bool, false, List, [], ◌∷◌, ℕ, suc, ◌+◌, ◌-◌, take, drop, Err, None, Ok, Option, Result, Some}
 use Rattle.base_bytes.specs.declared.Mode.{Mode}
 use Rattle.base_bytes.specs.Bytes.{is_letter, is_key_start, equals}
 use Rattle.text_names.specs.Names.{is_name}
 use Rattle.text_names.specs.Computed.{is_language}
 use Rattle.block_grammar.specs.Grammar.{Item}
 use Rattle.block_grammar.specs.Computed.{First, Shut, shut_of, word_token, quoted_token}
-use Rattle.block_grammar.specs.declared.Place.{Place}
-use Rattle.block_grammar.specs.declared.Place.TheVariants.{Nothing, At}
 use Rattle.base_lists.specs.Lists.{begins}
 use Rattle.block_places.specs.Computed.{Spot, go_if, onward, walk_passes, nothing_parts}
 use Rattle.block_tokens.specs.declared.Token.{Token}
-use Rattle.block_tokens.specs.declared.Behind.{Behind}
-use Rattle.block_tokens.specs.declared.Behind.TheVariants.{Wrong, Next}
 
 abbrev pub tag_token : Mode → List ℕ → First
 tag_token m s = word_token m is_language (λ t. Item.tag t) s
@@ -34,9 +30,9 @@ abbrev pub starts_eq : List ℕ → Bool
 starts_eq s = begins s equals
 
 -- where a quote closes whose text begins at i
-abbrev pub shut_at : ℕ → Shut → Place
-shut_at i Shut.never = Nothing
-shut_at i (Shut.after n) = At (i + n)
+abbrev pub shut_at : ℕ → Shut → Option ℕ
+shut_at i Shut.never = None
+shut_at i (Shut.after n) = Some (i + n)
 
 -- where a token stops being one whose bytes before a lead to the spot
 abbrev pub spot_place : Spot → ℕ → List ℕ → ℕ
@@ -48,11 +44,11 @@ word_place [] = 0
 word_place (b ∷ s) = onward 0 (λ v. suc (walk_passes nothing_parts v s)) (go_if (is_key_start b) (Spot.word (is_letter b)))
 
 -- what a loop over tokens does at one
-abbrev pub behind_of : Token → Behind
-behind_of (Token.Bad n) = Wrong n
-behind_of (Token.Tag f e) = Next e
-behind_of (Token.Id f e) = Next e
-behind_of (Token.Class f e) = Next e
-behind_of (Token.Plain f k e) = Next e
-behind_of (Token.Quoted f k e) = Next e
-behind_of (Token.Bare f e) = Next e
+abbrev pub behind_of : Token → Result ℕ ℕ
+behind_of (Token.Bad n) = Err n
+behind_of (Token.Tag f e) = Ok e
+behind_of (Token.Id f e) = Ok e
+behind_of (Token.Class f e) = Ok e
+behind_of (Token.Plain f k e) = Ok e
+behind_of (Token.Quoted f k e) = Ok e
+behind_of (Token.Bare f e) = Ok e

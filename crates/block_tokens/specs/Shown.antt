@@ -1,12 +1,9 @@
 -- A token by ranges of the text, as the code hands it out.
-use Rattle.std.specs.Prelude.{Bool, true, false, List, [], ◌∷◌, ℕ, ◌+◌, length, drop}
+use Rattle.std.specs.Prelude.{Bool, true, false, List, [], ◌∷◌, ℕ, ◌+◌, length, drop, None, Option, Result, Some}
 use Rattle.base_refusals.specs.Numbers.{Paper, passed_paper}
 use Rattle.base_bytes.specs.declared.Mode.{Mode}
 use Rattle.block_grammar.specs.Grammar.{Item, Reading}
 use Rattle.block_grammar.specs.Computed.{First, token_of, read_payload}
-use Rattle.block_grammar.specs.declared.Place.{Place}
-use Rattle.block_grammar.specs.declared.Place.TheVariants.{Nothing, At}
-use Rattle.text_names.specs.declared.Tested.{Tested}
 use Rattle.text_names.specs.Tested.{tested}
 use Rattle.block_places.specs.Computed.{payload_place, token_place}
 use Rattle.block_tokens.specs.declared.Token.{Token}
@@ -30,14 +27,14 @@ abbrev pub token_at : Mode → List ℕ → ℕ → Token
 token_at m s a = shown a (a + token_place (drop a s)) (token_of m (drop a s))
 
 -- the place behind a token
-abbrev pub token_end : Token → Place
-token_end (Token.Bad n) = Nothing
-token_end (Token.Tag f e) = At e
-token_end (Token.Id f e) = At e
-token_end (Token.Class f e) = At e
-token_end (Token.Plain f k e) = At e
-token_end (Token.Quoted f k e) = At e
-token_end (Token.Bare f e) = At e
+abbrev pub token_end : Token → Option ℕ
+token_end (Token.Bad n) = None
+token_end (Token.Tag f e) = Some e
+token_end (Token.Id f e) = Some e
+token_end (Token.Class f e) = Some e
+token_end (Token.Plain f k e) = Some e
+token_end (Token.Quoted f k e) = Some e
+token_end (Token.Bare f e) = Some e
 
 -- on paper: the kind of a token and its places, or 0 and where the bytes stop being one, for which document 01 has no number
 abbrev pub token_paper : Token → Paper
@@ -55,5 +52,5 @@ accepted Reading.refused = false
 accepted (Reading.items is) = true
 
 -- "no reading of the payload exists", with the place: whole where there is one
-abbrev pub payload_tested : Mode → List ℕ → Tested
+abbrev pub payload_tested : Mode → List ℕ → Result (Unit {0}) ℕ
 payload_tested m s = tested (accepted (read_payload m 0 s)) (payload_place m s)

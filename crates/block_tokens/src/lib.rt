@@ -13,8 +13,6 @@ ghost use Rattle.block_tokens.specs.Lent.{tests_of, tag_by, name_by, word_by, ta
 ghost use Rattle.block_tokens.specs.Inner.{starts_eq, quoted_from, part, shut_at, spot_place, behind_of};
 
 use base_bytes::Mode;
-use block_grammar::Place;
-use text_names::Tested;
 
 // No token, with the place of the byte that no token can have there, or of the end; a tag, an id or a class by the range of its name;
 // a key by its range, with the place behind its value; a bare name.
@@ -33,14 +31,12 @@ pub enum Token {
 pub fn blank_end(s: &[u8], i: usize, mode: Mode) -> usize
     ensures { result ≡ i + run (is_blank mode) (drop i s.now) }
 {
-    let mut a = i;
-    while a < s.len() {
+    for a in i..s.len() {
         if !base_bytes::is_blank(mode, s[a]) {
             return a;
         }
-        a += 1;
     }
-    a
+    i.max(s.len())
 }
 
 // A byte of an unquoted value; from `(` to `{` all but `\` are, which are told first.
@@ -57,14 +53,12 @@ fn is_value_byte(b: u8) -> bool
 fn plain_end(s: &[u8], i: usize) -> usize
     ensures { result ≡ i + run is_plain (drop i s.now) }
 {
-    let mut k = i;
-    while k < s.len() {
+    for k in i..s.len() {
         if !is_value_byte(s[k]) {
             return k;
         }
-        k += 1;
     }
-    k
+    i.max(s.len())
 }
 
 // The token t, if it is good and a token may end before e; else it goes wrong there.
@@ -91,8 +85,8 @@ fn tag_token(table: &[u64; 16], s: &[u8], i: usize, mode: Mode) -> Token
     let a = i + 1;
     let e = base_letters::run_end(table, base_letters::NAME_PART, s, a);
     match text_names::language_by(table, &s[a..e]) {
-        Tested::Whole => finish(s, e, mode, true, Token::Tag(a, e)),
-        Tested::Stops(n) => Token::Bad(a + n),
+        Ok(()) => finish(s, e, mode, true, Token::Tag(a, e)),
+        Err(n) => Token::Bad(a + n),
     }
 }
 
@@ -117,16 +111,17 @@ fn class_token(table: &[u64; 16], s: &[u8], i: usize, mode: Mode) -> Token
 }
 
 // Where the quote q closes, from i on.
-fn quote_end(s: &[u8], i: usize, q: u8) -> Place
+fn quote_end(s: &[u8], i: usize, q: u8) -> Option<usize>
     ensures { result ≡ shut_at i (shut_of q (drop i s.now) false) }
 {
     let mut k = i;
+    // A loop: a step is one byte, or two where a backslash takes the next along.
     'bytes: loop {
         if s.len() <= k {
-            break 'bytes Place::Nothing;
+            break 'bytes None;
         }
         if s[k] == q {
-            break 'bytes Place::At(k);
+            break 'bytes Some(k);
         }
         if s[k] == b'\\' {
             k += 2;
@@ -143,8 +138,8 @@ fn quoted_token(s: &[u8], i: usize, k: usize, mode: Mode) -> Token
     ensures { result ≡ shown i (spot_place (Spot.quoted (get_or s.now (k + 1) 0) false) (k + 2) s.now) (quoted_from mode (part i k s.now) (get_or s.now (k + 1) 0) (drop (k + 2) s.now)) }
 {
     match quote_end(s, k + 2, s[k + 1]) {
-        Place::Nothing => Token::Bad(s.len()),
-        Place::At(e) => finish(s, e + 1, mode, true, Token::Quoted(i, k, e + 1)),
+        None => Token::Bad(s.len()),
+        Some(e) => finish(s, e + 1, mode, true, Token::Quoted(i, k, e + 1)),
     }
 }
 
@@ -215,44 +210,38 @@ pub fn token_at(s: &[u8], i: usize, mode: Mode) -> Token
     token_by(&table, s, i, mode)
 }
 
-// What a loop over tokens does at one: it stops, or goes on behind it.
-#[derive(Clone, Copy)]
-enum Behind {
-    Wrong(usize),
-    Next(usize),
-}
-
 // The place behind a token, or where it goes wrong.
-fn behind_token(t: Token) -> Behind
+fn behind_token(t: Token) -> Result<usize, usize>
     ensures { result ≡ behind_of t }
 {
     match t {
-        Token::Bad(n) => Behind::Wrong(n),
-        Token::Tag(_, e) => Behind::Next(e),
-        Token::Id(_, e) => Behind::Next(e),
-        Token::Class(_, e) => Behind::Next(e),
-        Token::Plain(_, _, e) => Behind::Next(e),
-        Token::Quoted(_, _, e) => Behind::Next(e),
-        Token::Bare(_, e) => Behind::Next(e),
+        Token::Bad(n) => Err(n),
+        Token::Tag(_, e) => Ok(e),
+        Token::Id(_, e) => Ok(e),
+        Token::Class(_, e) => Ok(e),
+        Token::Plain(_, _, e) => Ok(e),
+        Token::Quoted(_, _, e) => Ok(e),
+        Token::Bare(_, e) => Ok(e),
     }
 }
 
 // Whether s is a payload, and else how far it can be continued to one.
-pub fn payload_test(s: &[u8], mode: Mode) -> Tested
+pub fn payload_test(s: &[u8], mode: Mode) -> Result<(), usize>
     ensures value { result ≡ payload_tested mode s.now }
     ensures result_value { tested_paper result ≡ tested_paper (payload_tested mode s.now) }
 {
     let table = base_letters::CLASS;
     let mut some = false;
     let mut i = 0;
+    // A loop: a step is a whole token, as long as that token is.
     'tokens: loop {
         let a = blank_end(s, i, mode);
         if a == s.len() {
             break 'tokens text_names::whole_or_stops(some, a);
         }
         match behind_token(token_by(&table, s, a, mode)) {
-            Behind::Wrong(n) => break 'tokens Tested::Stops(n),
-            Behind::Next(e) => {
+            Err(n) => break 'tokens Err(n),
+            Ok(e) => {
                 some = true;
                 i = e;
                 continue 'tokens;

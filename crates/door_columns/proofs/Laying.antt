@@ -1,10 +1,13 @@
 -- Five numbers told for each column, one column after the other.
 -- Assumes nothing.
 use mathlib.Core.Path.{◌≡◌, refl, sym, ◌∙◌, ap}
+use mathlib.Core.Bool.{Bool, true, false}
 use mathlib.Core.List.{List, [], ◌∷◌, ◌++◌, flat_map, append_assoc, append-nil}
-use Prim.Native.Nat.{ℕ, suc, ◌+◌, ◌*◌, ◌<◌, ◌≤◌}
+use Prim.Native.Nat.{ℕ, suc, ◌+◌, ◌*◌, ◌<◌, ◌≤◌, min}
 use native.Mathlib.Numerals.{add-one}
 use native.Mathlib.Omega.{arith}
+use borrow.Author.Tests.{ltb-true, ltb-false}
+use lib.Dec.{ltb}
 use lib.ListN.{length, get_or, set, take, length-append, length-take}
 use lib.Seq.{take-suc, take_all, length-take-le}
 use Rattle.base_lists.proofs.Flat.{flat_append}
@@ -64,15 +67,22 @@ unfolding flat_map
 lays_start buf columns n e = record { long = e; within = omega arith; kept = refl; is = sym (told_none buf); size = refl }
 
 module _ {buf : List ℕ} {columns : List Column} {n : ℕ} {out : List ℕ} {i : ℕ} (inv : Lays buf columns n out i) where
-  pub lays_end : n ≤ i → out ≡ told_in buf (flat_map column_nos (take n columns))
-  lays_end h = let e : n ≡ i = omega (arith, inv.within) in rw e inv.is
+  all_told : n ≤ i → out ≡ told_in buf (flat_map column_nos (take n columns))
+  all_told h = let e : n ≡ i = omega (arith, inv.within) in rw e inv.is
 
   -- all columns of the array are told
-  pub lays_out : max_columns ≤ i → out ≡ told_in buf (flat_map column_nos (take n columns))
-  lays_out h =
+  array_told : max_columns ≤ i → out ≡ told_in buf (flat_map column_nos (take n columns))
+  array_told h =
       let a : take i columns ≡ columns = take_all i columns (omega (arith, inv.long)) in
       let b : take n columns ≡ columns = take_all n columns (omega (arith, inv.long, inv.within)) in
       rw b (rw a at inv.is)
+
+  pub lays_end : min n max_columns ≤ i → out ≡ told_in buf (flat_map column_nos (take n columns))
+  lays_end h = go (ltb n max_columns) refl
+    where
+      go : (b : Bool) → ltb n max_columns ≡ b → out ≡ told_in buf (flat_map column_nos (take n columns))
+      go true e = all_told (omega (arith, h, ltb-true n max_columns e))
+      go false e = array_told (omega (arith, h, ltb-false n max_columns e))
 
   one_column : (c : Column) → flat_map column_nos (c ∷ []) ≡ column_nos c
   unfolding flat_map

@@ -1,11 +1,11 @@
 -- The answer of a block's columns, made of what the parts promise.
 -- Assumes nothing.
+use Rattle.std.specs.Prelude.{Result}
 use mathlib.Core.Path.{◌≡◌, refl, ap, ◌∙◌}
 use mathlib.Core.List.{List, [], ◌∷◌}
 use Prim.Native.Nat.{ℕ}
 use lib.Seq.{slice}
 use Rattle.base_refusals.specs.Numbers.{outcome_no}
-use Rattle.base_refusals.specs.declared.Outcome.{Outcome}
 use Rattle.text_checks.specs.Outcomes.{or_else, or_left}
 use Rattle.read_blocks.specs.Blocks.{Found, join_holds, block_of}
 use Rattle.read_blocks.specs.declared.Block.{Block}
@@ -15,13 +15,14 @@ use Rattle.set_columns.specs.declared.Made.{Made}
 use Rattle.door_shared.specs.Tells.{told_in}
 use Rattle.door_blocks.proofs.Over.{texts_found}
 use Rattle.door_columns.specs.Said.{table_nos, Answered, made_said, columns_said_by, columns_said}
+use Rattle.base_refusals.specs.declared.Refusal.{Refusal}
 
 -- an answer as it is promised
 abbrev pub Answers : List ℕ → Answered → ℕ → List ℕ → List ℕ → Type 0
 Answers told s r o v = record { value : r ≡ s.number; numbers_after : o ≡ s.numbers; told_after : v ≡ told_in told s.told }
 
 -- ---- a block that was read
-module _ (buf told : List ℕ) (b : Block) {t u : Texts} {m : Made} {c : Outcome} {r : ℕ} {o v : List ℕ} where
+module _ (buf told : List ℕ) (b : Block) {t u : Texts} {m : Made} {c : Result (Unit {0}) Refusal} {r : ℕ} {o v : List ℕ} where
   pub made_said_lem : t ≡ u → m ≡ columns_of t b.set → c ≡ or_else b.outcome m.outcome → o ≡ or_left c buf (told_in buf (table_nos m.table))
       → v ≡ told_in told (m.table.count ∷ b.lines ∷ b.joined ∷ []) → r ≡ outcome_no c → Answers told (columns_said_by b u buf) r o v
   made_said_lem ft fm fc fo fv fr = rw (← ft, ← fm) (record { value = fr ∙ ap outcome_no fc; numbers_after = fo ∙ rw fc; told_after = fv })

@@ -1,8 +1,7 @@
 -- What a caller from C or Rust is answered of the columns of a block.
-use Rattle.std.specs.Prelude.{ℕ, take}
+use Rattle.std.specs.Prelude.{ℕ, take, None, Option, Some}
 use mathlib.Core.List.{List, [], ◌∷◌, flat_map}
 use Rattle.base_refusals.specs.Numbers.{outcome_no}
-use Rattle.base_refusals.specs.declared.Outcome.{Outcome}
 use Rattle.text_checks.specs.Outcomes.{or_else, or_left}
 use Rattle.set_table.specs.Types.{Texts}
 use Rattle.set_table.specs.declared.Origin.TheVariants as origin
@@ -23,34 +22,34 @@ use Rattle.door_shared.specs.Tells.{told_in}
 -- ---- five numbers of a column: its align, its vertical align, what its width is, and from where to where
 
 -- "left, right, center or none", "top, middle, bottom or none": 0 is none
-abbrev pub align_no : aligns.Align → ℕ
-align_no align.Unset = 0
-align_no align.Left = 1
-align_no align.Right = 2
-align_no align.Center = 3
+abbrev pub align_no : Option aligns.Align → ℕ
+align_no None = 0
+align_no (Some align.Left) = 1
+align_no (Some align.Right) = 2
+align_no (Some align.Center) = 3
 
-abbrev pub valign_no : valigns.Valign → ℕ
-valign_no valign.Unset = 0
-valign_no valign.Top = 1
-valign_no valign.Middle = 2
-valign_no valign.Bottom = 3
+abbrev pub valign_no : Option valigns.Valign → ℕ
+valign_no None = 0
+valign_no (Some valign.Top) = 1
+valign_no (Some valign.Middle) = 2
+valign_no (Some valign.Bottom) = 3
 
 -- none; that of a bare key, which has no place; a range of the text; a range of what was joined
-abbrev pub width_no : widths.Width → ℕ
-width_no width.Unset = 0
-width_no width.Empty = 1
-width_no (width.Range origin.First f t) = 2
-width_no (width.Range origin.Second f t) = 3
+abbrev pub width_no : Option widths.Width → ℕ
+width_no None = 0
+width_no (Some width.Empty) = 1
+width_no (Some (width.Range origin.First f t)) = 2
+width_no (Some (width.Range origin.Second f t)) = 3
 
-abbrev pub width_from : widths.Width → ℕ
-width_from width.Unset = 0
-width_from width.Empty = 0
-width_from (width.Range o f t) = f
+abbrev pub width_from : Option widths.Width → ℕ
+width_from None = 0
+width_from (Some width.Empty) = 0
+width_from (Some (width.Range o f t)) = f
 
-abbrev pub width_to : widths.Width → ℕ
-width_to width.Unset = 0
-width_to width.Empty = 0
-width_to (width.Range o f t) = t
+abbrev pub width_to : Option widths.Width → ℕ
+width_to None = 0
+width_to (Some width.Empty) = 0
+width_to (Some (width.Range o f t)) = t
 
 unfoldable pub column_nos : Column → List ℕ
 column_nos c = align_no c.align ∷ valign_no c.valign ∷ width_no c.width ∷ width_from c.width ∷ width_to c.width ∷ []

@@ -15,64 +15,64 @@ ghost use Rattle.door_shared.specs.Tells.{told_in};
 ghost use Rattle.door_columns.specs.Said.{align_no, valign_no, width_no, width_from, width_to, column_nos, table_nos, columns_said_by, columns_said};
 ghost use Rattle.door_columns.specs.Inner.{column_told};
 
-use base_refusals::Outcome;
+use base_refusals::Refusal;
 use read_blocks::Block;
 use set_columns::{Align, Column, Columns, Valign, Width};
 use set_table::Origin;
 
-fn align_no(a: Align) -> usize
+fn align_no(a: Option<Align>) -> usize
     ensures { result ≡ align_no a }
 {
     match a {
-        Align::Unset => 0,
-        Align::Left => 1,
-        Align::Right => 2,
-        Align::Center => 3,
+        None => 0,
+        Some(Align::Left) => 1,
+        Some(Align::Right) => 2,
+        Some(Align::Center) => 3,
     }
 }
 
-fn valign_no(v: Valign) -> usize
+fn valign_no(v: Option<Valign>) -> usize
     ensures { result ≡ valign_no v }
 {
     match v {
-        Valign::Unset => 0,
-        Valign::Top => 1,
-        Valign::Middle => 2,
-        Valign::Bottom => 3,
+        None => 0,
+        Some(Valign::Top) => 1,
+        Some(Valign::Middle) => 2,
+        Some(Valign::Bottom) => 3,
     }
 }
 
 // What a width is: none, that of a bare key, a range of the text, a range of what was joined.
-fn width_no(w: Width) -> usize
+fn width_no(w: Option<Width>) -> usize
     ensures { result ≡ width_no w }
 {
     match w {
-        Width::Unset => 0,
-        Width::Empty => 1,
-        Width::Range(o, _, _) => match o {
+        None => 0,
+        Some(Width::Empty) => 1,
+        Some(Width::Range(o, _, _)) => match o {
             Origin::First => 2,
             Origin::Second => 3,
         },
     }
 }
 
-fn width_from(w: Width) -> usize
+fn width_from(w: Option<Width>) -> usize
     ensures { result ≡ width_from w }
 {
     match w {
-        Width::Unset => 0,
-        Width::Empty => 0,
-        Width::Range(_, f, _) => f as usize,
+        None => 0,
+        Some(Width::Empty) => 0,
+        Some(Width::Range(_, f, _)) => f as usize,
     }
 }
 
-fn width_to(w: Width) -> usize
+fn width_to(w: Option<Width>) -> usize
     ensures { result ≡ width_to w }
 {
     match w {
-        Width::Unset => 0,
-        Width::Empty => 0,
-        Width::Range(_, _, t) => t as usize,
+        None => 0,
+        Some(Width::Empty) => 0,
+        Some(Width::Range(_, _, t)) => t as usize,
     }
 }
 
@@ -95,23 +95,18 @@ fn lay_column(numbers: &mut [usize], at: usize, c: Column)
 fn lay_columns(numbers: &mut [usize], columns: [Column; Columns::MOST], n: usize)
     ensures { numbers.new ≡ told_in numbers.old (flat_map column_nos (take n columns)) }
 {
-    let mut i: usize = 0;
-    while i < Columns::MOST {
-        if n <= i {
-            return;
-        }
+    for i in 0..n.min(Columns::MOST) {
         lay_column(numbers, 5 * i, columns[i]);
-        i += 1;
     }
 }
 
 // The numbers of a table, where nothing refuses it.
-fn lay_unless(c: Outcome, numbers: &mut [usize], table: Columns)
+fn lay_unless(c: Result<(), Refusal>, numbers: &mut [usize], table: Columns)
     ensures { numbers.new ≡ or_left c numbers.old (told_in numbers.old (table_nos table)) }
 {
     match c {
-        Outcome::Refused(_) => {}
-        Outcome::Passed => {
+        Err(_) => {}
+        Ok(()) => {
             let columns = table.columns;
             lay_columns(numbers, columns, table.count as usize);
         }
@@ -119,12 +114,12 @@ fn lay_unless(c: Outcome, numbers: &mut [usize], table: Columns)
 }
 
 // The number of an outcome.
-fn number_of(c: Outcome) -> u8
+fn number_of(c: Result<(), Refusal>) -> u8
     ensures { result ≡ outcome_no c }
 {
     match c {
-        Outcome::Refused(r) => base_refusals::number(r),
-        Outcome::Passed => 0,
+        Err(r) => base_refusals::number(r),
+        Ok(()) => 0,
     }
 }
 

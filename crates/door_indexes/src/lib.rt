@@ -9,20 +9,20 @@ ghost use Rattle.sheet_index.specs.Finding.{find_record, find_row, look_paper};
 ghost use Rattle.door_shared.specs.Tells.{told_in};
 ghost use Rattle.door_indexes.specs.Indexes.{built_told, counted_told, look_told};
 
-use sheet_index::{Built, Counted, LookUp};
+use base_refusals::Refusal;
 
 // Tells how many records an index has, and how many bytes, as building and mending answer.
-pub fn say_built(built: Built, told: &mut [usize]) -> u8
+pub fn say_built(built: Result<(usize, usize), Refusal>, told: &mut [usize]) -> u8
     ensures value { result ≡ (built_paper built).number }
     ensures told_after { told.new ≡ told_in told.old (built_told built) }
 {
     match built {
-        Built::Refused(why) => {
+        Err(why) => {
             door_shared::tell(told, 0, 0);
             door_shared::tell(told, 1, 0);
             base_refusals::number(why)
         }
-        Built::Index(records, bytes) => {
+        Ok((records, bytes)) => {
             door_shared::tell(told, 0, records);
             door_shared::tell(told, 1, bytes);
             0
@@ -31,16 +31,16 @@ pub fn say_built(built: Built, told: &mut [usize]) -> u8
 }
 
 // Tells how many records were read.
-fn say_counted(counted: Counted, told: &mut [usize]) -> u8
+fn say_counted(counted: Result<usize, Refusal>, told: &mut [usize]) -> u8
     ensures value { result ≡ (counted_paper counted).number }
     ensures told_after { told.new ≡ told_in told.old (counted_told counted) }
 {
     match counted {
-        Counted::Refused(why) => {
+        Err(why) => {
             door_shared::tell(told, 0, 0);
             base_refusals::number(why)
         }
-        Counted::Rows(n) => {
+        Ok(n) => {
             door_shared::tell(told, 0, n);
             0
         }
@@ -58,20 +58,20 @@ fn tell_row(told: &mut [usize], found: usize, line: usize, count: usize, offset:
 }
 
 // Tells whether a record was found, and where its block stands.
-fn say_found(found: LookUp, told: &mut [usize]) -> u8
+fn say_found(found: Result<Option<(usize, usize, usize)>, Refusal>, told: &mut [usize]) -> u8
     ensures value { result ≡ (look_paper found).number }
     ensures told_after { told.new ≡ told_in told.old (look_told found) }
 {
     match found {
-        LookUp::Refused(why) => {
+        Err(why) => {
             tell_row(told, 0, 0, 0, 0);
             base_refusals::number(why)
         }
-        LookUp::Missing => {
+        Ok(None) => {
             tell_row(told, 0, 0, 0, 0);
             0
         }
-        LookUp::Row(line, count, offset) => {
+        Ok(Some((line, count, offset))) => {
             tell_row(told, 1, line, count, offset);
             0
         }

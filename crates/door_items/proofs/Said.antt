@@ -1,5 +1,6 @@
 -- The answers of a block's items and values one by one, made of what the parts promise.
 -- Assumes nothing.
+use Rattle.std.specs.Prelude.{Result}
 use mathlib.Core.Path.{◌≡◌, ap, ◌∙◌}
 use mathlib.Core.List.{List, [], ◌∷◌}
 use Prim.Native.Nat.{ℕ}
@@ -7,7 +8,6 @@ use lib.ListN.{length, set}
 use lib.Seq.{slice}
 use Rattle.base_bytes.specs.declared.Mode.{Mode}
 use Rattle.base_refusals.specs.Numbers.{outcome_no}
-use Rattle.base_refusals.specs.declared.Outcome.{Outcome}
 use Rattle.set_canon.specs.Canon.{Pair, pairs}
 use Rattle.set_table.specs.Types.{Texts, one, two}
 use Rattle.set_table.specs.Rows.{meaning_of}
@@ -22,6 +22,7 @@ use Rattle.door_shared.proofs.Laws.{Says, told_more, told_5}
 use Rattle.door_sets.specs.Sets.{check_by, place_behind}
 use Rattle.door_blocks.proofs.Over.{texts_found}
 use Rattle.door_items.specs.Items.{nth_said, both_lengths, value_length, lines_told, item_said_by, item_said, value_said_by, value_said, brace_item_by, brace_item, brace_value_by, brace_value}
+use Rattle.base_refusals.specs.declared.Refusal.{Refusal}
 
 -- ---- numbers told by their index
 
@@ -32,7 +33,7 @@ pub told_7 : (buf : List ℕ) (a b c d e f g : ℕ) {t u v w x y z : List ℕ} �
 told_7 buf a b c d e f g p q r s i j k = k ∙ ap (λ l. set l 6 g) (told_6 buf a b c d e f p q r s i j) ∙ told_more buf (a ∷ b ∷ c ∷ d ∷ e ∷ f ∷ []) g
 
 -- ---- one of the items ps was laid and told
-module _ (buf told : List ℕ) (c : Outcome) (ps : List Pair) (n : ℕ) (more : List ℕ) {xs : List Pair} {l : Laid} {k r : ℕ} {o v : List ℕ} where
+module _ (buf told : List ℕ) (c : Result (Unit {0}) Refusal) (ps : List Pair) (n : ℕ) (more : List ℕ) {xs : List Pair} {l : Laid} {k r : ℕ} {o v : List ℕ} where
   item_says : (k ≡ length ps) × (xs ≡ nth n ps) → (l ≡ laid_of c (length buf) xs) × (o ≡ laid_in c buf xs) → v ≡ told_in told (k ∷ l.name ∷ l.value ∷ more) → r ≡ outcome_no l.outcome
       → Says buf told (nth_said c ps n both_lengths more buf) r o v
   item_says (f, e) (g, h) i j = rw (← e) (record { value = j ∙ ap (λ x. outcome_no x.outcome) g; out_after = h; told_after = i ∙ rw (f, g) })
@@ -52,7 +53,7 @@ module _ (buf told : List ℕ) (b : Block) {t u : Texts} (n : ℕ) {xs : List Pa
   block_value name p q i j = rw (← ft) (value_says buf told b.outcome (values_under name (meaning_of t b.set)) n (lines_told b) p q i j)
 
 -- ---- what was read at a brace
-module _ (t buf told : List ℕ) (x : Read) (n : ℕ) {c : Outcome} {xs : List Pair} {l : Laid} {k d e r : ℕ} {o v : List ℕ} (fc : c ≡ check_by x.answer) (fd : d ≡ place_behind x.answer) (fe : e ≡ place_said x.answer) where
+module _ (t buf told : List ℕ) (x : Read) (n : ℕ) {c : Result (Unit {0}) Refusal} {xs : List Pair} {l : Laid} {k d e r : ℕ} {o v : List ℕ} (fc : c ≡ check_by x.answer) (fd : d ≡ place_behind x.answer) (fe : e ≡ place_said x.answer) where
   pub read_item : (k ≡ length (pairs (meaning_of (one t) x.set))) × (xs ≡ nth n (pairs (meaning_of (one t) x.set))) → (l ≡ laid_of c (length buf) xs) × (o ≡ laid_in c buf xs)
       → v ≡ told_in told (k ∷ l.name ∷ l.value ∷ d ∷ e ∷ []) → r ≡ outcome_no l.outcome → Says buf told (brace_item_by t x n buf) r o v
   read_item p q i j = rw (← fc, ← fd, ← fe) (item_says buf told c (pairs (meaning_of (one t) x.set)) n (d ∷ e ∷ []) p q i j)

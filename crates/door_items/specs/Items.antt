@@ -1,8 +1,7 @@
 -- What a caller from C or Rust is answered of a block's items, and of the values under a name, one by one.
-use Rattle.std.specs.Prelude.{ℕ, List, [], ◌∷◌, ◌++◌, length}
+use Rattle.std.specs.Prelude.{ℕ, List, [], ◌∷◌, ◌++◌, length, Result}
 use Rattle.base_bytes.specs.declared.Mode.{Mode}
 use Rattle.base_refusals.specs.Numbers.{outcome_no}
-use Rattle.base_refusals.specs.declared.Outcome.{Outcome}
 use Rattle.set_canon.specs.Canon.{Pair, pairs}
 use Rattle.set_table.specs.Types.{Texts, one}
 use Rattle.set_table.specs.Rows.{meaning_of}
@@ -13,10 +12,11 @@ use Rattle.read_brace.specs.Brace.{read_attrs_at, place_said}
 use Rattle.read_brace.specs.declared.Read.{Read}
 use Rattle.door_shared.specs.Tells.{Said}
 use Rattle.door_sets.specs.Sets.{check_by, place_behind}
+use Rattle.base_refusals.specs.declared.Refusal.{Refusal}
 
 -- the n-th of the items ps, counted from 0, is laid in `buf`, unless c refuses it or it has no room; told: how many there are, its lengths, and what else is
 -- told of the block. A block that is refused has the empty set, and so no item.
-abbrev pub nth_said : Outcome → List Pair → ℕ → (List Pair → List ℕ) → List ℕ → List ℕ → Said
+abbrev pub nth_said : Result (Unit {0}) Refusal → List Pair → ℕ → (List Pair → List ℕ) → List ℕ → List ℕ → Said
 nth_said c ps n lengths more buf =
     record { number = outcome_no (laid_of c (length buf) (nth n ps)).outcome; told = length ps ∷ (lengths (nth n ps) ++ more); out = laid_in c buf (nth n ps) }
 

@@ -9,25 +9,26 @@ ghost use Rattle.read_blocks.specs.ByLine.{block_found};
 ghost use Rattle.door_shared.specs.Tells.{told_in};
 ghost use Rattle.door_lengths.specs.Lengths.{measure_told, length_told};
 
-use read_lengths::{Length, Measure};
+use base_refusals::Refusal;
+use read_lengths::Measure;
 
 // The number of a block's length.
-fn length_number(l: Length) -> u8
+fn length_number(l: Result<usize, Refusal>) -> u8
     ensures { result ≡ length_no l }
 {
     match l {
-        Length::Refused(r) => base_refusals::number(r),
-        Length::Lines(_) => 0,
+        Err(r) => base_refusals::number(r),
+        Ok(_) => 0,
     }
 }
 
 // How many lines a block has.
-fn lines_in(l: Length) -> usize
+fn lines_in(l: Result<usize, Refusal>) -> usize
     ensures { result ≡ lines_in l }
 {
     match l {
-        Length::Refused(_) => 0,
-        Length::Lines(n) => n,
+        Err(_) => 0,
+        Ok(n) => n,
     }
 }
 

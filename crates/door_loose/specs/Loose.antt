@@ -1,25 +1,23 @@
 -- What a caller from C or Rust is answered of a block whose key `loose` is taken out.
-use Rattle.std.specs.Prelude.{ℕ, List, [], ◌∷◌, length}
+use Rattle.std.specs.Prelude.{ℕ, List, [], ◌∷◌, length, Result, Err, Ok, true, false, Bool}
 use Rattle.text_checks.specs.Outcomes.{or_left}
 use Rattle.set_table.specs.Types.{Texts}
 use Rattle.set_writer.specs.Write.{wrote_paper, or_refused, attrs_wrote, attrs_content}
-use Rattle.set_writer.specs.declared.Wrote.{Wrote}
 use Rattle.set_loose.specs.Loose.{loose_of}
-use Rattle.set_loose.specs.declared.Did as dids
-use Rattle.set_loose.specs.declared.Did.TheVariants as did
 use Rattle.set_loose.specs.declared.Consumed.{Consumed}
 use Rattle.read_blocks.specs.Blocks.{Found, block_of, texts_in}
 use Rattle.read_blocks.specs.declared.Block.{Block}
 use Rattle.door_shared.specs.Tells.{Said, len_of}
+use Rattle.base_refusals.specs.declared.Refusal.{Refusal}
 
 -- 1 where it acted
-abbrev pub acted_told : dids.Did → ℕ
-acted_told (did.Refused r) = 0
-acted_told did.Yes = 1
-acted_told did.No = 0
+abbrev pub acted_told : Result Bool Refusal → ℕ
+acted_told (Err r) = 0
+acted_told (Ok true) = 1
+acted_told (Ok false) = 0
 
 -- "The result .. may be empty, and the writer then answers 12": the block's refusal, else what the writer answers of the set that is left
-abbrev pub left_wrote : Block → Texts → Consumed → ℕ → Wrote
+abbrev pub left_wrote : Block → Texts → Consumed → ℕ → Result ℕ Refusal
 left_wrote b t c size = or_refused b.outcome (attrs_wrote t c.set size)
 
 -- told: whether it acted; the length of the canonical text, 0 where none is written; the block's lines, the place behind it, the lookahead, how much was joined

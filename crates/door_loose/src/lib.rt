@@ -12,38 +12,34 @@ ghost use Rattle.read_blocks.specs.ByLine.{block_found};
 ghost use Rattle.door_shared.specs.Tells.{told_in};
 ghost use Rattle.door_loose.specs.Loose.{acted_told, loose_said_by, loose_said};
 
-use base_refusals::Outcome;
+use base_refusals::Refusal;
 use read_blocks::Block;
-use set_loose::Did;
 use set_table::Attrs;
-use set_writer::Wrote;
 
 // 1 where the key was taken out.
-fn acted(did: Did) -> usize
+fn acted(did: Result<bool, Refusal>) -> usize
     ensures { result ≡ acted_told did }
 {
     match did {
-        Did::Refused(_) => 0,
-        Did::Yes => 1,
-        Did::No => 0,
+        Err(_) => 0,
+        Ok(true) => 1,
+        Ok(false) => 0,
     }
 }
 
 // The canonical text of what is left, where the block isn't refused; an empty set is the writer's 12.
 fn write_left<'a>(
-    c: Outcome,
+    c: Result<(), Refusal>,
     first: &'a [u8],
     second: &'a [u8],
     set: Attrs,
     out: &mut [u8],
-) -> Wrote
+) -> Result<usize, Refusal>
     ensures value { result ≡ or_refused c (attrs_wrote (two first.now second.now) set (length out.old)) }
     ensures out_after { out.new ≡ or_left c out.old (attrs_content (two first.now second.now) set out.old) }
 {
-    match c {
-        Outcome::Refused(r) => Wrote::Refused(r),
-        Outcome::Passed => set_writer::write_attrs(first, second, set, out),
-    }
+    c?;
+    set_writer::write_attrs(first, second, set, out)
 }
 
 // Takes the key out of a block's set, which is over the text and the bytes that were joined, and writes and tells what is left.

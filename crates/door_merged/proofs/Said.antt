@@ -1,5 +1,6 @@
 -- The answer of two blocks that are merged, made of what the parts promise.
 -- Assumes nothing.
+use Rattle.std.specs.Prelude.{Result}
 use mathlib.Core.Path.{◌≡◌, refl, ap, subst, ◌∙◌}
 use mathlib.Core.Bool.{cond}
 use mathlib.Core.List.{List, [], ◌∷◌}
@@ -8,7 +9,6 @@ use lib.Dec.{eqb-suc-zero}
 use lib.ListN.{length, drop}
 use lib.Seq.{take-append_seam}
 use Rattle.base_lists.specs.Lists.{is_some, over}
-use Rattle.base_refusals.specs.declared.Outcome.{Outcome}
 use Rattle.text_checks.specs.Outcomes.{or_else}
 use Rattle.text_line_start.specs.Starts.{place_of}
 use Rattle.set_table.specs.Types.{two, text_over}
@@ -21,6 +21,7 @@ use Rattle.read_blocks.specs.declared.Block.{Block}
 use Rattle.door_shared.specs.Tells.{told_in, outcome_of, refused_step}
 use Rattle.door_shared.proofs.Laws.{Came, Says, set-said}
 use Rattle.door_merged.specs.Merged.{first_refusal, merged_wrote, filled_said, merged_said_by, merged_said}
+use Rattle.base_refusals.specs.declared.Refusal.{Refusal}
 
 -- ---- a block's text is what the join buffer holds at its front, if anything was joined
 
@@ -36,7 +37,7 @@ text-found t j at f = joined-over t (joined_in f) j
 module _ (buf told : List ℕ) where
   -- ---- two blocks that were read: their sets merged, written and told
 
-  pub blocks_said : (x y : Block) {p q i k : List ℕ} {a b : Attrs} {m : Filled} {c d e : Outcome} {h r : ℕ} {o v : List ℕ}
+  pub blocks_said : (x y : Block) {p q i k : List ℕ} {a b : Attrs} {m : Filled} {c d e : Result (Unit {0}) Refusal} {h r : ℕ} {o v : List ℕ}
       → p ≡ i → q ≡ k → a ≡ as_first x → b ≡ as_second y → m ≡ merge_of (two p q) a b → d ≡ or_else y.outcome m.outcome → c ≡ or_else x.outcome d
       → (came : Came buf told c (two p q) m.set (λ n. h ∷ n ∷ x.lines ∷ y.lines ∷ []) r o v) → e ≡ outcome_of came.wrote → h ≡ refused_step x.outcome y.outcome e
       → Says buf told (merged_said_by (two i k) x y buf) r o v

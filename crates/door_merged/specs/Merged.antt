@@ -1,6 +1,5 @@
 -- What a caller from C or Rust is answered of two blocks that are merged.
-use Rattle.std.specs.Prelude.{ℕ, List, [], ◌∷◌, length}
-use Rattle.base_refusals.specs.declared.Outcome.{Outcome}
+use Rattle.std.specs.Prelude.{ℕ, List, [], ◌∷◌, length, Result}
 use Rattle.text_checks.specs.Outcomes.{or_else}
 use Rattle.text_line_start.specs.Starts.{place_of}
 use Rattle.set_table.specs.Types.{Texts, two}
@@ -8,19 +7,19 @@ use Rattle.set_table.specs.Rows.{meaning_of}
 use Rattle.set_table.specs.declared.Filled.{Filled}
 use Rattle.set_canon.specs.Canon.{canon}
 use Rattle.set_writer.specs.Write.{or_refused, wrote_of}
-use Rattle.set_writer.specs.declared.Wrote.{Wrote}
 use Rattle.set_merge.specs.Merge.{merge_of}
 use Rattle.read_blocks.specs.Blocks.{Found, text_found, block_of, as_first, as_second}
 use Rattle.read_blocks.specs.ByLine.{block_found}
 use Rattle.read_blocks.specs.declared.Block.{Block}
 use Rattle.door_shared.specs.Tells.{Said, outcome_of, refused_step, set_said}
+use Rattle.base_refusals.specs.declared.Refusal.{Refusal}
 
 -- the first that refuses: reading the common block, reading the variant's, merging them
-abbrev pub first_refusal : Block → Block → Filled → Outcome
+abbrev pub first_refusal : Block → Block → Filled → Result (Unit {0}) Refusal
 first_refusal x y m = or_else x.outcome (or_else y.outcome m.outcome)
 
 -- and then 10
-abbrev pub merged_wrote : Texts → Block → Block → Filled → ℕ → Wrote
+abbrev pub merged_wrote : Texts → Block → Block → Filled → ℕ → Result ℕ Refusal
 merged_wrote t x y m size = or_refused (first_refusal x y m) (wrote_of (canon (meaning_of t m.set)) size)
 
 -- told: which step refuses, where the third is merging and writing; the length of the canonical text; the lines of both blocks

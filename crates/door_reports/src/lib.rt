@@ -8,16 +8,17 @@ ghost use Rattle.sheet_report.specs.Parts.{told_no, start_of, part_of, shown_par
 ghost use Rattle.door_shared.specs.Tells.{told_in};
 ghost use Rattle.door_reports.specs.Reports.{part_told};
 
+use base_refusals::Refusal;
 use sheet_report::{Part, Told};
 
 // The number of a part of a report.
-fn told_number(t: Told) -> u8
+fn told_number(t: Result<Told, Refusal>) -> u8
     ensures { result ≡ told_no t }
 {
     match t {
-        Told::Refused(r) => base_refusals::number(r),
-        Told::More => 0,
-        Told::Done => 0,
+        Err(r) => base_refusals::number(r),
+        Ok(Told::More) => 0,
+        Ok(Told::Done) => 0,
     }
 }
 

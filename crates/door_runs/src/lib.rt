@@ -8,41 +8,41 @@ ghost use Rattle.run_endings.specs.Endings.{ends_paper, ends_in};
 ghost use Rattle.door_shared.specs.Tells.{told_in};
 ghost use Rattle.door_runs.specs.Runs.{run_kind, run_lines, ends_kind, run_told, ends_told};
 
-use run_endings::Ends;
+use base_refusals::Refusal;
 
 // The number of what is said of a refused run.
-fn answer_number(a: run_refused::RunReply) -> u8
+fn answer_number(a: Result<run_refused::RunReply, Refusal>) -> u8
     ensures { result ≡ (reply_paper a).number }
 {
     match a {
-        run_refused::RunReply::No(_) => 0,
-        run_refused::RunReply::Lines(_) => 0,
-        run_refused::RunReply::NoEnd => 0,
-        run_refused::RunReply::Refused(r) => base_refusals::number(r),
+        Ok(run_refused::RunReply::No(_)) => 0,
+        Ok(run_refused::RunReply::Lines(_)) => 0,
+        Ok(run_refused::RunReply::NoEnd) => 0,
+        Err(r) => base_refusals::number(r),
     }
 }
 
 // 1 where a run is refused.
-fn kind_of(a: run_refused::RunReply) -> usize
+fn kind_of(a: Result<run_refused::RunReply, Refusal>) -> usize
     ensures { result ≡ run_kind a }
 {
     match a {
-        run_refused::RunReply::No(_) => 0,
-        run_refused::RunReply::Lines(_) => 1,
-        run_refused::RunReply::NoEnd => 0,
-        run_refused::RunReply::Refused(_) => 0,
+        Ok(run_refused::RunReply::No(_)) => 0,
+        Ok(run_refused::RunReply::Lines(_)) => 1,
+        Ok(run_refused::RunReply::NoEnd) => 0,
+        Err(_) => 0,
     }
 }
 
 // How many lines it takes, or were looked at; the largest number where they reach to the end.
-fn lines_of(a: run_refused::RunReply) -> usize
+fn lines_of(a: Result<run_refused::RunReply, Refusal>) -> usize
     ensures { result ≡ run_lines a }
 {
     match a {
-        run_refused::RunReply::No(n) => n,
-        run_refused::RunReply::Lines(n) => n,
-        run_refused::RunReply::NoEnd => 18446744073709551615,
-        run_refused::RunReply::Refused(_) => 0,
+        Ok(run_refused::RunReply::No(n)) => n,
+        Ok(run_refused::RunReply::Lines(n)) => n,
+        Ok(run_refused::RunReply::NoEnd) => 18446744073709551615,
+        Err(_) => 0,
     }
 }
 
@@ -69,25 +69,21 @@ pub extern "C" fn bridlesnow_refused_brace_run(
 }
 
 // The number of whether a text ends in a refused run.
-fn ends_number(e: Ends) -> u8
+fn ends_number(e: Result<bool, Refusal>) -> u8
     ensures { result ≡ (ends_paper e).number }
 {
     match e {
-        Ends::No => 0,
-        Ends::Yes => 0,
-        Ends::Refused(r) => base_refusals::number(r),
+        Ok(false) => 0,
+        Ok(true) => 0,
+        Err(r) => base_refusals::number(r),
     }
 }
 
 // 1 where it does.
-fn ends_kind(e: Ends) -> usize
+fn ends_kind(e: Result<bool, Refusal>) -> usize
     ensures { result ≡ ends_kind e }
 {
-    match e {
-        Ends::No => 0,
-        Ends::Yes => 1,
-        Ends::Refused(_) => 0,
-    }
+    usize::from(matches!(e, Ok(true)))
 }
 
 // Whether the text ends in such a run. Tells 1 for yes, else 0; the lookahead of the runs made.

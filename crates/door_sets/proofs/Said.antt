@@ -1,12 +1,12 @@
 -- Answers made of what the parts promise.
 -- Assumes nothing.
+use Rattle.std.specs.Prelude.{Result}
 use mathlib.Core.Path.{◌≡◌, refl, ap, ◌∙◌}
 use mathlib.Core.List.{List, [], ◌∷◌}
 use Prim.Native.Nat.{ℕ, zero, suc}
 use Rattle.base_bytes.specs.declared.Mode.{Mode}
 use Rattle.base_bytes.specs.declared.Mode.TheVariants.{Loose}
 use Rattle.text_checks.specs.Check.{check_of}
-use Rattle.base_refusals.specs.declared.Outcome.{Outcome}
 use Rattle.set_table.specs.Types.{one}
 use Rattle.set_table.specs.declared.Filled.{Filled}
 use Rattle.read_brace.specs.Brace.{read_attrs_at, place_said}
@@ -17,13 +17,14 @@ use Rattle.text_checks.specs.Outcomes.{or_else}
 use Rattle.door_shared.specs.Tells.{refused_step}
 use Rattle.door_shared.proofs.Laws.{Came, Says, set-said}
 use Rattle.door_sets.specs.Sets.{mode_of, check_by, place_behind, brace_by, brace_said, line_said, merge_said}
+use Rattle.base_refusals.specs.declared.Refusal.{Refusal}
 
 pub loose_is : (n : ℕ) → (n ≡ 0 → ⊥) → Loose ≡ mode_of n
 loose_is zero h = absurd (h refl)
 loose_is (suc n) h = refl
 
 module _ (t buf told : List ℕ) where
-  pub read_said : (x : Read) {b c : Outcome} {h p r : ℕ} {o v : List ℕ} → b ≡ check_by x.answer → c ≡ or_else b (check_of t) → h ≡ place_behind x.answer → p ≡ place_said x.answer
+  pub read_said : (x : Read) {b c : Result (Unit {0}) Refusal} {h p r : ℕ} {o v : List ℕ} → b ≡ check_by x.answer → c ≡ or_else b (check_of t) → h ≡ place_behind x.answer → p ≡ place_said x.answer
       → Came buf told c (one t) x.set (λ k. h ∷ k ∷ p ∷ []) r o v → Says buf told (brace_by t buf x) r o v
   read_said x g d y z k = rw (← y, ← z) (set-said buf told (d ∙ ap (λ j. or_else j (check_of t)) g) refl k)
 
@@ -36,7 +37,7 @@ module _ (t buf told : List ℕ) where
   unfolding line_said
   line_said_lem n f k = rw (← f) (set-said buf told refl refl k)
 
-  pub merge_said_lem : (m n : ℕ) {x y z : Filled} {d e : Outcome} {h r : ℕ} {o v : List ℕ}
+  pub merge_said_lem : (m n : ℕ) {x y z : Filled} {d e : Result (Unit {0}) Refusal} {h r : ℕ} {o v : List ℕ}
       → x ≡ parse_standalone t m → y ≡ parse_standalone t n → z ≡ merge_of (one t) x.set y.set
       → d ≡ or_else y.outcome z.outcome → e ≡ or_else x.outcome d → h ≡ refused_step x.outcome y.outcome z.outcome
       → Came buf told e (one t) z.set (λ k. h ∷ k ∷ []) r o v → Says buf told (merge_said t m n buf) r o v

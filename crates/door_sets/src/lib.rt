@@ -9,8 +9,8 @@ ghost use Rattle.door_shared.specs.Tells.{told_in};
 ghost use Rattle.door_sets.specs.Sets.{mode_of, mode_paper, check_by, place_behind, brace_by, brace_said, line_said, merge_said};
 
 use base_bytes::Mode;
-use base_refusals::{Outcome, Refusal};
-use read_brace::{Answer, Read};
+use base_refusals::Refusal;
+use read_brace::{NotRead, Read};
 
 // 0 is strict, any other number loose.
 pub fn mode_of(loose: u8) -> Mode
@@ -24,46 +24,44 @@ pub fn mode_of(loose: u8) -> Mode
 }
 
 // Why nothing was read at a brace.
-pub fn check_by(a: Answer) -> Outcome
+pub fn check_by(a: Result<usize, NotRead>) -> Result<(), Refusal>
     ensures { result ≡ check_by a }
 {
     match a {
-        Answer::Refused(r) => Outcome::Refused(r),
-        Answer::Unread(_) => Outcome::Refused(Refusal::NoReading),
-        Answer::Next(_) => Outcome::Passed,
+        Err(NotRead::Refused(r)) => Err(r),
+        Err(NotRead::Unread(_)) => Err(Refusal::NoReading),
+        Ok(_) => Ok(()),
     }
 }
 
 // The place behind what was read at a brace.
-pub fn next_of(a: Answer) -> usize
+pub fn next_of(a: Result<usize, NotRead>) -> usize
     ensures { result ≡ place_behind a }
 {
     match a {
-        Answer::Refused(_) => 0,
-        Answer::Unread(_) => 0,
-        Answer::Next(n) => n,
+        Err(NotRead::Refused(_)) => 0,
+        Err(NotRead::Unread(_)) => 0,
+        Ok(n) => n,
     }
 }
 
 // The place at which a payload with no reading went wrong.
-pub fn place_of(a: Answer) -> usize
+pub fn place_of(a: Result<usize, NotRead>) -> usize
     ensures { result ≡ place_said a }
 {
     match a {
-        Answer::Refused(_) => 0,
-        Answer::Unread(n) => n,
-        Answer::Next(_) => 0,
+        Err(NotRead::Refused(_)) => 0,
+        Err(NotRead::Unread(n)) => n,
+        Ok(_) => 0,
     }
 }
 
 // A refusal, or else what the whole text gives.
-fn or_text(c: Outcome, text: &[u8]) -> Outcome
+fn or_text(c: Result<(), Refusal>, text: &[u8]) -> Result<(), Refusal>
     ensures { result ≡ or_else c (check_of text.now) }
 {
-    match c {
-        Outcome::Refused(r) => Outcome::Refused(r),
-        Outcome::Passed => text_checks::check_text(text),
-    }
+    c?;
+    text_checks::check_text(text)
 }
 
 // Hands out what was read at a brace. Tells the place behind it, the length of its canonical text, and where a payload with no reading went wrong.

@@ -1,5 +1,6 @@
 -- Numbers told one after the other, and a set written and told.
 -- Assumes nothing.
+use Rattle.std.specs.Prelude.{Err, Ok, Result}
 use mathlib.Core.Path.{◌≡◌, refl, sym, ap, ◌∙◌}
 use mathlib.Core.List.{List, [], ◌∷◌, ◌++◌}
 use Prim.Native.Nat.{ℕ, zero, suc, ◌+◌, ◌≤◌, ◌<◌}
@@ -9,19 +10,15 @@ use lib.ListN.{length, get_or, set, take, length-set}
 use lib.Seq.{length-take-le, take_all, take-suc}
 use Rattle.base_refusals.specs.Numbers.{outcome_no}
 use Rattle.base_refusals.specs.Orders.{in_order, on_paper, order_no, met}
-use Rattle.base_refusals.specs.declared.Outcome.{Outcome}
-use Rattle.base_refusals.specs.declared.Outcome.TheVariants.{Passed, Refused}
 use Rattle.set_canon.specs.Canon.{canon}
 use Rattle.set_table.specs.Types.{Texts}
 use Rattle.set_table.specs.Rows.{meaning_of}
 use Rattle.set_table.specs.declared.Attrs.{Attrs}
 use Rattle.set_writer.specs.Write.{wrote_paper, room_order, wrote_of, content_after, or_refused}
 use Rattle.text_checks.specs.Outcomes.{or_else, or_left}
-use Rattle.set_writer.specs.declared.Wrote.{Wrote}
-use Rattle.set_writer.specs.declared.Wrote as wrotes
-use Rattle.set_writer.specs.declared.Wrote.TheVariants as wrote
 use Rattle.set_writer.proofs.Numbers.{set_no}
 use Rattle.door_shared.specs.Tells.{told_in, len_of, outcome_of, Said, set_said}
+use Rattle.base_refusals.specs.declared.Refusal.{Refusal}
 
 -- ---- telling
 
@@ -95,8 +92,8 @@ told_5 buf a b c d e p q r s z = behind buf (a ∷ b ∷ c ∷ d ∷ []) e (told
 
 -- What writing and telling came to, with the number r, `o` in the memory lent for canonical text and `v` in that for numbers: the set a over the texts t was written
 -- unless c refused it, and its length is one of the numbers told.
-pub record Came (buf told : List ℕ) (c : Outcome) (t : Texts) (a : Attrs) (tell : ℕ → List ℕ) (r : ℕ) (o v : List ℕ) : Type 0 where
-  pub wrote : Wrote
+pub record Came (buf told : List ℕ) (c : Result (Unit {0}) Refusal) (t : Texts) (a : Attrs) (tell : ℕ → List ℕ) (r : ℕ) (o v : List ℕ) : Type 0 where
+  pub wrote : Result ℕ Refusal
   pub len : ℕ
   pub writes : wrote ≡ or_refused c (wrote_of (canon (meaning_of t a)) (length buf))
   pub out : o ≡ or_left c buf (content_after buf (canon (meaning_of t a)))
@@ -105,7 +102,7 @@ pub record Came (buf told : List ℕ) (c : Outcome) (t : Texts) (a : Attrs) (tel
   pub number : r ≡ (wrote_paper wrote).number
 
 -- by what `write_out` promises, and the length and the number of its answer
-abbrev pub came : {buf told : List ℕ} {c : Outcome} {t : Texts} {a : Attrs} {tell : ℕ → List ℕ} {r : ℕ} {o v : List ℕ} {w : Wrote} {n : ℕ} {A : Type 0}
+abbrev pub came : {buf told : List ℕ} {c : Result (Unit {0}) Refusal} {t : Texts} {a : Attrs} {tell : ℕ → List ℕ} {r : ℕ} {o v : List ℕ} {w : Result ℕ Refusal} {n : ℕ} {A : Type 0}
     → record { value : w ≡ or_refused c (wrote_of (canon (meaning_of t a)) (length buf)); out_after : o ≡ or_left c buf (content_after buf (canon (meaning_of t a))); result_value : A }
     → n ≡ len_of w → v ≡ told_in told (tell n) → r ≡ (wrote_paper w).number → Came buf told c t a tell r o v
 came {w = w} {n = n} p e f g = record { wrote = w; len = n; writes = p.value; out = p.out_after; counts = e; tells = f; number = g }
@@ -116,30 +113,26 @@ module _ (buf told : List ℕ) where
   Says s r o v = record { value : r ≡ s.number; out_after : o ≡ s.out; told_after : v ≡ told_in told s.told }
 
   -- it is that of the definition, whose outcome and texts are d and u
-  pub set-said : {a : Attrs} {tell : ℕ → List ℕ} {c d : Outcome} {t u : Texts} {r : ℕ} {o v : List ℕ} → c ≡ d → t ≡ u → Came buf told c t a tell r o v → Says (set_said d u a buf tell) r o v
+  pub set-said : {a : Attrs} {tell : ℕ → List ℕ} {c d : Result (Unit {0}) Refusal} {t u : Texts} {r : ℕ} {o v : List ℕ} → c ≡ d → t ≡ u → Came buf told c t a tell r o v → Says (set_said d u a buf tell) r o v
   set-said {tell = tell} e f k =
       rw (← e, ← f) (record { value = k.number ∙ ap (λ x. (wrote_paper x).number) k.writes; out_after = k.out; told_after = k.tells ∙ ap (λ i. told_in told (tell i)) (k.counts ∙ ap len_of k.writes) })
 
 -- the number of what is written out: what is refused already, then 10
-pub out_no : (c : Outcome) (xs : List ℕ) (size : ℕ) → wrote_paper (or_refused c (wrote_of xs size)) ≡ on_paper (met c ++ room_order xs size) (length xs ∷ [])
+pub out_no : (c : Result (Unit {0}) Refusal) (xs : List ℕ) (size : ℕ) → wrote_paper (or_refused c (wrote_of xs size)) ≡ on_paper (met c ++ room_order xs size) (length xs ∷ [])
 unfolding in_order on_paper
-out_no (Refused r) xs size = refl
-out_no Passed xs size = set_no xs size
+out_no (Err r) xs size = refl
+out_no (Ok _) xs size = set_no xs size
 
 -- ---- the numbers of checks
 
 -- of two checks: the first's, else the second's
-pub first_no : (a b : Outcome) → outcome_no (or_else a b) ≡ order_no (met a ++ met b)
+pub first_no : (a b : Result (Unit {0}) Refusal) → outcome_no (or_else a b) ≡ order_no (met a ++ met b)
 unfolding in_order order_no
-first_no (Refused r) b = refl
-first_no Passed (Refused r) = refl
-first_no Passed Passed = refl
+first_no (Err r) b = refl
+first_no (Ok _) (Err r) = refl
+first_no (Ok _) (Ok _) = refl
 
 -- of what the writer refuses: that of its answer
-pub wrote_no : (w : wrotes.Wrote) → outcome_no (outcome_of w) ≡ (wrote_paper w).number
-wrote_no (wrote.Refused r) = refl
-wrote_no (wrote.Bytes n) = refl
-
--- a check that is d is promised by d's number too
-pub check_says : {c d : Outcome} {n : ℕ} → outcome_no d ≡ n → c ≡ d → (c ≡ d) × (outcome_no c ≡ n)
-check_says e p = (p, ap outcome_no p ∙ e)
+pub wrote_no : (w : Result ℕ Refusal) → outcome_no (outcome_of w) ≡ (wrote_paper w).number
+wrote_no (Err r) = refl
+wrote_no (Ok n) = refl

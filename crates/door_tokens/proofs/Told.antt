@@ -1,5 +1,6 @@
 -- What is told of a payload and of a token, made of what the parts promise.
 -- Assumes nothing.
+use Rattle.std.specs.Prelude.{Option, Some}
 use mathlib.Core.Path.{◌≡◌, refl, ◌∙◌}
 use mathlib.Core.Bool.{Bool, true}
 use mathlib.Core.List.{List, [], ◌∷◌}
@@ -14,8 +15,6 @@ use Rattle.block_tokens.specs.declared.Token.{Token}
 use Rattle.block_tokens.specs.contracts.Token as Tk
 use Rattle.block_next_token.specs.Walk.{step_at}
 use Rattle.block_next_token.proofs.Steps.{tag_not_bad}
-use Rattle.block_next_token.specs.declared.Ahead.{Ahead}
-use Rattle.block_next_token.specs.declared.Ahead.TheVariants.{Found}
 use Rattle.block_next_token.specs.declared.Step.{Step}
 use Rattle.door_shared.specs.Tells.{told_in}
 use Rattle.door_shared.proofs.Laws.{told_2, told_4}
@@ -32,5 +31,5 @@ pub step_told_lem : (m : Mode) (t : List ℕ) (at : ℕ) (buf : List ℕ) {k : M
 step_told_lem m t at buf {k} {s} {h} e f g p q r z i = rw (← e, ← f) (i, told_4 buf h.kind h.from h.to s.at p q r z ∙ rw g)
 
 -- bytes that are a token of a later variant than `Bad`
-pub not_bad : {a : Ahead} {t : Token} → a ≡ Found t → OneOf (1 ∷ 2 ∷ 3 ∷ 4 ∷ 5 ∷ 6 ∷ []) (tag_of Tk.the_type t) → true ≡ is_token a
+pub not_bad : {a : Option Token} {t : Token} → a ≡ Some t → OneOf (1 ∷ 2 ∷ 3 ∷ 4 ∷ 5 ∷ 6 ∷ []) (tag_of Tk.the_type t) → true ≡ is_token a
 not_bad {a} {t} e k = rw (e, tag_not_bad t k)

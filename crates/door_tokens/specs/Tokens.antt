@@ -1,10 +1,8 @@
 -- What a caller from C or Rust is told of a payload's place, and of the tokens that a walker gives.
-use Rattle.std.specs.Prelude.{ℕ, Bool, false, not, List, [], ◌∷◌, ltb}
+use Rattle.std.specs.Prelude.{ℕ, Bool, false, not, List, [], ◌∷◌, ltb, None, Option, Some}
 use Rattle.text_lines.specs.declared.Range.{Range}
 use Rattle.block_tokens.specs.declared.Token.{Token}
 use Rattle.block_next_token.specs.Walk.{is_bad}
-use Rattle.block_next_token.specs.declared.Ahead as aheads
-use Rattle.block_next_token.specs.declared.Ahead.TheVariants.{End, Found}
 use Rattle.block_next_token.specs.declared.Step.{Step}
 use Rattle.door_tokens.specs.declared.Shape.{Shape}
 
@@ -17,9 +15,9 @@ range_told r = r.from ∷ r.to ∷ []
 
 -- ---- "a walker that holds the text and its place gives the next token"
 
-abbrev pub is_token : aheads.Ahead → Bool
-is_token End = false
-is_token (Found t) = not (is_bad t)
+abbrev pub is_token : Option Token → Bool
+is_token None = false
+is_token (Some t) = not (is_bad t)
 
 abbrev pub shape : ℕ → ℕ → ℕ → Shape
 shape k from to = record { kind = k; from = from; to = to }
@@ -36,9 +34,9 @@ token_shape (Token.Quoted f k e) = shape 5 f k
 token_shape (Token.Bare f e) = shape 6 f e
 
 -- 7 at the end
-abbrev pub ahead_shape : aheads.Ahead → ℕ → Shape
-ahead_shape End at = shape 7 at at
-ahead_shape (Found t) at = token_shape t
+abbrev pub ahead_shape : Option Token → ℕ → Shape
+ahead_shape None at = shape 7 at at
+ahead_shape (Some t) at = token_shape t
 
 abbrev pub shape_told : Shape → ℕ → List ℕ
 shape_told s at = s.kind ∷ s.from ∷ s.to ∷ at ∷ []

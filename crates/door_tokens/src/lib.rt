@@ -8,7 +8,6 @@ ghost use Rattle.door_shared.specs.Tells.{told_in};
 ghost use Rattle.door_sets.specs.Sets.{mode_of};
 ghost use Rattle.door_tokens.specs.Tokens.{is_payload, range_told, is_token, token_shape, ahead_shape, step_told};
 
-use block_next_token::Ahead;
 use block_tokens::Token;
 
 // What stands ahead, by a number, and from where to where its name stands.
@@ -32,12 +31,12 @@ pub extern "C" fn bridlesnow_payload_at(text: &[u8], place: usize, told: &mut [u
 }
 
 // Whether a token stands ahead.
-fn is_token(ahead: Ahead) -> bool
+fn is_token(ahead: Option<Token>) -> bool
     ensures { result ≡ is_token ahead }
 {
     match ahead {
-        Ahead::End => false,
-        Ahead::Found(token) => match token {
+        None => false,
+        Some(token) => match token {
             Token::Bad(_) => false,
             _ => true,
         },
@@ -88,16 +87,16 @@ fn token_shape(token: Token) -> Shape
 }
 
 // What stands ahead in the same way; the end stands where it is.
-fn ahead_shape(ahead: Ahead, at: usize) -> Shape
+fn ahead_shape(ahead: Option<Token>, at: usize) -> Shape
     ensures { result ≡ ahead_shape ahead at }
 {
     match ahead {
-        Ahead::End => Shape {
+        None => Shape {
             kind: 7,
             from: at,
             to: at,
         },
-        Ahead::Found(token) => token_shape(token),
+        Some(token) => token_shape(token),
     }
 }
 

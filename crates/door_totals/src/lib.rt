@@ -12,58 +12,45 @@ ghost use Rattle.sheet_numbers.specs.Text.{totals_text};
 ghost use Rattle.door_shared.specs.Tells.{told_in, len_of};
 ghost use Rattle.door_totals.specs.Kept.{report_in, room_in, feed_kept, add_kept, text_kept};
 
-use base_refusals::{Outcome, Refusal};
-use set_writer::Wrote;
+use base_refusals::Refusal;
 use sheet_totals::Totals;
 
 // The report that stands in lent memory; a number for which there is no room is 0.
 fn report_in(totals: &[u64]) -> Totals
     ensures { result ≡ report_in totals.now }
 {
-    let mut t = Totals::empty();
-    let mut i: usize = 0;
-    while i < Totals::PLACES {
-        if totals.len() <= i {
-            return t;
-        }
-        t.numbers[i] = totals[i];
-        i += 1;
-    }
-    t
+    let mut numbers = [0; Totals::PLACES];
+    let n = totals.len().min(Totals::PLACES);
+    numbers[..n].copy_from_slice(&totals[..n]);
+    Totals { numbers }
 }
 
 // Whether there is room for a report.
-fn room_in(totals: &[u64]) -> Outcome
+fn room_in(totals: &[u64]) -> Result<(), Refusal>
     ensures { result ≡ room_in totals.now }
 {
     if totals.len() < Totals::PLACES {
-        return Outcome::Refused(Refusal::TotalTooLarge);
+        return Err(Refusal::TotalTooLarge);
     }
-    Outcome::Passed
+    Ok(())
 }
 
 // Lays as many numbers as there is room for.
 fn lay_numbers(t: Totals, totals: &mut [u64])
     ensures { totals.new ≡ told_in totals.old t.numbers }
 {
-    let mut i: usize = 0;
-    while i < Totals::PLACES {
-        if totals.len() <= i {
-            return;
-        }
-        totals[i] = t.numbers[i];
-        i += 1;
-    }
+    let n = totals.len().min(Totals::PLACES);
+    totals[..n].copy_from_slice(&t.numbers[..n]);
 }
 
 // Keeps a report, unless it is refused.
-fn keep(outcome: Outcome, t: Totals, totals: &mut [u64]) -> u8
+fn keep(outcome: Result<(), Refusal>, t: Totals, totals: &mut [u64]) -> u8
     ensures value { result ≡ outcome_no outcome }
     ensures totals_after { totals.new ≡ or_left outcome totals.old (told_in totals.old t.numbers) }
 {
     match outcome {
-        Outcome::Refused(why) => base_refusals::number(why),
-        Outcome::Passed => {
+        Err(why) => base_refusals::number(why),
+        Ok(()) => {
             lay_numbers(t, totals);
             0
         }
@@ -97,14 +84,12 @@ pub extern "C" fn bridlesnow_totals_add(totals: &mut [u64], more: &[u64]) -> u8
 }
 
 // Writes the text of a report, where nothing refuses it.
-fn write_text(room: Outcome, t: Totals, out: &mut [u8]) -> Wrote
+fn write_text(room: Result<(), Refusal>, t: Totals, out: &mut [u8]) -> Result<usize, Refusal>
     ensures value { result ≡ or_refused room (wrote_of (totals_text t.numbers) (length out.old)) }
     ensures out_after { out.new ≡ or_left room out.old (content_after out.old (totals_text t.numbers)) }
 {
-    match room {
-        Outcome::Refused(why) => Wrote::Refused(why),
-        Outcome::Passed => sheet_numbers::put_totals(t, out),
-    }
+    room?;
+    sheet_numbers::put_totals(t, out)
 }
 
 // Lays the text of a report: thirteen lines, name, tab and number. Tells how many bytes it has, 0 where it is refused.

@@ -1,9 +1,12 @@
 -- The cells laid one after the other, and an answer about the table, made of what the parts promise.
 -- Assumes nothing.
-use mathlib.Core.Path.{◌≡◌, sym, ◌∙◌}
+use mathlib.Core.Path.{◌≡◌, refl, sym, ◌∙◌}
+use mathlib.Core.Bool.{Bool, true, false}
 use mathlib.Core.List.{List}
-use Prim.Native.Nat.{ℕ, ◌+◌, ◌≤◌, ◌<◌}
+use Prim.Native.Nat.{ℕ, ◌+◌, ◌≤◌, ◌<◌, min}
 use native.Mathlib.Omega.{arith}
+use borrow.Author.Tests.{ltb-true, ltb-false}
+use lib.Dec.{ltb}
 use lib.ListN.{length, get_or, set, length-map, get_or-map}
 use Rattle.base_refusals.specs.Numbers.{outcome_no}
 use Rattle.sheet_valves.specs.Tables.{cell_count, unfilled, cell_no}
@@ -11,7 +14,7 @@ use Rattle.sheet_valves.specs.declared.Table.{Table}
 use Rattle.sheet_variants.specs.Variants.{cell_nos}
 use Rattle.sheet_variants.specs.declared.Variants.{Variants}
 use Rattle.door_shared.specs.Tells.{told_in}
-use Rattle.door_shared.proofs.Laws.{Laid, laid_start, laid_go, laid_end}
+use Rattle.door_shared.proofs.Laws.{Laid, laid_start, laid_go, laid_end, laid_full}
 use Rattle.door_valves.specs.Valves.{cells_in, variants_told}
 
 -- ---- the loop over the cells of t
@@ -29,8 +32,13 @@ module _ {t : Table} {buf cells : List ℕ} {i : ℕ} (long : length t.cells ≡
   pub cells_go : i < cell_count → CellsLaid t buf (set cells i (cell_no (get_or t.cells i unfilled))) (i + 1)
   cells_go h = record { laid = laid_go inv.laid (cell_no unfilled) (omega (arith, all_long)) (sym (get_or-map cell_no t.cells i unfilled)) }
 
-  pub cells_end : cell_count ≤ i → cells ≡ told_in buf (cell_nos t)
-  cells_end h = laid_end inv.laid (omega (arith, all_long))
+  -- where the room or the cells end
+  pub cells_end : min (length cells) cell_count ≤ i → cells ≡ told_in buf (cell_nos t)
+  cells_end h = go (ltb (length cells) cell_count) refl
+    where
+      go : (b : Bool) → ltb (length cells) cell_count ≡ b → cells ≡ told_in buf (cell_nos t)
+      go true e = laid_full inv.laid (omega (arith, h, ltb-true (length cells) cell_count e))
+      go false e = laid_end inv.laid (omega (arith, h, all_long, ltb-false (length cells) cell_count e))
 
 -- ---- the answer
 

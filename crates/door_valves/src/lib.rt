@@ -9,8 +9,7 @@ ghost use Rattle.sheet_variants.specs.Variants.{variants_of, variants_past, cell
 ghost use Rattle.door_shared.specs.Tells.{told_in};
 ghost use Rattle.door_valves.specs.Valves.{cells_in, variants_told};
 
-use base_refusals::Outcome;
-use sheet_valves::{Cell, Table, Valve};
+use sheet_valves::{Cell, Table};
 use sheet_variants::Variants;
 
 // A cell as a number: its valve, or 256 where it is unfilled.
@@ -19,8 +18,8 @@ fn cell_number(cell: Cell) -> u16
 {
     let valve = cell.valve;
     match valve {
-        Valve::Unfilled => 256,
-        Valve::Fitted(n) => n as u16,
+        None => 256,
+        Some(n) => n as u16,
     }
 }
 
@@ -28,13 +27,9 @@ fn cell_number(cell: Cell) -> u16
 fn lay_cells(table: Table, cells: &mut [u16])
     ensures { cells.new ≡ told_in cells.old (cell_nos table) }
 {
-    let mut i: usize = 0;
-    while i < Table::CELLS {
-        if cells.len() <= i {
-            return;
-        }
+    let n = cells.len().min(Table::CELLS);
+    for i in 0..n {
         cells[i] = cell_number(table.cells[i]);
-        i += 1;
     }
 }
 
@@ -45,8 +40,8 @@ fn hand_table(answer: Variants, cells: &mut [u16]) -> u8
 {
     let outcome = answer.outcome;
     match outcome {
-        Outcome::Refused(why) => base_refusals::number(why),
-        Outcome::Passed => {
+        Err(why) => base_refusals::number(why),
+        Ok(()) => {
             lay_cells(answer.table, cells);
             0
         }

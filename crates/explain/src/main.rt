@@ -3,9 +3,9 @@
 // arguments name, one after the other and each under a heading, and for `-` standard input.
 #![tactic(auto)]
 
-use base_refusals::Outcome;
-use sheet_files::{Sheet, System};
-use sheet_findings::{Finding, Told};
+use base_refusals::Refusal;
+use sheet_files::System;
+use sheet_findings::Finding;
 
 fn main(rt: HostRuntime) {
     let mut text = [0u8; sheet_files::TEXT];
@@ -15,35 +15,32 @@ fn main(rt: HostRuntime) {
 
 fn explain_all(rt: &impl System, text: &mut [u8], join: &mut [u8]) {
     let count = sheet_files::count(rt);
-    let mut i = 0;
-    while i < count {
+    for i in 0..count {
         explain(rt, i, text, join);
-        i += 1;
     }
 }
 
 // The findings of one sheet, where there is such a file.
 fn explain(rt: &impl System, i: usize, text: &mut [u8], join: &mut [u8]) {
     match sheet_files::read(rt, i, text) {
-        Sheet::Missing => {}
-        Sheet::Bytes(n) => explain_text(rt, set_table::bytes_of(text, 0, n), join),
+        None => {}
+        Some(n) => explain_text(rt, set_table::bytes_of(text, 0, n), join),
     }
 }
 
 // The findings of a text that passes the checks.
 fn explain_text(rt: &impl Print, text: &[u8], join: &mut [u8]) {
     match text_checks::check_text(text) {
-        Outcome::Refused(why) => sheet_files::say_refused(rt, why),
-        Outcome::Passed => write_findings(rt, text, join),
+        Err(why) => sheet_files::say_refused(rt, why),
+        Ok(()) => write_findings(rt, text, join),
     }
 }
 
-// Writes the findings one after the other. A proved loop has to end, so it counts its turns down, from a number that no sheet uses up.
+// Writes the findings one after the other. A proved loop has to end: this one goes on for more turns than any sheet needs.
 fn write_findings(rt: &impl Print, text: &[u8], join: &mut [u8]) {
     let mut at = 0;
     let mut line = 1;
-    let mut turns = u64::MAX;
-    while turns > 0 {
+    for _ in 0..u64::MAX {
         let next = sheet_findings::next_finding(text, at, join);
         let first = sum(line, next.skipped);
         let told = next.told;
@@ -52,27 +49,23 @@ fn write_findings(rt: &impl Print, text: &[u8], join: &mut [u8]) {
         }
         at = next.next;
         line = sum(first, next.lines);
-        turns -= 1;
     }
 }
 
 // The sum of two numbers, which for a sheet's lines is never too large.
 fn sum(a: usize, b: usize) -> usize {
-    if usize::MAX - a < b {
-        return usize::MAX;
-    }
-    a + b
+    a.saturating_add(b)
 }
 
 // Writes what is told of a line, and answers whether to go on.
-fn write_told(rt: &impl Print, told: Told, line: usize) -> bool {
+fn write_told(rt: &impl Print, told: Result<Option<Finding>, Refusal>, line: usize) -> bool {
     match told {
-        Told::Refused(why) => {
+        Err(why) => {
             sheet_files::say_refused(rt, why);
             false
         }
-        Told::Done => false,
-        Told::Found(finding) => write_finding(rt, finding, line),
+        Ok(None) => false,
+        Ok(Some(finding)) => write_finding(rt, finding, line),
     }
 }
 

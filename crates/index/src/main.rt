@@ -5,8 +5,8 @@
 // written where a file can't be read, an index is longer than any sheet's, or the words are others.
 #![tactic(auto)]
 
-use sheet_files::{Sheet, System};
-use sheet_index::{Built, LookUp};
+use base_refusals::Refusal;
+use sheet_files::System;
 use std::rt::Env;
 
 // No sheet has more blocks, each of which takes four bytes with its LF.
@@ -47,8 +47,8 @@ fn build(rt: &impl System, words: usize) {
     }
     let mut text = [0u8; sheet_files::TEXT];
     match sheet_files::read_plain(rt, 1, &mut text) {
-        Sheet::Missing => {}
-        Sheet::Bytes(n) => write_built(rt, set_table::bytes_of(&text, 0, n)),
+        None => {}
+        Some(n) => write_built(rt, set_table::bytes_of(&text, 0, n)),
     }
 }
 
@@ -61,10 +61,10 @@ fn write_built(rt: &impl Print, text: &[u8]) {
 }
 
 // Writes the index that was laid at the front of lent memory, or why there is none.
-fn write_index(rt: &impl Print, built: Built, out: &[u8]) {
+fn write_index(rt: &impl Print, built: Result<(usize, usize), Refusal>, out: &[u8]) {
     match built {
-        Built::Refused(why) => sheet_files::say_refused(rt, why),
-        Built::Index(_, bytes) => {
+        Err(why) => sheet_files::say_refused(rt, why),
+        Ok((_, bytes)) => {
             sheet_files::say(rt, set_table::bytes_of(out, 0, bytes));
         }
     }
@@ -79,8 +79,8 @@ fn find(rt: &impl System, words: usize) {
     let mut id = [0u8; sheet_files::WORD];
     let k = sheet_files::word(rt, 2, &mut id);
     match read_index(rt, 1, &mut index) {
-        Sheet::Missing => {}
-        Sheet::Bytes(n) => write_found(
+        None => {}
+        Some(n) => write_found(
             rt,
             sheet_index::find_record(
                 set_table::bytes_of(&index, 0, n),
@@ -91,27 +91,27 @@ fn find(rt: &impl System, words: usize) {
 }
 
 // Reads an index by its number among the arguments. One that is longer than any sheet's is no index, and no part of it is read.
-fn read_index(rt: &impl System, i: usize, index: &mut [u8]) -> Sheet {
+fn read_index(rt: &impl System, i: usize, index: &mut [u8]) -> Option<usize> {
     match sheet_files::read_plain(rt, i, index) {
-        Sheet::Missing => Sheet::Missing,
-        Sheet::Bytes(n) => {
+        None => None,
+        Some(n) => {
             if n <= INDEX {
-                return Sheet::Bytes(n);
+                return Some(n);
             }
             sheet_files::warn(rt, b"index: ");
             sheet_files::complain(rt, i, b" is longer than any sheet's index\n");
-            Sheet::Missing
+            None
         }
     }
 }
 
-fn write_found(rt: &impl Print, found: LookUp) {
+fn write_found(rt: &impl Print, found: Result<Option<(usize, usize, usize)>, Refusal>) {
     match found {
-        LookUp::Refused(why) => sheet_files::say_refused(rt, why),
-        LookUp::Missing => {
+        Err(why) => sheet_files::say_refused(rt, why),
+        Ok(None) => {
             sheet_files::say(rt, b"not found\n");
         }
-        LookUp::Row(line, count, offset) => write_row(rt, line, count, offset),
+        Ok(Some((line, count, offset))) => write_row(rt, line, count, offset),
     }
 }
 
@@ -156,10 +156,10 @@ fn mend(rt: &impl System, words: usize) {
 // A length that no file has, for one that isn't there.
 const NONE: usize = usize::MAX;
 
-fn length_of(file: Sheet) -> usize {
+fn length_of(file: Option<usize>) -> usize {
     match file {
-        Sheet::Missing => NONE,
-        Sheet::Bytes(n) => n,
+        None => NONE,
+        Some(n) => n,
     }
 }
 
@@ -189,10 +189,8 @@ fn line_number(rt: &impl Env, i: usize) -> usize {
 
 fn number(word: &[u8]) -> usize {
     let mut n = 0;
-    let mut i = 0;
-    while i < word.len() {
-        n = longer(n, word[i]);
-        i += 1;
+    for digit in word {
+        n = longer(n, *digit);
     }
     n
 }

@@ -3,9 +3,7 @@
 // reports, which are added up. Nothing is written where a file can't be read or is no report, and one line where a total would not fit.
 #![tactic(auto)]
 
-use base_refusals::Outcome;
-use set_writer::Wrote;
-use sheet_files::{Sheet, System};
+use sheet_files::System;
 use sheet_numbers::Reported;
 use sheet_totals::{Added, Totals};
 
@@ -39,25 +37,20 @@ fn count(
     let all = sheet_files::count(rt);
     let files = beyond(all, first);
     let mut totals = Totals::empty();
-    let mut i = first;
-    while i < all {
+    for i in first..all {
         let turn = one_more(rt, adds, i, totals, text, join);
         if !turn.on {
             return;
         }
         totals = turn.totals;
-        i += 1;
-        tell_progress(rt, beyond(i, first), files);
+        tell_progress(rt, beyond(i + 1, first), files);
     }
     write_report(rt, totals, out);
 }
 
 // By how much a number is beyond another.
 fn beyond(n: usize, first: usize) -> usize {
-    if n < first {
-        return 0;
-    }
-    n - first
+    n.saturating_sub(first)
 }
 
 // One file more.
@@ -70,8 +63,8 @@ fn one_more(
     join: &mut [u8],
 ) -> Turn {
     match sheet_files::read_plain(rt, i, text) {
-        Sheet::Missing => Turn { on: false, totals },
-        Sheet::Bytes(n) => {
+        None => Turn { on: false, totals },
+        Some(n) => {
             let sheet = set_table::bytes_of(text, 0, n);
             if adds {
                 return with_report(rt, i, totals, sheet_numbers::read_totals(sheet));
@@ -96,11 +89,11 @@ fn turn_of(rt: &impl Print, added: Added) -> Turn {
     let outcome = added.outcome;
     let totals = added.totals;
     match outcome {
-        Outcome::Refused(why) => {
+        Err(why) => {
             sheet_files::say_refused(rt, why);
             Turn { on: false, totals }
         }
-        Outcome::Passed => Turn { on: true, totals },
+        Ok(()) => Turn { on: true, totals },
     }
 }
 
@@ -122,8 +115,8 @@ fn tell_progress(rt: &impl System, read: usize, files: usize) {
 // Writes the thirteen lines.
 fn write_report(rt: &impl Print, totals: Totals, out: &mut [u8]) {
     match sheet_numbers::put_totals(totals, out) {
-        Wrote::Refused(_) => {}
-        Wrote::Bytes(n) => {
+        Err(_) => {}
+        Ok(n) => {
             sheet_files::say(rt, set_table::bytes_of(out, 0, n));
         }
     }

@@ -1,5 +1,6 @@
 -- Splitting at commas, and what a width's range stands for.
 -- Assumes nothing.
+use Rattle.std.specs.Prelude.{None, Option, Some}
 use mathlib.Core.Path.{◌≡◌, refl, sym, ◌∙◌, ap}
 use mathlib.Core.Bool.{Bool, true, false}
 use mathlib.Core.List.{List, map, map-map}
@@ -19,11 +20,10 @@ use Rattle.set_commas.proofs.Splits.{pieces_split, split_only}
 use Rattle.set_commas.proofs.Pieces.{cuts_pieces}
 use Rattle.set_commas.proofs.Only.{cuts_order, cuts_only}
 use Rattle.set_marks.proofs.Values.{raw_value}
-use Rattle.set_keyed.specs.declared.Keyed.{Keyed}
-use Rattle.set_keyed.specs.declared.Keyed.TheVariants.{Missing, Given}
 use Rattle.set_columns.specs.Columns.{width_at, found_widths}
 use Rattle.set_columns.specs.Inner.{found_pieces}
 use Rattle.proved_columns.specs.Columns.{SplitOnly, CutsPieces, CutsOnly, WidthsStand, width_bytes, quoted_by}
+use Rattle.set_table.specs.declared.Value.{Value}
 
 pub splits_only : SplitOnly
 splits_only s = (pieces_split s, split_only s)
@@ -62,7 +62,7 @@ widths_stand t (text.Quoted o from to) = stands t o true from to (cuts_of true (
 widths_stand t text.Empty = refl
 
 -- of the value that was found
-pub widths_found : (t : Texts) (f : Keyed) → map (width_bytes t (quoted_by f)) (found_widths t f) ≡ found_pieces t f
+pub widths_found : (t : Texts) (f : Option Value) → map (width_bytes t (quoted_by f)) (found_widths t f) ≡ found_pieces t f
 unfolding found_widths found_pieces is_quoted raw_bytes
-widths_found t Missing = refl
-widths_found t (Given v) = widths_stand t v.text ∙ ap comma_pieces (raw_value t v)
+widths_found t None = refl
+widths_found t (Some v) = widths_stand t v.text ∙ ap comma_pieces (raw_value t v)

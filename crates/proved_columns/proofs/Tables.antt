@@ -1,5 +1,6 @@
 -- The table against its three lists, by the meaning.
 -- Assumes nothing.
+use Rattle.std.specs.Prelude.{Err, Ok, Result, None}
 use mathlib.Core.Path.{◌≡◌, refl, sym, ◌∙◌, ap}
 use mathlib.Core.Bool.{Bool, true, false, cond}
 use mathlib.Core.List.{[]}
@@ -9,10 +10,9 @@ use borrow.Author.Tests.{ltb-true, ltb-false, le-ltb, lt-ltb}
 use lib.Dec.{ltb}
 use lib.ListN.{length, get_or, get_or-eq_default, get_or-map}
 use Rattle.base_lists.specs.Lists.{same}
+use Rattle.base_refusals.specs.Numbers.{passed}
 use Rattle.base_refusals.specs.declared.Refusal.{Refusal}
 use Rattle.base_refusals.specs.declared.Refusal.TheVariants.{NotWellFormed, TooManyColumns}
-use Rattle.base_refusals.specs.declared.Outcome.{Outcome}
-use Rattle.base_refusals.specs.declared.Outcome.TheVariants.{Passed, Refused}
 use Rattle.text_checks.specs.Check.{both_of}
 use Rattle.set_table.specs.Types.{Texts}
 use Rattle.set_table.specs.Rows.{meaning_of, padded}
@@ -33,7 +33,7 @@ use Rattle.proved_columns.proofs.Splits.{widths_found}
 use Rattle.proved_columns.proofs.Widths.{widths_set, widths_ok}
 
 -- ---- answers
-passed_refused : {A : Type 0} {r : Refusal} → Passed ≡ Refused r → A
+passed_refused : {A : Type 0} {r : Refusal} → passed ≡ Err r → A
 passed_refused e = let z : ◌≡◌ {A = ℕ} 0 1 = cc in absurd (omega arith)
 
 -- what is answered: a refusal with no columns, or the columns, which are few enough
@@ -49,18 +49,18 @@ answered t a = by_check (both_of t.first t.second) refl
     by_count w true e = Answer.none TooManyColumns
     by_count w false e = Answer.some w (ltb-false max_columns (count_in (meaning_of t a)) e)
 
-    by_table : both_of t.first t.second ≡ Passed → (b : Bool) → table_ok t a ≡ b → Answer t a (cond b (cond (ltb max_columns (count_in (meaning_of t a))) (none_made TooManyColumns) (made_of (columns_in t a))) (none_made NotWellFormed))
+    by_table : both_of t.first t.second ≡ Ok tt → (b : Bool) → table_ok t a ≡ b → Answer t a (cond b (cond (ltb max_columns (count_in (meaning_of t a))) (none_made TooManyColumns) (made_of (columns_in t a))) (none_made NotWellFormed))
     by_table p true q = let x = both_texts t p in by_count (formed_whole t a x.0 x.1 ∙ q) (ltb max_columns (count_in (meaning_of t a))) refl
     by_table p false q = Answer.none NotWellFormed
 
-    by_check : (o : Outcome) → both_of t.first t.second ≡ o → Answer t a (columns_by o t a)
-    by_check (Refused r) p = Answer.none r
-    by_check Passed p = by_table p (table_ok t a) refl
+    by_check : (o : Result (Unit {0}) Refusal) → both_of t.first t.second ≡ o → Answer t a (columns_by o t a)
+    by_check (Err r) p = Answer.none r
+    by_check (Ok _) p = by_table p (table_ok t a) refl
 
 pub refused_none : RefusedNone
 refused_none t a r = go (answered t a)
   where
-    go : {m : Made} → Answer t a m → m.outcome ≡ Refused r → m.table ≡ no_columns
+    go : {m : Made} → Answer t a m → m.outcome ≡ Err r → m.table ≡ no_columns
     go (Answer.none q) e = refl
     go (Answer.some w h) e = passed_refused e
 
@@ -73,7 +73,7 @@ pub table_goes : TableGoes
 unfolding table_end
 table_goes t a was e = rw e
 
-no_width : (t : Texts) (a : Attrs) (r : Refusal) → (columns_of t a).outcome ≡ Refused r → (k : ℕ) → width_in t a k ≡ width.Unset
+no_width : (t : Texts) (a : Attrs) (r : Refusal) → (columns_of t a).outcome ≡ Err r → (k : ℕ) → width_in t a k ≡ None
 no_width t a r e k = ap (λ (x : Columns). (get_or x.columns k zero_column).width) (refused_none t a r e) ∙ ap (λ (c : Column). c.width) (get_replicate max_columns k zero_column)
 
 -- ---- a table of columns
@@ -103,7 +103,7 @@ module _ (t : Texts) (a : Attrs) where
   unfolding is_free same
   bytes_at k =
       let q = quoted_by (key_found t a widths_name) in
-      sym (get_or-map (width_bytes t q) (widths_in t a) k width.Unset) ∙ ap (λ l. get_or l k []) (widths_found t (key_found t a widths_name) ∙ sym (list_found t a widths_name refl))
+      sym (get_or-map (width_bytes t q) (widths_in t a) k None) ∙ ap (λ l. get_or l k []) (widths_found t (key_found t a widths_name) ∙ sym (list_found t a widths_name refl))
 
   counted : count_in (meaning_of t a) ≡ max (length (list_in aligns_name (meaning_of t a))) (max (length (list_in valigns_name (meaning_of t a))) (length (list_in widths_name (meaning_of t a))))
   unfolding count_in
@@ -112,7 +112,7 @@ module _ (t : Texts) (a : Attrs) where
 pub columns_right : ColumnsRight
 columns_right t a = go (columns_of t a) refl (answered t a)
   where
-    go : (m : Made) → columns_of t a ≡ m → Answer t a m → (columns_of t a).outcome ≡ Passed → TableRight t a
+    go : (m : Made) → columns_of t a ≡ m → Answer t a m → (columns_of t a).outcome ≡ Ok tt → TableRight t a
     go _ z (Answer.none r) e = passed_refused (sym e ∙ ap (λ (m : Made). m.outcome) z)
     go _ z (Answer.some w h) e =
         let f : (k : ℕ) → width_in t a k ≡ (nth t a k).width = λ k. ap (λ (m : Made). (get_or m.table.columns k zero_column).width) z ∙ ap (λ (c : Column). c.width) (at t a h k) in
@@ -122,7 +122,7 @@ columns_right t a = go (columns_of t a) refl (answered t a)
           valign = λ k. rw (z, at t a h k);
           width = f;
           bytes = λ k. ap (width_bytes t (quoted_by (key_found t a widths_name))) (f k) ∙ bytes_at t a k;
-          none = λ k l. ap is_unset (f k ∙ get_or-eq_default (widths_in t a) width.Unset {n = k} (omega (arith, l, widths_few t a)));
+          none = λ k l. ap is_unset (f k ∙ get_or-eq_default (widths_in t a) None {n = k} (omega (arith, l, widths_few t a)));
           some = λ k l. ap is_unset (f k) ∙ widths_set t (key_found t a widths_name) k (omega (arith, l, widths_few t a));
           past = λ k l. rw z (at t a h k ∙ nth_past t a h k (omega (arith, long t a, rw z at l)));
         }

@@ -1,5 +1,6 @@
 -- A width's range lies on character boundaries, and a width is set exactly where its list has a piece.
 -- Assumes nothing.
+use Rattle.std.specs.Prelude.{None, Option, Some}
 use mathlib.Core.Path.{◌≡◌, refl, sym, ◌∙◌}
 use mathlib.Core.Bool.{Bool, true, false, cond, ◌&&◌}
 use mathlib.Core.List.{List, [], ◌∷◌, map}
@@ -31,8 +32,6 @@ use Rattle.set_values.specs.Values.{range_ok, text_ok, value_ok, key_ok}
 use Rattle.set_wellformed.specs.WellFormed.{well_formed}
 use Rattle.set_wellformed.proofs.Shape.{Passed, table_passed, slots_named, keyed}
 use Rattle.set_keyed.specs.Keyed.{slot_found, or_keyed, first_by, key_in, key_found}
-use Rattle.set_keyed.specs.declared.Keyed.{Keyed}
-use Rattle.set_keyed.specs.declared.Keyed.TheVariants.{Missing, Given}
 use Rattle.set_commas.specs.Commas.{cuts_of}
 use Rattle.set_commas.specs.Rules.{Parted}
 use Rattle.set_commas.proofs.Only.{cuts_order}
@@ -42,19 +41,20 @@ use Rattle.proved_texts.proofs.Utf8Boundaries.{before_ascii, after_ascii}
 use Rattle.proved_sets.proofs.WellFormedShape.{formed_parts}
 use Rattle.proved_sets.proofs.MeansUtf8.{text_utf8}
 use Rattle.proved_columns.specs.Columns.{is_unset, width_ok}
+use Rattle.set_table.specs.declared.Value.{Value}
 
 -- ---- set where the list has a piece
-set_at : (o : Origin) (base : ℕ) (rs : List PieceAt) (k : ℕ) → k < length (map (width_at o base) rs) → is_unset (get_or (map (width_at o base) rs) k width.Unset) ≡ false
+set_at : (o : Origin) (base : ℕ) (rs : List PieceAt) (k : ℕ) → k < length (map (width_at o base) rs) → is_unset (get_or (map (width_at o base) rs) k None) ≡ false
 set_at o base [] k h = absurd (omega arith)
 set_at o base (r ∷ rs) zero h = refl
 set_at o base (r ∷ rs) (suc k) h = set_at o base rs k (omega (arith, h))
 
-pub widths_set : (t : Texts) (f : Keyed) (k : ℕ) → k < length (found_widths t f) → is_unset (get_or (found_widths t f) k width.Unset) ≡ false
+pub widths_set : (t : Texts) (f : Option Value) (k : ℕ) → k < length (found_widths t f) → is_unset (get_or (found_widths t f) k None) ≡ false
 unfolding found_widths
-widths_set t Missing k h = absurd (omega arith)
-widths_set t (Given v) k h = go v.text k h
+widths_set t None k h = absurd (omega arith)
+widths_set t (Some v) k h = go v.text k h
   where
-    go : (x : texts.Text) (k : ℕ) → k < length (widths_by t x) → is_unset (get_or (widths_by t x) k width.Unset) ≡ false
+    go : (x : texts.Text) (k : ℕ) → k < length (widths_by t x) → is_unset (get_or (widths_by t x) k None) ≡ false
     go (text.Plain o from to) k h = set_at o from (cuts_of false (range_bytes t o from to)) k h
     go (text.Quoted o from to) k h = set_at o from (cuts_of true (range_bytes t o from to)) k h
     go text.Empty zero h = refl
@@ -84,7 +84,7 @@ module _ (t : Texts) (o : Origin) (base upto : ℕ) (u : is_utf8 (text_at t o) �
   unfolding range_ok
   range_ok_lem from to h a b = rw (le-leb (base + from) (base + to) (omega arith), a, b)
 
-  ranges_ok : (q : Bool) {from : ℕ} {rs : List PieceAt} → Parted q (slice base upto w) from rs → is_boundary w (base + from) ≡ true → (k : ℕ) → width_ok t (get_or (map (width_at o base) rs) k width.Unset) ≡ true
+  ranges_ok : (q : Bool) {from : ℕ} {rs : List PieceAt} → Parted q (slice base upto w) from rs → is_boundary w (base + from) ≡ true → (k : ℕ) → width_ok t (get_or (map (width_at o base) rs) k None) ≡ true
   ranges_ok q (Parted.last {from} h) a zero = range_ok_lem from (length (slice base upto w)) h.ordered a (rw long y)
   ranges_ok q (Parted.last {from} h) a (suc k) = refl
   ranges_ok q (Parted.comma {from} {to} {rs} h l e p) a zero = range_ok_lem from to h.piece.ordered a (before to 44 l e (omega arith))
@@ -92,17 +92,17 @@ module _ (t : Texts) (o : Origin) (base upto : ℕ) (u : is_utf8 (text_at t o) �
   ranges_ok q (Parted.escaped {from} {to} {rs} z h l d e p) a zero = range_ok_lem from to h.piece.ordered a (before to 92 (omega (arith, l)) d (omega arith))
   ranges_ok q (Parted.escaped {from} {to} {rs} z h l d e p) a (suc k) = ranges_ok q p (behind (to + 1) 44 l e (omega arith) (to + 2) (omega arith)) k
 
-  pub value_ok_lem : (q : Bool) (k : ℕ) → width_ok t (get_or (map (width_at o base) (cuts_of q (slice base upto w))) k width.Unset) ≡ true
+  pub value_ok_lem : (q : Bool) (k : ℕ) → width_ok t (get_or (map (width_at o base) (cuts_of q (slice base upto w))) k None) ≡ true
   value_ok_lem q k = ranges_ok q (cuts_order q (slice base upto w)) (rw (add-zero base) x) k
 
 -- ---- the value that was found is one of a row
-abbrev found_ok : Texts → Keyed → Bool
-found_ok t Missing = true
-found_ok t (Given v) = value_ok t v
+abbrev found_ok : Texts → Option Value → Bool
+found_ok t None = true
+found_ok t (Some v) = value_ok t v
 
-or_ok : (t : Texts) (a b : Keyed) → found_ok t a ≡ true → found_ok t b ≡ true → found_ok t (or_keyed a b) ≡ true
-or_ok t Missing b x y = y
-or_ok t (Given v) b x y = x
+or_ok : (t : Texts) (a b : Option Value) → found_ok t a ≡ true → found_ok t b ≡ true → found_ok t (or_keyed a b) ≡ true
+or_ok t None b x y = y
+or_ok t (Some v) b x y = x
 
 module _ (t : Texts) (s : Rows) (p : Passed t s) (n : List ℕ) where
   slot_ok : (x : Slot) → is_present s x ≡ true → found_ok t (slot_found t s.keys n x) ≡ true
@@ -111,7 +111,7 @@ module _ (t : Texts) (s : Rows) (p : Passed t s) (n : List ℕ) where
   slot_ok Class h = refl
   slot_ok (Key k) h = go (same (name_bytes t (get_or s.keys k zero_row).name) n)
     where
-      go : (b : Bool) → found_ok t (cond b (Given (get_or s.keys k zero_row).value) Missing) ≡ true
+      go : (b : Bool) → found_ok t (cond b (Some (get_or s.keys k zero_row).value) None) ≡ true
       go true = (keyed (all_at (key_ok t) zero_row s.keys p.keys k (ltb-true k (length s.keys) h))).value
       go false = refl
 
@@ -127,7 +127,7 @@ module _ (t : Texts) (a : Attrs) (e : well_formed t a ≡ true) where
   unfolding key_found key_in
   found_ok_lem n = let p = table_passed t a (formed_parts t a e).2 in first_ok t (rows_in a) p n (rows_in a).order (slots_named (rows_in a) p.slots)
 
-  text_ok_lem : (q : Bool) (o : Origin) (from to : ℕ) → range_ok t o from to ≡ true → (k : ℕ) → width_ok t (get_or (map (width_at o from) (cuts_of q (range_bytes t o from to))) k width.Unset) ≡ true
+  text_ok_lem : (q : Bool) (o : Origin) (from to : ℕ) → range_ok t o from to ≡ true → (k : ℕ) → width_ok t (get_or (map (width_at o from) (cuts_of q (range_bytes t o from to))) k None) ≡ true
   unfolding range_ok is_boundary range_bytes
   text_ok_lem q o from to h k =
       let x = both (leb from to) (is_boundary (text_at t o) from && is_boundary (text_at t o) to) h in
@@ -135,16 +135,16 @@ module _ (t : Texts) (a : Attrs) (e : well_formed t a ≡ true) where
       let z = both (leb to (length (text_at t o))) _ y.1 in
       value_ok_lem t o from to (text_utf8 t a e o) (leb-true from to x.0) (leb-true to (length (text_at t o)) z.0) y.0 y.1 q k
 
-  pub widths_ok : (n : List ℕ) (k : ℕ) → width_ok t (get_or (found_widths t (key_found t a n)) k width.Unset) ≡ true
+  pub widths_ok : (n : List ℕ) (k : ℕ) → width_ok t (get_or (found_widths t (key_found t a n)) k None) ≡ true
   unfolding found_widths text_ok value_ok
   widths_ok n k = go (key_found t a n) (found_ok_lem n)
     where
-      by : (x : texts.Text) (k : ℕ) → text_ok t x ≡ true → width_ok t (get_or (widths_by t x) k width.Unset) ≡ true
+      by : (x : texts.Text) (k : ℕ) → text_ok t x ≡ true → width_ok t (get_or (widths_by t x) k None) ≡ true
       by (text.Plain o from to) k h = text_ok_lem false o from to h k
       by (text.Quoted o from to) k h = text_ok_lem true o from to h k
       by text.Empty zero h = refl
       by text.Empty (suc k) h = refl
 
-      go : (f : Keyed) → found_ok t f ≡ true → width_ok t (get_or (found_widths t f) k width.Unset) ≡ true
-      go Missing h = refl
-      go (Given v) h = by v.text k (both (text_ok t v.text) (no_lf (value_bytes t v)) h).0
+      go : (f : Option Value) → found_ok t f ≡ true → width_ok t (get_or (found_widths t f) k None) ≡ true
+      go None h = refl
+      go (Some v) h = by v.text k (both (text_ok t v.text) (no_lf (value_bytes t v)) h).0

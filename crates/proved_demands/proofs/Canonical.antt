@@ -1,5 +1,6 @@
 -- Demand 3: canonical texts and meanings, of sets, and of the bytes that the writer leaves and the reader reads back.
 -- Assumes nothing.
+use Rattle.std.specs.Prelude.{Err, Ok, Result}
 use mathlib.Core.Path.{◌≡◌, refl, sym, ◌∙◌, ap}
 use mathlib.Core.Bool.{Bool, true, false, cond}
 use mathlib.Core.List.{List, [], ◌∷◌, ◌++◌, flat_map}
@@ -20,8 +21,6 @@ use Rattle.proved_texts.proofs.Utf8Boundaries.{ascii}
 use Rattle.base_refusals.specs.Numbers.{max_text}
 use Rattle.base_refusals.specs.declared.Refusal.TheVariants.{CanonTooLong, NotWellFormed, EmptySet}
 use Rattle.text_checks.specs.Check.{both_of}
-use Rattle.base_refusals.specs.declared.Outcome.{Outcome}
-use Rattle.base_refusals.specs.declared.Outcome.TheVariants as outcome
 use Rattle.text_checks.proofs.Texts.{is_text_lem}
 use Rattle.text_checks.specs.Outcomes.{unless, or_else}
 use Rattle.text_names.specs.Names.{is_key}
@@ -41,7 +40,6 @@ use Rattle.proved_sets.proofs.MeansUtf8.{written_utf8}
 use Rattle.proved_sets.proofs.WellFormedMeans.{means_wf, lists_wf}
 use Rattle.proved_sets.proofs.WellFormedShape.{formed_parts, both_pass, both_texts}
 use Rattle.set_writer.specs.Write.{has_room, wrote_of, content_after, writable, or_refused, attrs_wrote, attrs_content}
-use Rattle.set_writer.specs.declared.Wrote.TheVariants.{Refused, Bytes}
 use Rattle.proved_sets.specs.Limits.{class_count, key_count}
 use Rattle.proved_sets.proofs.Counts.{class_rows, key_rows, once_classes, once_keys}
 use Rattle.proved_reading.proofs.Agrees.{reads_as, lists_as}
@@ -49,6 +47,7 @@ use Rattle.proved_reading.proofs.HandedOut.{handed_out_ok}
 use Rattle.proved_demands.specs.Demands.{canon_of, CanonFits, EqualTexts, ReadsBack, CanonReadsBack}
 use Rattle.proved_demands.specs.Canonical.{WritesCanon, FitsIsWritten, BytesEqual, BytesDiffer, BytesBack, NoConstant}
 use Rattle.block_grammar.proofs.Once.{once_twice}
+use Rattle.base_refusals.specs.declared.Refusal.{Refusal}
 
 well_wf : (t : Texts) (a : Attrs) → well_formed t a ≡ true → wf (meaning_of t a) ≡ true
 well_wf t a h = means_wf t a (formed_parts t a h).2
@@ -59,16 +58,16 @@ texts_equal t t' a a' f f' =
     (same_text (meaning_of t a) (meaning_of t' a') (well_wf t a f.well) (well_wf t' a' f'.well), same-meaning (meaning_of t a) (meaning_of t' a'))
 
 -- ======== what the writer leaves in the buffer
-all-passed : (c : Outcome) (o s : Bool) → or_else c (or_else (unless NotWellFormed o) (unless EmptySet s)) ≡ outcome.Passed → (c ≡ outcome.Passed) × ((o ≡ true) × (s ≡ true))
-all-passed (outcome.Refused r) o s e = contra true refl (cc)
-all-passed outcome.Passed false s e = contra true refl (cc)
-all-passed outcome.Passed true false e = contra true refl (cc)
-all-passed outcome.Passed true true e = (refl, (refl, refl))
+all-passed : (c : Result (Unit {0}) Refusal) (o s : Bool) → or_else c (or_else (unless NotWellFormed o) (unless EmptySet s)) ≡ Ok tt → (c ≡ Ok tt) × ((o ≡ true) × (s ≡ true))
+all-passed (Err r) o s e = contra true refl (cc)
+all-passed (Ok _) false s e = contra true refl (cc)
+all-passed (Ok _) true false e = contra true refl (cc)
+all-passed (Ok _) true true e = (refl, (refl, refl))
 
-was_counted : (c : Outcome) (r : Bool) {k n : ℕ} → or_refused c (cond r (Bytes k) (Refused CanonTooLong)) ≡ Bytes n → (c ≡ outcome.Passed) × ((r ≡ true) × (n ≡ k))
-was_counted (outcome.Refused r) b e = contra true refl (cc)
-was_counted outcome.Passed false e = contra true refl (cc)
-was_counted outcome.Passed true e = (refl, (refl, cc))
+was_counted : (c : Result (Unit {0}) Refusal) (r : Bool) {k n : ℕ} → or_refused c (cond r (Ok k) (Err CanonTooLong)) ≡ Ok n → (c ≡ Ok tt) × ((r ≡ true) × (n ≡ k))
+was_counted (Err r) b e = contra true refl (cc)
+was_counted (Ok _) false e = contra true refl (cc)
+was_counted (Ok _) true e = (refl, (refl, cc))
 
 pub wrote : WritesCanon
 unfolding attrs_wrote attrs_content writable wrote_of content_after has_room well_formed

@@ -1,5 +1,6 @@
 -- Demands 1 and 2, and what document 01 wants proved: mostly by theorems of the crates below.
 -- Assumes nothing.
+use Rattle.std.specs.Prelude.{Err, Ok, Result}
 use mathlib.Core.Path.{◌≡◌, refl, sym}
 use mathlib.Core.Bool.{Bool, true, false, cond}
 use mathlib.Core.List.{List, [], ◌∷◌, map}
@@ -13,8 +14,6 @@ use Rattle.base_refusals.specs.Numbers.{max_text, too_long}
 use Rattle.base_refusals.specs.declared.Refusal.{Refusal}
 use Rattle.base_refusals.specs.declared.Refusal.TheVariants.{TextTooLong, NothingThere, JoinFull, CanonTooLong}
 use Rattle.base_refusals.proofs.Numbers.{number_among, number_own, eight_unused}
-use Rattle.base_refusals.specs.declared.Outcome.{Outcome}
-use Rattle.base_refusals.specs.declared.Outcome.TheVariants as outcome
 use Rattle.text_lines.specs.Lines.{lines}
 use Rattle.text_checks.specs.Check.{is_text}
 use Rattle.text_checks.specs.Outcomes.{or_left}
@@ -29,7 +28,6 @@ use Rattle.set_table.specs.declared.Filled.{Filled}
 use Rattle.set_table.specs.Filled.{refusing}
 use Rattle.set_wellformed.specs.WellFormed.{well_formed}
 use Rattle.set_writer.specs.Write.{has_room, wrote_of, content_after, writable, or_refused, attrs_wrote, attrs_content}
-use Rattle.set_writer.specs.declared.Wrote.TheVariants as wrote
 use Rattle.set_merge.specs.Merge.{merge_of}
 use Rattle.set_lent.proofs.Standing.{refused_stands}
 use Rattle.run_lines.specs.Runs.{as_is, run_at}
@@ -115,17 +113,17 @@ no_set =
 
 -- ======== lent memory
 
-writer_leaves : (t : Texts) (a : Attrs) (buf : List ℕ) (r : Refusal) → attrs_wrote t a (length buf) ≡ wrote.Refused r → attrs_content t a buf ≡ buf
+writer_leaves : (t : Texts) (a : Attrs) (buf : List ℕ) (r : Refusal) → attrs_wrote t a (length buf) ≡ Err r → attrs_content t a buf ≡ buf
 unfolding attrs_wrote attrs_content wrote_of content_after
 writer_leaves t a buf r = go (writable t a) (has_room (length buf) (length xs))
   where
     xs : List ℕ
     xs = canon (meaning_of t a)
 
-    go : (c : Outcome) (b : Bool) → or_refused c (cond b (wrote.Bytes (length xs)) (wrote.Refused CanonTooLong)) ≡ wrote.Refused r → or_left c buf (cond b (over xs buf) buf) ≡ buf
-    go (outcome.Refused q) b e = refl
-    go outcome.Passed false e = refl
-    go outcome.Passed true e = contra true refl (cc)
+    go : (c : Result (Unit {0}) Refusal) (b : Bool) → or_refused c (cond b (Ok (length xs)) (Err CanonTooLong)) ≡ Err r → or_left c buf (cond b (over xs buf) buf) ≡ buf
+    go (Err q) b e = refl
+    go (Ok _) false e = refl
+    go (Ok _) true e = contra true refl (cc)
 
 pub left_as_stated : LeftAsStated
 unfolding join_holds
@@ -200,9 +198,9 @@ rows_zero =
 merge_well : (t : Texts) (a b : Attrs) → is_text t.first ≡ true → is_text t.second ≡ true → well_formed t (merge_of t a b).set ≡ true
 merge_well t a b h u = go (merge_of t a b).outcome refl
   where
-    go : (o : Outcome) → (merge_of t a b).outcome ≡ o → well_formed t (merge_of t a b).set ≡ true
-    go outcome.Passed e = (merge_gives t a b e).formed
-    go (outcome.Refused r) e = rw (filled_empty (refusals_empty.merge t a b) e) (empty_over t.first h t.second u)
+    go : (o : Result (Unit {0}) Refusal) → (merge_of t a b).outcome ≡ o → well_formed t (merge_of t a b).set ≡ true
+    go (Ok _) e = (merge_gives t a b e).formed
+    go (Err r) e = rw (filled_empty (refusals_empty.merge t a b) e) (empty_over t.first h t.second u)
 
 pub sets-well_formed : SetsWellFormed
 sets-well_formed =

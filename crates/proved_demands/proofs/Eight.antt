@@ -1,5 +1,6 @@
 -- No reading and no merge gave 8: the set that it hands out has at most 66 slots.
 -- Assumes nothing.
+use Rattle.std.specs.Prelude.{Err, Ok, Result}
 use mathlib.Core.Bool.{Bool, true, false, cond}
 use mathlib.Core.List.{List, [], ◌∷◌}
 use Prim.Native.Nat.{ℕ, ◌≤◌}
@@ -9,12 +10,8 @@ use lib.ListN.{length}
 use Rattle.base_bytes.specs.declared.Mode.TheVariants.{Loose}
 use Rattle.base_refusals.specs.Numbers.{max_text, too_long, number_of, outcome_no}
 use Rattle.base_refusals.specs.declared.Refusal.TheVariants.{TextTooLong, NothingThere, JoinFull}
-use Rattle.base_refusals.specs.declared.Outcome.{Outcome}
-use Rattle.base_refusals.specs.declared.Outcome.TheVariants as outcome
 use Rattle.base_refusals.proofs.Numbers.{number_among}
 use Rattle.text_line_start.specs.Starts.{start_at, on_start, place_of}
-use Rattle.text_line_start.specs.declared.Start as starts
-use Rattle.text_line_start.specs.declared.Start.TheVariants as start
 use Rattle.block_trimmed_line.specs.Fronts.{front_of, opens_at}
 use Rattle.set_table.specs.Types.{max_slots}
 use Rattle.set_table.specs.Filled.{refusing}
@@ -33,6 +30,7 @@ use Rattle.proved_sets.specs.Eight.{NeverEight}
 use Rattle.proved_sets.proofs.Eight.{never_eight, outcome_eight, never_given, few_slots, sets_never_given}
 use Rattle.proved_reading.proofs.Meaning.{tidy, up_to_seven}
 use Rattle.proved_demands.specs.Eight.{NeverOfBlock, ReadingNeverEight, MergeNeverEight}
+use Rattle.base_refusals.specs.declared.Refusal.{Refusal}
 
 -- ---- a line
 
@@ -44,9 +42,9 @@ line_few t n = go (start_at t n)
     read at true = few_slots.chain Loose t (front_of t at).from (front_of t at).to
     read at false = omega arith
 
-    go : (s : starts.Start) → (on_start refusing (line_read t) s).set.norder ≤ max_slots
-    go (start.Refused r) = omega arith
-    go (start.At at) = read at (opens_at t at)
+    go : (s : Result ℕ Refusal) → (on_start refusing (line_read t) s).set.norder ≤ max_slots
+    go (Err r) = omega arith
+    go (Ok at) = read at (opens_at t at)
 
 -- ---- a block or a run, whatever was found
 
@@ -90,9 +88,9 @@ lent_never : (was : Attrs) (f : Filled) → f.set.norder ≤ max_slots → Never
 unfolding end_of
 lent_never was f h = go f.outcome
   where
-    go : (o : Outcome) → NeverEight (outcome_no o) (standing o was f.set)
-    go outcome.Passed = never_eight 0 f.set (λ e. omega (arith, e)) (λ z. h)
-    go (outcome.Refused r) = never_eight (number_of r) was (outcome_eight (outcome.Refused r)) (λ e. omega (arith, e, (number_among r).0))
+    go : (o : Result (Unit {0}) Refusal) → NeverEight (outcome_no o) (standing o was f.set)
+    go (Ok _) = never_eight 0 f.set (λ e. omega (arith, e)) (λ z. h)
+    go (Err r) = never_eight (number_of r) was (outcome_eight (Err r)) (λ e. omega (arith, e, (number_among r).0))
 
 pub merge_never_eight : MergeNeverEight
 unfolding lent_both

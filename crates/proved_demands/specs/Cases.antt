@@ -1,5 +1,5 @@
 -- The texts whose answers are proved byte for byte: of document 01 the twelve of 'Cases on both sides' and the example of 'The sheet program', and those whose payload goes wrong at a place.
-use Rattle.std.specs.Prelude.{◌≡◌, List, [], ◌∷◌, ◌++◌, map, ℕ, length}
+use Rattle.std.specs.Prelude.{◌≡◌, List, [], ◌∷◌, ◌++◌, map, ℕ, length, Err, Ok, Result}
 use Prim.Native.String.{String}
 use Rattle.base_bytes.specs.Bytes.{open_brace, close_brace}
 use Rattle.base_bytes.specs.declared.Mode.TheVariants.{Strict}
@@ -8,8 +8,8 @@ use Rattle.set_canon.specs.Canon.{canon}
 use Rattle.set_table.specs.Types.{one}
 use Rattle.set_table.specs.Rows.{meaning_of}
 use Rattle.read_brace.specs.Brace.{brace_paper, read_attrs_at}
-use Rattle.read_brace.specs.declared.Answer.{Answer}
-use Rattle.read_brace.specs.declared.Answer.TheVariants.{Refused, Unread, Next}
+use Rattle.read_brace.specs.declared.NotRead.{NotRead}
+use Rattle.read_brace.specs.declared.NotRead.TheVariants.{Refused, Unread}
 use Rattle.sheet_report.specs.Report.{report}
 use Rattle.proved_places.specs.Places.{place_cases}
 use Rattle.proved_demands.specs.Typed.{typed}
@@ -58,15 +58,15 @@ the_twelve =
     []
 
 -- what `read_attrs_at` answers at byte 0 of a text
-abbrev pub behind_read : Answer → ℕ
-behind_read (Refused r) = 0
-behind_read (Unread n) = 0
-behind_read (Next n) = n
+abbrev pub behind_read : Result ℕ NotRead → ℕ
+behind_read (Err (Refused r)) = 0
+behind_read (Err (Unread n)) = 0
+behind_read (Ok n) = n
 
-abbrev pub canon_read : Answer → List Entry → List ℕ
-canon_read (Refused r) m = []
-canon_read (Unread n) m = []
-canon_read (Next n) m = canon m
+abbrev pub canon_read : Result ℕ NotRead → List Entry → List ℕ
+canon_read (Err (Refused r)) m = []
+canon_read (Err (Unread n)) m = []
+canon_read (Ok n) m = canon m
 
 abbrev pub answered : List ℕ → Listed
 answered t =
@@ -84,7 +84,7 @@ TwelveCases = map (λ c. answered c.given) the_twelve ≡ the_twelve
 
 -- the list of proved_places/specs/Places, each payload between braces behind a front
 abbrev pub PlacesBehind : List ℕ → Type 0
-PlacesBehind front = map (λ c. (read_attrs_at Strict (front ++ (open_brace ∷ (c.bytes ++ (close_brace ∷ [])))) (length front)).answer) place_cases ≡ map (λ c. Unread c.place) place_cases
+PlacesBehind front = map (λ c. (read_attrs_at Strict (front ++ (open_brace ∷ (c.bytes ++ (close_brace ∷ [])))) (length front)).answer) place_cases ≡ map (λ c. Err (Unread c.place)) place_cases
 
 -- strict, at byte 0; and counted from behind the brace, wherever it stands
 pub record PlacesAtBraces : Type 0 where

@@ -1,15 +1,13 @@
 -- What is demanded, in statements that are proved: the page to read first. Each stands under the sentence that it renders, in quotes, of document 01 (docs/SCOPE.md) or of one of its
 -- three demands. `Canonical` beside this page says demand 3 again of the bytes that calls write, and `Cases` has the twelve cases and the example; the other crates
 -- proved_* state the theorems of their subjects. A statement's proof is in proofs/Demands.antt, under its name with hyphens, or in proofs/Single.antt and proofs/Canonical.antt.
-use Rattle.std.specs.Prelude.{◌≡◌, true, false, not, List, [], map, ℕ, suc, ◌+◌, ◌<◌, ◌≤◌, eqb, length, take, drop}
+use Rattle.std.specs.Prelude.{◌≡◌, true, false, not, List, [], map, ℕ, suc, ◌+◌, ◌<◌, ◌≤◌, eqb, length, take, drop, Err, Result, Ok}
 use Rattle.base_lists.specs.Lists.{all, run, over}
 use Rattle.base_bytes.specs.Bytes.{space, tab}
 use Rattle.base_bytes.specs.declared.Mode.{Mode}
 use Rattle.base_bytes.specs.declared.Mode.TheVariants.{Strict}
 use Rattle.base_refusals.specs.Numbers.{max_text, last_number, number_of}
 use Rattle.base_refusals.specs.declared.Refusal.{Refusal}
-use Rattle.base_refusals.specs.declared.Outcome.{Outcome}
-use Rattle.base_refusals.specs.declared.Outcome.TheVariants as outcome
 use Rattle.text_utf8.specs.Computed.{is_utf8}
 use Rattle.text_utf8.specs.Utf8.{char_count}
 use Rattle.proved_texts.specs.Utf8Rules.{WellFormed}
@@ -35,14 +33,13 @@ use Rattle.set_table.specs.declared.Filled.{Filled}
 use Rattle.set_fill.specs.Fill.{chain_at}
 use Rattle.set_wellformed.specs.WellFormed.{well_formed}
 use Rattle.set_writer.specs.Write.{attrs_wrote, attrs_content}
-use Rattle.set_writer.specs.declared.Wrote.TheVariants as wrote
 use Rattle.set_merge.specs.Merge.{merge_of}
 use Rattle.set_lent.specs.Lent.{end_of}
 use Rattle.run_lines.specs.Runs.{as_is, run_at, sizes}
 use Rattle.run_refused.specs.Refused.{refused_run}
 use Rattle.run_endings.specs.Endings.{ends_in}
 use Rattle.read_brace.specs.Brace.{brace_paper, read_attrs_at}
-use Rattle.read_brace.specs.declared.Answer.TheVariants as answer
+use Rattle.read_brace.specs.declared.NotRead.TheVariants as answer
 use Rattle.read_blocks.specs.Blocks.{Found, joined_in, lookahead_of, join_holds, texts_in, block_of}
 use Rattle.read_blocks.specs.ByLine.{block_found, wrapped_found}
 use Rattle.read_by_line.specs.Entries.{parse_standalone}
@@ -97,8 +94,8 @@ pub record Numbered : Type 0 where
   pub merging : MergeNeverEight
 
 -- "hands out no set": where the outcome is a refusal, the set beside it is the empty one
-abbrev pub NoneIfRefused : Outcome → Attrs → Type 0
-NoneIfRefused o a = (r : Refusal) → o ≡ outcome.Refused r → a ≡ empty_set
+abbrev pub NoneIfRefused : Result (Unit {0}) Refusal → Attrs → Type 0
+NoneIfRefused o a = (r : Refusal) → o ≡ Err r → a ≡ empty_set
 
 pub record NoSet : Type 0 where
   -- `read_attrs_at`: with every number above 0, be there a place with it or not
@@ -120,13 +117,13 @@ pub record LeftAsStated : Type 0 where
   pub front : (buf : List ℕ) (f : Found) → take (length (joined_in f)) (join_holds buf f) ≡ joined_in f
   pub rest : (buf : List ℕ) (f : Found) → drop (length (joined_in f)) (join_holds buf f) ≡ drop (length (joined_in f)) buf
   -- "A refusal touches no other lent memory": `write_attrs`
-  pub writer : (t : Texts) (a : Attrs) (buf : List ℕ) (r : Refusal) → attrs_wrote t a (length buf) ≡ wrote.Refused r → attrs_content t a buf ≡ buf
+  pub writer : (t : Texts) (a : Attrs) (buf : List ℕ) (r : Refusal) → attrs_wrote t a (length buf) ≡ Err r → attrs_content t a buf ≡ buf
   -- `report_start`: 9 and 10, and 1 and 2 where the longest line has no room; else "For 1 or 2 the only output is `refused`, 0, 0, number."
-  pub start : (t out : List ℕ) (cap : ℕ) (r : Refusal) → (start_of t cap (length out)).told ≡ told.Refused r → over (start_of t cap (length out)).text out ≡ over (refused_lays t (length out) r) out
+  pub start : (t out : List ℕ) (cap : ℕ) (r : Refusal) → (start_of t cap (length out)).told ≡ Err r → over (start_of t cap (length out)).text out ≡ over (refused_lays t (length out) r) out
   -- `report_part`
-  pub part : (t out : List ℕ) (at n cap : ℕ) (r : Refusal) → (part_of t at n cap (length out)).told ≡ told.Refused r → over (part_of t at n cap (length out)).text out ≡ out
+  pub part : (t out : List ℕ) (at n cap : ℕ) (r : Refusal) → (part_of t at n cap (length out)).told ≡ Err r → over (part_of t at n cap (length out)).text out ≡ out
   -- "a merge's target included": `merge_into` and `merge_leading_into`, which leave `end_of` what the set was and what the merge came to
-  pub target : (was : Attrs) (f : Filled) (r : Refusal) → f.outcome ≡ outcome.Refused r → end_of was f ≡ was
+  pub target : (was : Attrs) (f : Filled) (r : Refusal) → f.outcome ≡ Err r → end_of was f ≡ was
 
 -- ======== Demand 2: "Reading, line counts and merging equal the original on the scope's domain, and are proved against the payload grammar, RFC 3629 and CommonMark 0.31.2"
 --
@@ -275,7 +272,7 @@ EqualTexts = (t t' : Texts) (a a' : Attrs) → CanonFits t a → CanonFits t' a'
 
 -- "a canonical text reads back, to its last byte, with that meaning": by `read_attrs_at` at byte 0; and what was read may be written, and is written as it stood
 pub record ReadsBack (c : List ℕ) (m : List Entry) : Type 0 where
-  pub answer : (read_attrs_at Strict c 0).answer ≡ answer.Next (length c)
+  pub answer : (read_attrs_at Strict c 0).answer ≡ Ok (length c)
   pub means : meaning_of (one c) (read_attrs_at Strict c 0).set ≡ m
   -- "reading back gives each class once" (document 02): the set lists what the meaning has
   pub lists : listed_of (one c) (read_attrs_at Strict c 0).set ≡ m

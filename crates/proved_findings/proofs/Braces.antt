@@ -1,5 +1,6 @@
 -- Every line that opens with a brace and is no block has a finding.
 -- Assumes nothing.
+use Rattle.std.specs.Prelude.{Err, None, Ok, Option, Result, Some}
 use mathlib.Core.Path.{◌≡◌, refl, sym, ◌∙◌, ap}
 use mathlib.Core.Bool.{Bool, true, false, cond, not}
 use mathlib.Core.List.{List, [], ◌∷◌, map}
@@ -12,8 +13,6 @@ use lib.Seq.{slice, take_all}
 use Rattle.base_lists.proofs.More.{contra}
 use Rattle.base_refusals.specs.declared.Refusal.{Refusal}
 use Rattle.base_refusals.specs.declared.Refusal.TheVariants.{NoReading, NothingThere, JoinFull}
-use Rattle.base_refusals.specs.declared.Outcome as outcomes
-use Rattle.base_refusals.specs.declared.Outcome.TheVariants as outcome
 use Rattle.text_lines.specs.Lines.{lines, line_from, line_at}
 use Rattle.text_lines.specs.Trim.{trim}
 use Rattle.text_lines.proofs.Lines.{line_at_lem}
@@ -23,8 +22,6 @@ use Rattle.block_faults.specs.declared.Fault as faults
 use Rattle.block_faults.specs.declared.Fault.TheVariants as fault
 use Rattle.block_faults.specs.Faults.{is_good, fault_from}
 use Rattle.block_faults.proofs.Goods.{good_line_lem}
-use Rattle.block_grammar.specs.declared.Place.{Place}
-use Rattle.block_grammar.specs.declared.Place.TheVariants.{Nothing, At}
 use Rattle.block_trimmed_line.specs.Fronts.{front_of, opens_at}
 use Rattle.block_trimmed_line.proofs.Trimmed.{opens-trim, front_slice, line_is}
 use Rattle.run_scanners.specs.Scanners.{holds_open}
@@ -50,19 +47,19 @@ open_found : (s : List ℕ) (at : ℕ) → is_clear (open_finding s at).kind ≡
 unfolding open_finding
 open_found s at = go (quote_left s at)
   where
-    go : (p : Place) → is_clear (open_by at p).kind ≡ false
-    go Nothing = refl
-    go (At p) = refl
+    go : (p : Option ℕ) → is_clear (open_by at p).kind ≡ false
+    go None = refl
+    go (Some p) = refl
 
 chain_found : (s : List ℕ) (from : ℕ) → is_good (fault_from (drop from s) 0 from) ≡ false → is_clear (chain_finding s from).kind ≡ false
 unfolding chain_finding
 chain_found s from = go (fault_from (drop from s) 0 from)
   where
-    go : (f : faults.Fault) → is_good f ≡ false → is_clear (chain_by s f).kind ≡ false
-    go fault.Good e = contra true refl e
-    go (fault.Behind i) e = refl
-    go (fault.Open i) e = open_found s i
-    go (fault.Wrong i) e = refl
+    go : (f : Option faults.Fault) → is_good f ≡ false → is_clear (chain_by s f).kind ≡ false
+    go None e = contra true refl e
+    go (Some (fault.Behind i)) e = refl
+    go (Some (fault.Open i)) e = open_found s i
+    go (Some (fault.Wrong i)) e = refl
 
 -- ---- a run that is closed has joined a line, and a byte
 
@@ -71,7 +68,7 @@ text_grows cap =
     run_by_lem cap (λ so ls R. length so.text ≤ length R.text) (λ so ls. omega arith) (λ so l ls f. omega arith) (λ so ls. omega arith)
     (λ so l ls R p f ih. omega (arith, ih, length-append so.text (added (eqb so.lines 0) l.line)))
 
-first_run : (cap : ℕ) (l : Lined) (ls : List Lined) → 0 < length (trim l.line) → (run_from cap (start 0) (l ∷ ls)).stop ≡ outcome.Passed
+first_run : (cap : ℕ) (l : Lined) (ls : List Lined) → 0 < length (trim l.line) → (run_from cap (start 0) (l ∷ ls)).stop ≡ Ok tt
     → (0 < length (run_from cap (start 0) (l ∷ ls)).text) × (0 < (run_from cap (start 0) (l ∷ ls)).lines)
 unfolding run_from
 first_run cap l ls h = go (may_join so l) (is_full cap so l) (is_closing l.line (holds_open next.text)) (text_grows cap next ls) (took cap next ls).counted
@@ -83,9 +80,9 @@ first_run cap l ls h = go (may_join so l) (is_full cap so l) (is_closing l.line 
     next = after so l
 
     R : Bool → Bool → Bool → Run
-    R x y z = cond x (cond y (ended (outcome.Refused JoinFull) so) (cond z (ended outcome.Passed next) (run_from cap next ls))) (ended (outcome.Refused NoReading) so)
+    R x y z = cond x (cond y (ended (Err JoinFull) so) (cond z (ended (Ok tt) next) (run_from cap next ls))) (ended (Err NoReading) so)
 
-    go : (x y z : Bool) → length next.text ≤ length (run_from cap next ls).text → (run_from cap next ls).lines ≡ next.lines + (took cap next ls).n → (R x y z).stop ≡ outcome.Passed
+    go : (x y z : Bool) → length next.text ≤ length (run_from cap next ls).text → (run_from cap next ls).lines ≡ next.lines + (took cap next ls).n → (R x y z).stop ≡ Ok tt
         → (0 < length (R x y z).text) × (0 < (R x y z).lines)
     go false y z w v e = contra true refl (cc)
     go true true z w v e = contra true refl (cc)
@@ -100,7 +97,7 @@ trim_some t at o = go (trim (line_at t at)) (opens-trim (line_at t at) ∙ o)
     go [] e = contra false e refl
     go (b ∷ s) e = omega arith
 
-closed_some : (t : List ℕ) (cap at : ℕ) → at < length t → opens_at t at ≡ true → (run_at cap 0 t at).stop ≡ outcome.Passed → (0 < length (run_at cap 0 t at).text) × (0 < (run_at cap 0 t at).lines)
+closed_some : (t : List ℕ) (cap at : ℕ) → at < length t → opens_at t at ≡ true → (run_at cap 0 t at).stop ≡ Ok tt → (0 < length (run_at cap 0 t at).text) × (0 < (run_at cap 0 t at).lines)
 unfolding run_at
 closed_some t cap at h o =
     rw (line_at_lem t at h) (first_run cap (as_is (slice at (line_from t at).to t)) (map as_is (lines (drop (line_from t at).next t))) (rw (line_is t at) at (trim_some t at o)))
@@ -115,19 +112,19 @@ module _ (t : List ℕ) (cap at : ℕ) (h : at < length t) (o : opens_at t at �
       go false e = leb-false (length (take (front_of t at).to t)) (front_of t at).from e
       go true e = absurd (omega (arith, trim_some t at o, ap length (sym (front_slice t at o) ∙ drop_of_length-le (take (front_of t at).to t) (leb-true (length (take (front_of t at).to t)) (front_of t at).from e))))
 
-  stop_found : (s : Stop) (from : ℕ) (a : replies.RunReply) → is_clear (stop_finding s from (left_kind a)).kind ≡ false
+  stop_found : (s : Stop) (from : ℕ) (a : Result replies.RunReply Refusal) → is_clear (stop_finding s from (left_kind a)).kind ≡ false
   unfolding stop_finding
   stop_found s from a = go s.why a
     where
-      go : (w : whys.Why) (a : replies.RunReply) → is_clear (stop_by s from (left_kind a) w).kind ≡ false
+      go : (w : whys.Why) (a : Result replies.RunReply Refusal) → is_clear (stop_by s from (left_kind a) w).kind ≡ false
       go why.End a = refl
       go why.Blank a = refl
       go why.Quoted a = refl
       go why.Entries a = refl
-      go why.Left (reply.No n) = refl
-      go why.Left (reply.Lines n) = refl
-      go why.Left reply.NoEnd = refl
-      go why.Left (reply.Refused r) = refl
+      go why.Left (Ok (reply.No n)) = refl
+      go why.Left (Ok (reply.Lines n)) = refl
+      go why.Left (Ok reply.NoEnd) = refl
+      go why.Left (Err r) = refl
 
   joined-found : (n : ℕ) (s : List ℕ) → 0 < length s → good_line s 0 (length s) ≡ false → is_clear (joined_finding t at n s).kind ≡ false
   unfolding joined_finding
@@ -144,9 +141,9 @@ module _ (t : List ℕ) (cap at : ℕ) (h : at < length t) (o : opens_at t at �
       closed true e w z = absurd (omega (arith, w.1, z))
       closed false e w z = joined-found r.lines r.text w.0 e
 
-      go : (x : outcomes.Outcome) → r.stop ≡ x → lines_of (ended_run r x) ≡ 0 → is_clear (run_by t cap at from r x).kind ≡ false
-      go outcome.Passed e z = closed (good_line r.text 0 (length r.text)) refl (closed_some t cap at h o e) z
-      go (outcome.Refused q) e z = stop_found (stop_at t at r.lines) from (refused_at cap t at).answer
+      go : (x : Result (Unit {0}) Refusal) → r.stop ≡ x → lines_of (ended_run r x) ≡ 0 → is_clear (run_by t cap at from r x).kind ≡ false
+      go (Ok _) e z = closed (good_line r.text 0 (length r.text)) refl (closed_some t cap at h o e) z
+      go (Err q) e z = stop_found (stop_at t at r.lines) from (refused_at cap t at).answer
 
   fault_found : lines_of (found t at 0 cap) ≡ 0 → is_clear (fault_finding t cap at).kind ≡ false
   unfolding found fault_finding

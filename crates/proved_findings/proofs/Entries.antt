@@ -15,7 +15,6 @@ use Rattle.base_lists.proofs.Parts.{slice_part}
 use Rattle.base_lists.proofs.Scan.{both}
 use Rattle.base_bytes.specs.declared.Mode.TheVariants.{Loose}
 use Rattle.text_names.specs.Longest.{CanGoOn, Longest}
-use Rattle.text_names.specs.declared.Tested.TheVariants.{Whole, Stops}
 use Rattle.text_lines.specs.Lines.{line_at}
 use Rattle.text_lines.proofs.Trim.{core_is}
 use Rattle.block_grammar.specs.Grammar.{Reading}

@@ -13,8 +13,6 @@ use lib.Seq.{slice}
 use Rattle.base_lists.specs.Lists.{same}
 use Rattle.base_lists.proofs.More.{contra}
 use Rattle.base_refusals.specs.Numbers.{max_text}
-use Rattle.base_refusals.specs.declared.Outcome as outcomes
-use Rattle.base_refusals.specs.declared.Outcome.TheVariants as outcome
 use Rattle.text_lines.specs.Lines.{ranges}
 use Rattle.run_lines.specs.Runs.{past_lines}
 use Rattle.read_lengths.specs.Lengths.{flush_left}

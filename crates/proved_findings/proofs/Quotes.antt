@@ -1,5 +1,6 @@
 -- The quote that is told as left open.
 -- Assumes nothing.
+use Rattle.std.specs.Prelude.{None, Option, Some}
 use mathlib.Core.Path.{◌≡◌, refl, sym, ◌∙◌, ap}
 use mathlib.Core.Bool.{Bool, true, false, cond}
 use mathlib.Core.List.{List, [], ◌∷◌}
@@ -14,35 +15,31 @@ use Rattle.base_lists.proofs.More.{contra}
 use Rattle.base_lists.proofs.Parts.{slice_add}
 use Rattle.base_bytes.specs.Bytes.{is_quote}
 use Rattle.block_grammar.specs.Close.{fresh, turned, uncovered}
-use Rattle.block_grammar.specs.declared.Quote.{Quote}
-use Rattle.block_grammar.specs.declared.Quote.TheVariants.{Out, In}
 use Rattle.block_grammar.specs.declared.Scan.{Scan}
-use Rattle.block_grammar.specs.declared.Place.{Place}
-use Rattle.block_grammar.specs.declared.Place.TheVariants.{Nothing, At}
 use Rattle.run_scanners.specs.Scanners.{in_quote, honoured, takes, passed, scan_from, open_quote_at_end}
 use Rattle.run_stops.specs.Stops.{kept_at, quote_from, quote_left}
 use Rattle.proved_findings.specs.Quotes.{open_up_to, LeftOpen, StandsAt, TrueQuotes, OnlyQuote}
 
 -- ---- one byte: the quote that is open behind it is the one that was open before it, or else that byte
 
-abbrev kept_by : Quote → ℕ → Quote
-kept_by Out b = In b
-kept_by (In k) b = In k
+abbrev kept_by : Option ℕ → ℕ → Option ℕ
+kept_by None b = Some b
+kept_by (Some k) b = Some k
 
-same_open : (q : Quote) (b : ℕ) → in_quote q ≡ true → q ≡ kept_by q b
-same_open Out b e = contra false e refl
-same_open (In k) b e = refl
+same_open : (q : Option ℕ) (b : ℕ) → in_quote q ≡ true → q ≡ kept_by q b
+same_open None b e = contra false e refl
+same_open (Some k) b e = refl
 
-turned_open : (q : Quote) (b : ℕ) → in_quote (turned q b) ≡ true → turned q b ≡ kept_by q b
+turned_open : (q : Option ℕ) (b : ℕ) → in_quote (turned q b) ≡ true → turned q b ≡ kept_by q b
 unfolding turned
-turned_open Out b = go (is_quote b)
+turned_open None b = go (is_quote b)
   where
-    go : (x : Bool) → in_quote (cond x (In b) Out) ≡ true → cond x (In b) Out ≡ In b
+    go : (x : Bool) → in_quote (cond x (Some b) None) ≡ true → cond x (Some b) None ≡ Some b
     go true e = refl
     go false e = contra false e refl
-turned_open (In k) b = go (eqb b k)
+turned_open (Some k) b = go (eqb b k)
   where
-    go : (x : Bool) → in_quote (cond x Out (In k)) ≡ true → cond x Out (In k) ≡ In k
+    go : (x : Bool) → in_quote (cond x None (Some k)) ≡ true → cond x None (Some k) ≡ Some k
     go true e = contra false e refl
     go false e = refl
 
@@ -50,7 +47,7 @@ passed_open : (st : Scan) (b : ℕ) → in_quote (passed honoured st b).quote �
 unfolding passed
 passed_open st b = go st.escaped (takes honoured st.quote b)
   where
-    behind : Bool → Bool → Quote
+    behind : Bool → Bool → Option ℕ
     behind x y = (cond x (uncovered st.quote) (cond y (record { quote = st.quote; escaped = true }) (uncovered (turned st.quote b)))).quote
 
     go : (x y : Bool) → in_quote (behind x y) ≡ true → behind x y ≡ kept_by st.quote b
@@ -61,18 +58,18 @@ passed_open st b = go st.escaped (takes honoured st.quote b)
 -- ---- a list, from a state on
 
 -- what is open behind its first k bytes
-abbrev after : Scan → List ℕ → ℕ → Quote
+abbrev after : Scan → List ℕ → ℕ → Option ℕ
 after st u k = (scan_from honoured st (take k u)).quote
 
 record Opens (st : Scan) (u : List ℕ) (j : ℕ) : Type 0 where
   within : j < length u
-  before : after st u j ≡ Out
-  stays : (k : ℕ) → j < k → k ≤ length u → after st u k ≡ In (get_or u j 0)
+  before : after st u j ≡ None
+  stays : (k : ℕ) → j < k → k ≤ length u → after st u k ≡ Some (get_or u j 0)
 
-data Ends (st : Scan) (at i : ℕ) (u : List ℕ) : Place → Type 0 where
-  none : (scan_from honoured st u).quote ≡ Out → Ends st at i u Nothing
-  held : {p : ℕ} → p ≡ at → in_quote st.quote ≡ true → ((k : ℕ) → k ≤ length u → after st u k ≡ st.quote) → Ends st at i u (At p)
-  opened : {p : ℕ} (j : ℕ) → p ≡ i + j → Opens st u j → Ends st at i u (At p)
+data Ends (st : Scan) (at i : ℕ) (u : List ℕ) : Option ℕ → Type 0 where
+  none : (scan_from honoured st u).quote ≡ None → Ends st at i u None
+  held : {p : ℕ} → p ≡ at → in_quote st.quote ≡ true → ((k : ℕ) → k ≤ length u → after st u k ≡ st.quote) → Ends st at i u (Some p)
+  opened : {p : ℕ} (j : ℕ) → p ≡ i + j → Opens st u j → Ends st at i u (Some p)
 
 ends_nil : (st : Scan) (at i : ℕ) → Ends st at i [] (quote_from st at i [])
 unfolding scan_from quote_from
@@ -82,9 +79,9 @@ ends_nil st at i = go st.quote refl
     stays zero h = refl
     stays (suc k) h = absurd (omega arith)
 
-    go : (q : Quote) → st.quote ≡ q → Ends st at i [] (cond (in_quote q) (At at) Nothing)
-    go Out e = Ends.none e
-    go (In k) e = Ends.held refl (ap in_quote e) stays
+    go : (q : Option ℕ) → st.quote ≡ q → Ends st at i [] (cond (in_quote q) (Some at) None)
+    go None e = Ends.none e
+    go (Some k) e = Ends.held refl (ap in_quote e) stays
 
 module _ (st : Scan) (at i b : ℕ) (u : List ℕ) where
   abbrev next : Scan
@@ -94,22 +91,22 @@ module _ (st : Scan) (at i b : ℕ) (u : List ℕ) where
   unfolding scan_from
   opens_on j o = record { within = omega (arith, o.within); before = o.before; stays = later }
     where
-      later : (k : ℕ) → suc j < k → k ≤ length (b ∷ u) → after st (b ∷ u) k ≡ In (get_or u j 0)
+      later : (k : ℕ) → suc j < k → k ≤ length (b ∷ u) → after st (b ∷ u) k ≡ Some (get_or u j 0)
       later zero h l = absurd (omega arith)
       later (suc k) h l = o.stays k (omega arith) (omega arith)
 
   -- a quote that is open from the next byte on is that byte, or was open before
-  held_on : {p : ℕ} (q : Quote) → st.quote ≡ q → p ≡ kept_at q at i → in_quote next.quote ≡ true → ((k : ℕ) → k ≤ length u → after next u k ≡ next.quote) → Ends st at i (b ∷ u) (At p)
+  held_on : {p : ℕ} (q : Option ℕ) → st.quote ≡ q → p ≡ kept_at q at i → in_quote next.quote ≡ true → ((k : ℕ) → k ≤ length u → after next u k ≡ next.quote) → Ends st at i (b ∷ u) (Some p)
   unfolding scan_from
-  held_on Out e p o f = Ends.opened 0 (p ∙ sym (add-zero i)) (record { within = omega arith; before = e; stays = later })
+  held_on None e p o f = Ends.opened 0 (p ∙ sym (add-zero i)) (record { within = omega arith; before = e; stays = later })
     where
-      here : next.quote ≡ In b
+      here : next.quote ≡ Some b
       here = passed_open st b o ∙ ap (λ q. kept_by q b) e
 
-      later : (k : ℕ) → 0 < k → k ≤ length (b ∷ u) → after st (b ∷ u) k ≡ In b
+      later : (k : ℕ) → 0 < k → k ≤ length (b ∷ u) → after st (b ∷ u) k ≡ Some b
       later zero h l = absurd (omega arith)
       later (suc k) h l = f k (omega arith) ∙ here
-  held_on (In q) e p o f = Ends.held p (ap in_quote e) later
+  held_on (Some q) e p o f = Ends.held p (ap in_quote e) later
     where
       here : next.quote ≡ st.quote
       here = passed_open st b o ∙ ap (λ q. kept_by q b) e ∙ sym e
@@ -118,7 +115,7 @@ module _ (st : Scan) (at i b : ℕ) (u : List ℕ) where
       later zero l = refl
       later (suc k) l = f k (omega arith) ∙ here
 
-  ends_on : {x : Place} → Ends next (kept_at st.quote at i) (suc i) u x → Ends st at i (b ∷ u) x
+  ends_on : {x : Option ℕ} → Ends next (kept_at st.quote at i) (suc i) u x → Ends st at i (b ∷ u) x
   unfolding scan_from
   ends_on (Ends.none e) = Ends.none e
   ends_on (Ends.held p o f) = held_on st.quote refl p o f
@@ -145,12 +142,12 @@ module _ (s : List ℕ) (from : ℕ) where
         stays = later;
       }
     where
-      later : (to : ℕ) → p < to → to ≤ length s → open_up_to s from to ≡ In (get_or s p 0)
+      later : (to : ℕ) → p < to → to ≤ length s → open_up_to s from to ≡ Some (get_or s p 0)
       later to h l =
           let z : to ≡ from + (to - from) = omega (arith, e) in
-          rw (z, e) (up_to (to - from) ∙ o.stays (to - from) (omega (arith, e)) (omega (arith, e, length-drop from s)) ∙ ap In (get_or-drop from s j 0))
+          rw (z, e) (up_to (to - from) ∙ o.stays (to - from) (omega (arith, e)) (omega (arith, e, length-drop from s)) ∙ ap (λ z. Some z) (get_or-drop from s j 0))
 
-  by_ends : {x : Place} → Ends fresh from from (drop from s) x → StandsAt s from x
+  by_ends : {x : Option ℕ} → Ends fresh from from (drop from s) x → StandsAt s from x
   unfolding open_quote_at_end
   by_ends (Ends.none e) = e
   by_ends (Ends.held p o f) = contra false o refl
@@ -163,7 +160,7 @@ true_quotes s from = by_ends s from (ends (drop from s) fresh from from)
 -- ---- one place alone
 
 module _ (s : List ℕ) (from : ℕ) where
-  none_left : {p : ℕ} → open_quote_at_end (drop from s) ≡ Out → LeftOpen s from p → {A : Type 0} → A
+  none_left : {p : ℕ} → open_quote_at_end (drop from s) ≡ None → LeftOpen s from p → {A : Type 0} → A
   none_left e o =
       let z = rw (take-length s) at (o.stays (length s) o.within (omega arith)) in
       contra true refl (ap in_quote (sym z ∙ e))
@@ -180,7 +177,7 @@ module _ (s : List ℕ) (from : ℕ) where
       go false e false f = omega (arith, ltb-false p q e, ltb-false q p f)
 
 pub only_quote : OnlyQuote
-only_quote s from Nothing Nothing a b = refl
-only_quote s from Nothing (At q) a b = none_left s from a b
-only_quote s from (At p) Nothing a b = none_left s from b a
-only_quote s from (At p) (At q) a b = ap At (same_place s from p q a b)
+only_quote s from None None a b = refl
+only_quote s from None (Some q) a b = none_left s from a b
+only_quote s from (Some p) None a b = none_left s from b a
+only_quote s from (Some p) (Some q) a b = ap (λ z. Some z) (same_place s from p q a b)

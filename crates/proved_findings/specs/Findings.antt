@@ -1,19 +1,17 @@
 -- The findings of a sheet: which lines have one, and how a caller goes from one to the next.
-use Rattle.std.specs.Prelude.{◌≡◌, Bool, true, false, ◌&&◌, List, [], ◌∷◌, ℕ, ◌+◌, ◌<◌, ◌≤◌, length}
+use Rattle.std.specs.Prelude.{◌≡◌, Bool, true, false, ◌&&◌, List, [], ◌∷◌, ℕ, ◌+◌, ◌<◌, ◌≤◌, length, Err, Ok, None, Option, Result, Some}
 use Rattle.std.proofs.Math.Seq.{slice}
 use Rattle.base_lists.specs.Lists.{same}
 use Rattle.base_refusals.specs.Numbers.{max_text}
 use Rattle.base_refusals.specs.declared.Refusal.{Refusal}
-use Rattle.base_refusals.specs.declared.Outcome.TheVariants as outcome
 use Rattle.block_trimmed_line.specs.Fronts.{front_of, opens_at}
 use Rattle.read_lengths.specs.Lengths.{flush_left}
 use Rattle.sheet_blocks.specs.Sheets.{Try, tries_at, is_block}
 use Rattle.sheet_verdicts.specs.Verdicts.{verdict_at}
 use Rattle.sheet_findings.specs.declared.Kind.TheVariants as kind
-use Rattle.sheet_findings.specs.declared.Told as tolds
-use Rattle.sheet_findings.specs.declared.Told.TheVariants as told
 use Rattle.sheet_findings.specs.declared.Next.{Next}
 use Rattle.sheet_findings.specs.Findings.{here, byte_order_mark, finding_of, is_found, only_found, findings_of, try_at, next_finding}
+use Rattle.sheet_findings.specs.declared.Finding.{Finding}
 
 -- ---- which lines have one
 
@@ -32,17 +30,17 @@ OnlyMarks = (t : List ℕ) (cap : ℕ) (x : Try) → is_block x.found ≡ false 
 
 -- a block that is printed has none, and one that is refused, by 6, 7 or 10, has one
 abbrev pub PrintedBlocks : Type 0
-PrintedBlocks = (t : List ℕ) (cap : ℕ) (x : Try) → is_block x.found ≡ true → verdict_at t x ≡ outcome.Passed → is_found t cap x ≡ false
+PrintedBlocks = (t : List ℕ) (cap : ℕ) (x : Try) → is_block x.found ≡ true → verdict_at t x ≡ Ok tt → is_found t cap x ≡ false
 
 abbrev pub RefusedBlocks : Type 0
-RefusedBlocks = (t : List ℕ) (cap : ℕ) (x : Try) (r : Refusal) → is_block x.found ≡ true → verdict_at t x ≡ outcome.Refused r → is_found t cap x ≡ true
+RefusedBlocks = (t : List ℕ) (cap : ℕ) (x : Try) (r : Refusal) → is_block x.found ≡ true → verdict_at t x ≡ Err r → is_found t cap x ≡ true
 
 -- ---- how a caller goes on: behind a finding, at the line and the place that are told
 
-abbrev pub GoesBy : List ℕ → ℕ → ℕ → ℕ → Next → tolds.Told → Type 0
-GoesBy t cap n at r (told.Refused q) = ⊥
-GoesBy t cap n at r told.Done = only_found t cap (tries_at t cap n at) ≡ []
-GoesBy t cap n at r (told.Found f) =
+abbrev pub GoesBy : List ℕ → ℕ → ℕ → ℕ → Next → Result (Option Finding) Refusal → Type 0
+GoesBy t cap n at r (Err q) = ⊥
+GoesBy t cap n at r (Ok None) = only_found t cap (tries_at t cap n at) ≡ []
+GoesBy t cap n at r (Ok (Some f)) =
     (only_found t cap (tries_at t cap n at) ≡ try_at t cap (n + r.skipped) r.at ∷ only_found t cap (tries_at t cap (n + r.skipped + r.lines) r.next))
     × (finding_of t cap (try_at t cap (n + r.skipped) r.at) ≡ f)
 

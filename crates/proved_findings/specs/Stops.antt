@@ -1,8 +1,7 @@
 -- "Each later line must be indented beyond the last open brace's column, pass `valid_wrapped_attr_continuation`, and follow no open quote": where a run is refused for a
 -- line, the reason that is told of it holds, by what the lines joined before it leave.
-use Rattle.std.specs.Prelude.{◌≡◌, true, false, List, ℕ, ◌≤◌, length}
+use Rattle.std.specs.Prelude.{◌≡◌, true, false, List, ℕ, ◌≤◌, length, Err}
 use Rattle.base_refusals.specs.declared.Refusal.TheVariants.{NoReading}
-use Rattle.base_refusals.specs.declared.Outcome.TheVariants.{Refused}
 use Rattle.text_lines.specs.Lines.{line_at}
 use Rattle.text_lines.specs.Trim.{trim, is_blank_line}
 use Rattle.text_tabs.specs.Columns.{indent_columns, capped}
@@ -23,5 +22,5 @@ Reason t e why.Entries = continues (trim (line_at t e.at)) ≡ false
 
 -- the run from the line at `at` on, with what its lines leave
 abbrev pub TrueReasons : Type 0
-TrueReasons = (t : List ℕ) (cap at : ℕ) → (run_at cap 0 t at).stop ≡ Refused NoReading
+TrueReasons = (t : List ℕ) (cap at : ℕ) → (run_at cap 0 t at).stop ≡ Err NoReading
     → Reason t (edge_of t at (run_at cap 0 t at).lines) (why_of t (edge_of t at (run_at cap 0 t at).lines))

@@ -1,5 +1,6 @@
 -- `read_blocks` reads what the rules' `Blocks` derive, and nothing else; so there is at most one reading.
 -- Assumes nothing.
+use Rattle.std.specs.Prelude.{Some}
 use mathlib.Core.Path.{◌≡◌, refl, ◌∙◌}
 use mathlib.Core.Bool.{true}
 use mathlib.Core.List.{List, [], ◌∷◌, ◌++◌, append_assoc, append-nil}
@@ -14,7 +15,6 @@ use Rattle.block_grammar.specs.Grammar.{Placed, Reading}
 use Rattle.block_grammar.specs.Computed.{one_or_more}
 use Rattle.block_grammar.specs.Close.{fresh}
 use Rattle.block_grammar.specs.ComputedClose.{close_from}
-use Rattle.block_grammar.specs.declared.Place.TheVariants.{At}
 use Rattle.block_grammar.proofs.Payload as payload
 use Rattle.block_chain.specs.Chain.{OneBlock, Blocks}
 use Rattle.block_chain.specs.Computed.{joined, blocks_from, read_blocks}
@@ -33,7 +33,7 @@ read_block : {m : Mode} {at : ℕ} {b : List ℕ} {is : List Placed} → OneBloc
 read_block {m} {at} {is = is} (OneBlock.block {inside = a} c f p) rest =
     let e = suc at + length a in
     let w : (a ++ (125 ∷ [])) ++ rest ≡ a ++ (125 ∷ rest) = append_assoc a (125 ∷ []) rest in
-    let h : close_from (a ++ (125 ∷ rest)) fresh (suc at) ≡ At e = close_complete (record { inside = a; rest = rest; whole = refl; place = refl; covered = c; flat = f }) in
+    let h : close_from (a ++ (125 ∷ rest)) fresh (suc at) ≡ Some e = close_complete (record { inside = a; rest = rest; whole = refl; place = refl; covered = c; flat = f }) in
     let n : e - suc at ≡ length a = omega arith in
     let l : suc e ≡ at + suc (length (a ++ (125 ∷ []))) = omega (arith, length-append a (125 ∷ [])) in
     rw (w, block_at m (a ++ (125 ∷ rest)) at h, n, take_at a (125 ∷ rest) (length a) refl, payload.complete p, drop-behind a 125 rest, l)

@@ -1,5 +1,6 @@
 -- The search for the close finds what the rules say and nothing else; and why the place of the last `}` can be dropped.
 -- Assumes nothing.
+use Rattle.std.specs.Prelude.{None, Option, Some}
 use mathlib.Core.Path.{◌≡◌, refl, sym, ap}
 use mathlib.Core.Bool.{Bool, true, false, not, ◌||◌, cond}
 use mathlib.Core.List.{List, [], ◌∷◌, ◌++◌, append_assoc, append-nil}
@@ -15,9 +16,6 @@ use Rattle.base_lists.proofs.Scan.{both, all_append}
 use Rattle.base_lists.proofs.More.{contra, all_parts}
 use Rattle.base_bytes.specs.Bytes.{is_quote}
 use Rattle.block_grammar.specs.Grammar.{Inside}
-use Rattle.block_grammar.specs.declared.Quote.TheVariants.{Out, In}
-use Rattle.block_grammar.specs.declared.Place.{Place}
-use Rattle.block_grammar.specs.declared.Place.TheVariants.{Nothing, At}
 use Rattle.block_grammar.specs.Close.{uncovered, turned, fresh, Covered, no_lf}
 use Rattle.block_grammar.specs.ComputedClose.{Scanned, going, scan_step, go_on, close_from, find_close}
 use Rattle.proved_grammar.specs.Close.{last_from, last_close, is_before, FoundCloses, CloseIsFound, OneClose, NothingIsNoClose, not_close, IsLast, LastIsTrue, NoBraceNoClose, ThirdArgument, ThirdChangesNothing}
@@ -34,7 +32,7 @@ byte_pass : (b : ℕ) (t : List ℕ) (i : ℕ) → is_in (34 ∷ 39 ∷ 92 ∷ 1
 unfolding close_from scan_step turned is_quote is_in
 byte_pass b t i h n = rw n (go (eqb b 34) (eqb b 39) (eqb b 92) (eqb b 125) h)
   where
-    go : (w x y z : Bool) → (w || (x || (y || (z || false)))) ≡ false → go_on (cond y (going Out true) (cond z Scanned.closed (going (cond (w || (x || false)) (In b) Out) false))) i (λ v. close_from t v (suc i)) ≡ close_from t fresh (suc i)
+    go : (w x y z : Bool) → (w || (x || (y || (z || false)))) ≡ false → go_on (cond y (going None true) (cond z Scanned.closed (going (cond (w || (x || false)) (Some b) None) false))) i (λ v. close_from t v (suc i)) ≡ close_from t fresh (suc i)
     go true x y z h = contra true refl h
     go false true y z h = contra true refl h
     go false false true z h = contra true refl h
@@ -42,7 +40,7 @@ byte_pass b t i h n = rw n (go (eqb b 34) (eqb b 39) (eqb b 92) (eqb b 125) h)
     go false false false false h = refl
 
 -- the text in a quote, and the quote's end
-inside_pass : {q : ℕ} {v : List ℕ} → Inside q v → (q ≡ 92 → ⊥) → eqb q 10 ≡ false → no_lf v ≡ true → (t : List ℕ) (i : ℕ) → close_from (v ++ (q ∷ t)) (uncovered (In q)) i ≡ close_from t fresh (suc (i + length v))
+inside_pass : {q : ℕ} {v : List ℕ} → Inside q v → (q ≡ 92 → ⊥) → eqb q 10 ≡ false → no_lf v ≡ true → (t : List ℕ) (i : ℕ) → close_from (v ++ (q ∷ t)) (uncovered (Some q)) i ≡ close_from t fresh (suc (i + length v))
 unfolding no_lf all close_from scan_step turned
 inside_pass {q} Inside.end w n h t i = rw (n, ne_eqb q 92 w, eq-eqb q q refl, add-zero)
 inside_pass {q} (Inside.byte {b = b} {s = s} p r g) w n h t i =
@@ -52,7 +50,7 @@ inside_pass {q} (Inside.pair {b = b} {s = s} g) w n h t i =
     let k = both (not (eqb b 10)) (all (λ b. not (eqb b 10)) s) h in
     rw (not-true (eqb b 10) k.0, inside_pass g w n k.1 t (suc (suc i)), add-suc, add-suc, suc-add, suc-add)
 
-quote_pass : (q : ℕ) (t : List ℕ) (i : ℕ) → is_quote q ≡ true → close_from (q ∷ t) fresh i ≡ close_from t (uncovered (In q)) (suc i)
+quote_pass : (q : ℕ) (t : List ℕ) (i : ℕ) → is_quote q ≡ true → close_from (q ∷ t) fresh i ≡ close_from t (uncovered (Some q)) (suc i)
 unfolding close_from scan_step turned
 quote_pass q t i h = rw (quote-lf q h, ne_eqb q 92 (quote_not q h), quote_close q h, h)
 
@@ -85,7 +83,7 @@ covered_pass (Covered.quoted {q = q} {v = v} {s = s} p g c) h t i =
     rw (quote_pass q ((v ++ (q ∷ s)) ++ t) i p, append_assoc v (q ∷ s) t, inside_pass g (quote_not q p) (quote-lf q p) l.0 (s ++ t) (suc i), covered_pass c m.1 t (suc (suc i + length v)))
     (ap (λ x. close_from t fresh x) z)
 
-close_here : (t : List ℕ) (i : ℕ) → close_from (125 ∷ t) fresh i ≡ At i
+close_here : (t : List ℕ) (i : ℕ) → close_from (125 ∷ t) fresh i ≡ Some i
 unfolding close_from scan_step is_quote is_in
 close_here t i = refl
 
@@ -105,28 +103,28 @@ pub no_brace : NoBraceNoClose
 unfolding all
 no_brace s i h = go (close_from s fresh i) refl
   where
-    go : (r : Place) → close_from s fresh i ≡ r → r ≡ Nothing
-    go Nothing e = refl
-    go (At e) q = let c = close_found s i e q in contra false (all_parts not_close c.inside (125 ∷ c.rest) (rw c.whole at h)).1 refl
+    go : (r : Option ℕ) → close_from s fresh i ≡ r → r ≡ None
+    go None e = refl
+    go (Some e) q = let c = close_found s i e q in contra false (all_parts not_close c.inside (125 ∷ c.rest) (rw c.whole at h)).1 refl
 
 -- a `}` at p or behind it is not before `start`
-last_after : (s : List ℕ) (i p start : ℕ) → start ≤ p → start ≤ i → is_before (last_from s i (At p)) start ≡ false
+last_after : (s : List ℕ) (i p start : ℕ) → start ≤ p → start ≤ i → is_before (last_from s i (Some p)) start ≡ false
 unfolding last_from
 last_after [] i p start h k = le-ltb p start h
 last_after (b ∷ s) i p start h k = go (eqb b 125) (last_after s (suc i) i start k (omega arith)) (last_after s (suc i) p start h (omega arith))
   where
-    go : (x : Bool) → is_before (last_from s (suc i) (At i)) start ≡ false → is_before (last_from s (suc i) (At p)) start ≡ false → is_before (last_from s (suc i) (cond x (At i) (At p))) start ≡ false
+    go : (x : Bool) → is_before (last_from s (suc i) (Some i)) start ≡ false → is_before (last_from s (suc i) (Some p)) start ≡ false → is_before (last_from s (suc i) (cond x (Some i) (Some p))) start ≡ false
     go true p q = p
     go false p q = q
 
-none_behind : (s : List ℕ) (i : ℕ) (last : Place) (start : ℕ) → is_before (last_from s i last) start ≡ true → all not_close (drop (start - i) s) ≡ true
+none_behind : (s : List ℕ) (i : ℕ) (last : Option ℕ) (start : ℕ) → is_before (last_from s i last) start ≡ true → all not_close (drop (start - i) s) ≡ true
 unfolding last_from all
 none_behind [] i last start h = rw (drop-nil (start - i))
 none_behind (b ∷ s) i last start h = go (leb start i) refl (eqb b 125) refl h (λ l. none_behind s (suc i) l start)
   where
-    go : (x : Bool) → leb start i ≡ x → (y : Bool) → eqb b 125 ≡ y → is_before (last_from s (suc i) (cond y (At i) last)) start ≡ true
-        → ((l : Place) → is_before (last_from s (suc i) l) start ≡ true → all not_close (drop (start - suc i) s) ≡ true) → all not_close (drop (start - i) (b ∷ s)) ≡ true
-    go true p true q h ih = contra (is_before (last_from s (suc i) (At i)) start) h (last_after s (suc i) i start (leb-true start i p) (omega (arith, leb-true)))
+    go : (x : Bool) → leb start i ≡ x → (y : Bool) → eqb b 125 ≡ y → is_before (last_from s (suc i) (cond y (Some i) last)) start ≡ true
+        → ((l : Option ℕ) → is_before (last_from s (suc i) l) start ≡ true → all not_close (drop (start - suc i) s) ≡ true) → all not_close (drop (start - i) (b ∷ s)) ≡ true
+    go true p true q h ih = contra (is_before (last_from s (suc i) (Some i)) start) h (last_after s (suc i) i start (leb-true start i p) (omega (arith, leb-true)))
     go true p false q h ih =
         let l = leb-true start i p in
         let z : start - i ≡ 0 = omega arith in
@@ -135,7 +133,7 @@ none_behind (b ∷ s) i last start h = go (leb start i) refl (eqb b 125) refl h 
     go false p y q h ih =
         let l = leb-false start i p in
         let z : start - i ≡ suc (start - suc i) = omega arith in
-        rw z (ih (cond y (At i) last) h)
+        rw z (ih (cond y (Some i) last) h)
 
 -- where the text's last `}` stands before `start`, the search from there on finds nothing, and the reader refuses anyway
 pub third_argument : ThirdArgument
@@ -143,7 +141,7 @@ unfolding last_close find_close all
 third_argument s start at h e =
     let z : start - 0 ≡ start = omega arith in
     let y : start + (at - start) ≡ at = omega arith in
-    let a : all not_close (drop start s) ≡ true = rw z at (none_behind s 0 Nothing start e) in
+    let a : all not_close (drop start s) ≡ true = rw z at (none_behind s 0 None start e) in
     let d = at - start in
     let t = drop start s in
     let b : all not_close (drop d t) ≡ true = (all_parts not_close (take d t) (drop d t) (rw (take-append-drop d t) a)).1 in
@@ -152,24 +150,24 @@ third_argument s start at h e =
 pub third_changes_nothing : ThirdChangesNothing
 third_changes_nothing s start = go (is_before (last_close s) start) refl
   where
-    go : (x : Bool) → is_before (last_close s) start ≡ x → cond x Nothing (find_close s (suc start)) ≡ find_close s (suc start)
+    go : (x : Bool) → is_before (last_close s) start ≡ x → cond x None (find_close s (suc start)) ≡ find_close s (suc start)
     go true e = sym (third_argument s start (suc start) (omega arith) e)
     go false e = refl
 
 -- ---- the place that is tested is the true one
 
 -- s goes on behind `front`, whose last `}` is `last`
-last_on : (front s : List ℕ) (i : ℕ) (last : Place) → i ≡ length front → IsLast front last → IsLast (front ++ s) (last_from s i last)
+last_on : (front s : List ℕ) (i : ℕ) (last : Option ℕ) → i ≡ length front → IsLast front last → IsLast (front ++ s) (last_from s i last)
 unfolding last_from all
 last_on front [] i last h p = rw append-nil p
 last_on front (b ∷ s) i last h p =
     let l : suc i ≡ length (front ++ (b ∷ [])) = omega (arith, length-append front (b ∷ [])) in
-    rw (← append_assoc front (b ∷ []) s) (last_on (front ++ (b ∷ [])) s (suc i) (cond (eqb b 125) (At i) last) l (go (eqb b 125) refl last p))
+    rw (← append_assoc front (b ∷ []) s) (last_on (front ++ (b ∷ [])) s (suc i) (cond (eqb b 125) (Some i) last) l (go (eqb b 125) refl last p))
   where
-    go : (x : Bool) → eqb b 125 ≡ x → (last : Place) → IsLast front last → IsLast (front ++ (b ∷ [])) (cond x (At i) last)
+    go : (x : Bool) → eqb b 125 ≡ x → (last : Option ℕ) → IsLast front last → IsLast (front ++ (b ∷ [])) (cond x (Some i) last)
     go true e last p = record { front = front; rest = []; whole = rw (eqb-true b 125 e); place = h; none = refl }
-    go false e Nothing p = all_append not_close front (b ∷ []) p (rw e)
-    go false e (At k) p = record {
+    go false e None p = all_append not_close front (b ∷ []) p (rw e)
+    go false e (Some k) p = record {
       front = p.front;
       rest = p.rest ++ (b ∷ []);
       whole = rw p.whole (append_assoc p.front (125 ∷ p.rest) (b ∷ []));
@@ -179,4 +177,4 @@ last_on front (b ∷ s) i last h p =
 
 pub last_is_last : LastIsTrue
 unfolding last_close all
-last_is_last s = last_on [] s 0 Nothing refl refl
+last_is_last s = last_on [] s 0 None refl refl

@@ -1,5 +1,6 @@
 -- What a walker gives, token by token to its end, is the list of tokens that the reader reads.
 -- Assumes nothing.
+use Rattle.std.specs.Prelude.{Some}
 use mathlib.Core.Path.{◌≡◌, refl, sym, ◌∙◌, ap}
 use mathlib.Core.Bool.{Bool, true, false}
 use mathlib.Core.List.{List, [], ◌∷◌}
@@ -15,7 +16,6 @@ use Rattle.block_tokens.specs.declared.Token.{Token}
 use Rattle.block_tokens.specs.declared.Token.TheVariants.{Bad}
 use Rattle.block_next_token.specs.Walk.{is_bad, step_at, set_down, gone, shown_placed}
 use Rattle.proved_grammar.specs.Tokens.{Gives, OneListGiven, TokenGoesOn, GivesRead, read_on, TokensReadAs, WalkerGives, ReadIsGiven, GivenIsRead, RefusedSticks, StuckIsRefused, PayloadIsGiven}
-use Rattle.block_next_token.specs.declared.Ahead.TheVariants.{Found}
 use Rattle.block_next_token.specs.declared.Step.{Step}
 use Rattle.block_next_token.specs.declared.Walker.{Walker}
 use Rattle.block_next_token.proofs.Steps.{found, is_end, Says, says, shown_not_bad}
@@ -50,7 +50,7 @@ module _ (x : Bor (List ℕ)) (m : Mode) where
   walker at = set_down x at m
 
   abbrev Steps : ℕ → Placed → ℕ → Type 0
-  Steps at p e = step_at m x.now at ≡ record { ahead = Found (shown_placed p); at = e }
+  Steps at p e = step_at m x.now at ≡ record { ahead = Some (shown_placed p); at = e }
 
   onward : (at : ℕ) (p : Placed) (e : ℕ) {ts : List Token} {whole : Bool} → Steps at p e → Gives (walker e) ts whole → Gives (walker at) (shown_placed p ∷ ts) whole
   onward at p e {ts} {whole} q h = let g : Gives (gone (walker at)) ts whole = rw q h in Gives.more (ap (λ (y : Step). y.ahead) q) (shown_not_bad p) g

@@ -1,5 +1,5 @@
 -- "a walker that holds the text and its place gives the next token": the tokens that it gives, call by call, are those that the reader reads.
-use Rattle.std.specs.Prelude.{◌≡◌, Bool, true, false, List, [], ◌∷◌, map, ℕ, ◌<◌, ◌≤◌, length, take, drop}
+use Rattle.std.specs.Prelude.{◌≡◌, Bool, true, false, List, [], ◌∷◌, map, ℕ, ◌<◌, ◌≤◌, length, take, drop, None, Some}
 use Rattle.std.proofs.Math.Seq.{slice}
 use Rattle.std.specs.Borrow.{Bor}
 use Rattle.base_bytes.specs.declared.Mode.{Mode}
@@ -8,14 +8,13 @@ use Rattle.block_grammar.specs.Computed.{read_from, read_payload}
 use Rattle.block_tokens.specs.declared.Token.{Token}
 use Rattle.block_tokens.specs.declared.Token.TheVariants.{Bad}
 use Rattle.block_next_token.specs.Walk.{is_bad, step_at, set_down, ahead_of, gone, shown_placed}
-use Rattle.block_next_token.specs.declared.Ahead.TheVariants.{End, Found}
 use Rattle.block_next_token.specs.declared.Walker.{Walker}
 
 -- the tokens that a walker gives as it goes on, call by call, and whether it then stands at the text's end or before bytes that are no token
 pub data Gives : Walker → List Token → Bool → Type 0 where
-  over : {w : Walker} → ahead_of w ≡ End → Gives w [] true
-  stuck : {w : Walker} (n : ℕ) → ahead_of w ≡ Found (Bad n) → Gives w [] false
-  more : {w : Walker} {t : Token} {ts : List Token} {whole : Bool} → ahead_of w ≡ Found t → is_bad t ≡ false → Gives (gone w) ts whole → Gives w (t ∷ ts) whole
+  over : {w : Walker} → ahead_of w ≡ None → Gives w [] true
+  stuck : {w : Walker} (n : ℕ) → ahead_of w ≡ Some (Bad n) → Gives w [] false
+  more : {w : Walker} {t : Token} {ts : List Token} {whole : Bool} → ahead_of w ≡ Some t → is_bad t ≡ false → Gives (gone w) ts whole → Gives w (t ∷ ts) whole
 
 -- the same tokens, and the same end: the text's, or before bytes that are no token
 pub record SameTokens (ts us : List Token) (g h : Bool) : Type 0 where
@@ -33,7 +32,7 @@ pub record GoesOn (m : Mode) (s : List ℕ) (at : ℕ) : Type 0 where
 
 -- with each token it goes on
 abbrev pub TokenGoesOn : Type 0
-TokenGoesOn = (m : Mode) (s : List ℕ) (at : ℕ) → at ≤ length s → (t : Token) → (step_at m s at).ahead ≡ Found t → is_bad t ≡ false → GoesOn m s at
+TokenGoesOn = (m : Mode) (s : List ℕ) (at : ℕ) → at ≤ length s → (t : Token) → (step_at m s at).ahead ≡ Some t → is_bad t ≡ false → GoesOn m s at
 
 -- it comes to bytes that are no token
 pub record StuckAt (w : Walker) : Type 0 where

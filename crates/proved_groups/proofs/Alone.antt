@@ -1,5 +1,6 @@
 -- Blocks that are a whole text: one line, which is its own trimmed front, and one block to whatever reads it.
 -- Assumes nothing.
+use Rattle.std.specs.Prelude.{Ok, Some}
 use mathlib.Core.Path.{◌≡◌, refl, sym, ◌∙◌, ap}
 use mathlib.Core.Bool.{Bool, true, false, cond, not}
 use mathlib.Core.List.{List, [], ◌∷◌, ◌++◌, append_assoc}
@@ -19,13 +20,11 @@ use Rattle.base_refusals.specs.declared.Refusal.TheVariants.{NothingThere}
 use Rattle.text_utf8.specs.Computed.{is_utf8}
 use Rattle.text_checks.specs.Check.{check_of}
 use Rattle.text_lines.specs.Lines.{eol, line_at, line_from, ranges, pick, line_of}
-use Rattle.text_lines.specs.declared.Line.TheVariants as place
 use Rattle.text_lines.specs.Trim.{trim_start, trim_end, trim}
 use Rattle.text_lines.proofs.First.{first_whole}
 use Rattle.text_lines.proofs.Lines.{ranges_at, ranges_end}
 use Rattle.text_lines.proofs.Trim.{trim_end-take, trims_start, trims_stop}
 use Rattle.text_line_start.specs.Starts.{start_at, place_of}
-use Rattle.text_line_start.specs.declared.Start.TheVariants as start
 use Rattle.block_grammar.specs.Grammar.{Placed}
 use Rattle.block_grammar.specs.Close.{no_lf}
 use Rattle.block_chain.specs.Chain.{OneBlock, Blocks, good_line}
@@ -110,11 +109,11 @@ module _ {m : Mode} {k : ℕ} {s : List ℕ} {is : List Placed} (p : Blocks m k 
   front_is = front_slice s 0 opens_is ∙ ap trim line_is ∙ trim_is
 
   -- "A line number counts from 1."
-  pub line_of_lem : line_of 1 s ≡ place.At (record { from = 0; to = (line_from s 0).to })
+  pub line_of_lem : line_of 1 s ≡ Some (record { from = 0; to = (line_from s 0).to })
   unfolding line_of ranges pick
   line_of_lem = rw (ranges_at s 0 long)
 
-  pub starts_is : length s ≤ max_text → is_utf8 s ≡ true → start_at s 1 ≡ start.At 0
+  pub starts_is : length s ≤ max_text → is_utf8 s ≡ true → start_at s 1 ≡ Ok 0
   unfolding start_at check_of
   starts_is l u = rw (le-ltb max_text (length s) l, u, line_of_lem)
 

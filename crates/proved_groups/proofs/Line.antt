@@ -1,5 +1,6 @@
 -- Canonical texts back to back are read as one line, and mean the merge.
 -- Assumes nothing.
+use Rattle.std.specs.Prelude.{Ok}
 use mathlib.Core.Path.{◌≡◌, refl, sym, ◌∙◌, ap}
 use mathlib.Core.Bool.{true}
 use mathlib.Core.List.{List, [], ◌∷◌, ◌++◌, append-nil, map, map-append, flat_map}
@@ -11,7 +12,6 @@ use Rattle.base_lists.specs.Lists.{all}
 use Rattle.base_lists.proofs.Each.{all_map}
 use Rattle.base_bytes.specs.declared.Mode.{Mode}
 use Rattle.base_bytes.specs.declared.Mode.TheVariants.{Loose}
-use Rattle.base_refusals.specs.declared.Outcome.TheVariants.{Passed}
 use Rattle.text_utf8.specs.Computed.{is_utf8}
 use Rattle.proved_texts.proofs.Utf8Grammar as utf8
 use Rattle.proved_texts.proofs.Utf8Grammar.{utf8_append}
@@ -124,10 +124,10 @@ module _ (ps : List SetOver) (f : LineFits ps) where
         keys = omega (arith, w.keys, key_listed row.items, ap key_count row_lists, key_puts [] (classes_once y) refl, once_keys y);
       }
 
-  given : ((parse_standalone text 1).outcome ≡ Passed) × (meaning_of (one text) (parse_standalone text 1).set ≡ merged_all (map its_meaning ps))
+  given : ((parse_standalone text 1).outcome ≡ Ok tt) × (meaning_of (one text) (parse_standalone text 1).set ≡ merged_all (map its_meaning ps))
   given =
       let b : Blocks Loose (front_of text 0).from (slice (front_of text 0).from (front_of text 0).to text) row.items = rw (front_is row.blocks) row.blocks in
-      let z = (line_by_rules text 1).only Passed (merged [] (map meaning (block_items b)))
+      let z = (line_by_rules text 1).only (Ok tt) (merged [] (map meaning (block_items b)))
       (SizeGiven.short f.short (Utf8Given.text (utf8.sound text (line_utf8 f.sets)) (NumberGiven.there (line_of_lem row.blocks) (OpenGiven.opened (opens_is row.blocks) (BlocksGiven.good b (LimitGiven.within few_said.classes few_said.keys)))))) in
       (z.0, z.1 ∙ sym (line_merges b) ∙ row_means)
 

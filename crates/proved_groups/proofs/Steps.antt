@@ -1,5 +1,6 @@
 -- No step of a merge is refused where the whole is within the limits, and only there; the grouping changes nothing.
 -- Assumes nothing.
+use Rattle.std.specs.Prelude.{Err, Ok, Result}
 use mathlib.Core.Path.{◌≡◌, refl, sym, ◌∙◌, ap}
 use mathlib.Core.Bool.{true}
 use mathlib.Core.List.{List, [], ◌∷◌, ◌++◌, append-nil, flat_map}
@@ -7,9 +8,8 @@ use Prim.Native.Nat.{ℕ, ◌+◌}
 use native.Mathlib.Omega.{arith}
 use Rattle.base_lists.specs.Lists.{all}
 use Rattle.base_lists.proofs.Scan.{both}
+use Rattle.base_refusals.specs.Numbers.{passed}
 use Rattle.base_refusals.specs.declared.Refusal.{Refusal}
-use Rattle.base_refusals.specs.declared.Outcome.{Outcome}
-use Rattle.base_refusals.specs.declared.Outcome.TheVariants.{Passed, Refused}
 use Rattle.text_checks.proofs.Texts.{text_short, text_utf8}
 use Rattle.proved_texts.proofs.Utf8Grammar as utf8
 use Rattle.block_grammar.specs.Meaning.{Entry, classes_once}
@@ -38,7 +38,7 @@ use Rattle.proved_groups.specs.Groups.{AllFormed, all_listed, Within, AllWithin,
 use Rattle.proved_groups.proofs.Merging.{all_means}
 
 abbrev Done : Filled → Type 0
-Done f = f.outcome ≡ Passed
+Done f = f.outcome ≡ Ok tt
 
 -- ======== what counts the same is within the limits alike
 record Alike (m n : List Entry) : Type 0 where
@@ -103,7 +103,7 @@ module _ (t : Texts) (a b : Attrs) (h : well_formed t a ≡ true) (k : well_form
   pub step : Within (listed_of t a ++ listed_of t b) → Done (merge_of t a b)
   step w =
       let x = formed_parts t a h in
-      ((merge_by_rules t a b).only Passed (joined_meaning (meaning_of t a) (meaning_of t b))
+      ((merge_by_rules t a b).only (Ok tt) (joined_meaning (meaning_of t a) (meaning_of t b))
       (SizeGiven.short (text_short t.first x.0) (Utf8Given.text (utf8.sound t.first (text_utf8 t.first x.0))
       (SizeGiven.short (text_short t.second x.1) (Utf8Given.text (utf8.sound t.second (text_utf8 t.second x.1))
       (MergeGiven.formed h k (LimitGiven.within w.classes w.keys))))))).0
@@ -136,7 +136,7 @@ each t a (b ∷ bs) h g w =
     rw (d, puts-append x y z, ← m.lists) r
 
 -- and only there
-refuses : {A : Type 0} {r : Refusal} → Refused r ≡ Passed → A
+refuses : {A : Type 0} {r : Refusal} → Err r ≡ passed → A
 refuses e = let z : ◌≡◌ {A = ℕ} 0 1 = cc in absurd (omega arith)
 
 each_only : (t : Texts) (a : Attrs) (bs : List Attrs) → well_formed t a ≡ true → AllFormed t bs → Done (merge_each t a bs) → Within (listed_of t a ++ all_listed t bs)
@@ -144,11 +144,11 @@ unfolding merge_each flat_map all
 each_only t a [] h g d = rw (append-nil (listed_of t a)) (listed-within t a h)
 each_only t a (b ∷ bs) h g d = let k = both (well_formed t b) (all (well_formed t) bs) g in go (merge_of t a b).outcome refl d (λ f q. each_only t (merge_of t a b).set bs f k.1 q)
   where
-    go : (o : Outcome) → (merge_of t a b).outcome ≡ o → Done (unless_refused o (merge_each t (merge_of t a b).set bs))
+    go : (o : Result (Unit {0}) Refusal) → (merge_of t a b).outcome ≡ o → Done (unless_refused o (merge_each t (merge_of t a b).set bs))
         → (well_formed t (merge_of t a b).set ≡ true → Done (merge_each t (merge_of t a b).set bs) → Within (listed_of t (merge_of t a b).set ++ all_listed t bs))
         → Within (listed_of t a ++ (listed_of t b ++ all_listed t bs))
-    go (Refused r) e q ih = refuses q
-    go Passed e q ih =
+    go (Err r) e q ih = refuses q
+    go (Ok tt) e q ih =
         let m = merge_gives t a b e in
         let w : Within (puts (listed_of t a) (listed_of t b) ++ all_listed t bs) = rw m.lists at (ih m.formed q) in
         within_by (left_alike (listed_of t a) (listed_of t b) (listed-distinct t a h) (all_listed t bs)) w

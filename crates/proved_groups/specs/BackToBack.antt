@@ -1,9 +1,8 @@
 -- Canonical texts as one line: "Show also that canonical texts of one or more non-empty sets, put back to back and read as one line, give the meaning of the merge, if
 -- the line fits the text limit and the merge its limits of classes and keys. Both over CR 9's meaning."
-use Rattle.std.specs.Prelude.{◌≡◌, true, ℕ, ◌≤◌, length}
+use Rattle.std.specs.Prelude.{◌≡◌, true, ℕ, ◌≤◌, length, Ok}
 use mathlib.Core.List.{List, [], ◌∷◌, map, flat_map}
 use Rattle.base_refusals.specs.Numbers.{max_text}
-use Rattle.base_refusals.specs.declared.Outcome.TheVariants.{Passed}
 use Rattle.block_grammar.specs.Meaning.{Entry}
 use Rattle.text_line_start.specs.Starts.{place_of}
 use Rattle.set_canon.specs.Canon.{canon}
@@ -56,7 +55,7 @@ pub record LineFits (ps : List SetOver) : Type 0 where
 
 pub record ReadAsLine (s : List ℕ) (m : List Entry) : Type 0 where
   -- `parse_standalone_attrs` of line 1
-  pub passes : (parse_standalone s 1).outcome ≡ Passed
+  pub passes : (parse_standalone s 1).outcome ≡ Ok tt
   pub means : meaning_of (one s) (parse_standalone s 1).set ≡ m
   -- `parse_standalone_attrs_block`, in whatever memory, takes it as a block of one line with nothing joined, and reads the same set
   pub block : (base cap : ℕ) → block_found s 1 base cap ≡ Found.line

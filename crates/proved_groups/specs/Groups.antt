@@ -1,10 +1,8 @@
 -- Sets over two texts merged in any grouping: "Show that merging three well-formed sets gives the same meaning however they are grouped, given that the merge of all
 -- three is within the limits, and that no step on the way is then refused."
-use Rattle.std.specs.Prelude.{◌≡◌, true, ◌≤◌}
+use Rattle.std.specs.Prelude.{◌≡◌, true, ◌≤◌, Err, Ok, Result}
 use mathlib.Core.List.{List, [], ◌∷◌, ◌++◌, map, flat_map}
 use Rattle.base_lists.specs.Lists.{all}
-use Rattle.base_refusals.specs.declared.Outcome as outcomes
-use Rattle.base_refusals.specs.declared.Outcome.TheVariants.{Passed, Refused}
 use Rattle.block_grammar.specs.Meaning.{Entry}
 use Rattle.proved_grammar.specs.Merged.{merged}
 use Rattle.set_table.specs.Types.{Texts, max_classes, max_keys}
@@ -17,6 +15,7 @@ use Rattle.set_merge.specs.Merge.{merge_of}
 use Rattle.proved_sets.specs.Limits.{class_count, key_count}
 use Rattle.proved_sets.specs.Formed.{HasNothing}
 use Rattle.proved_sets.specs.Merged.{merge_meaning}
+use Rattle.base_refusals.specs.declared.Refusal.{Refusal}
 
 -- ---- sets and their limits
 
@@ -57,12 +56,12 @@ from_right t a b c = merge_of t a (merge_of t b c).set
 
 -- no step is refused
 pub record LeftPasses (t : Texts) (a b c : Attrs) : Type 0 where
-  pub first : (merge_of t a b).outcome ≡ Passed
-  pub second : (from_left t a b c).outcome ≡ Passed
+  pub first : (merge_of t a b).outcome ≡ Ok tt
+  pub second : (from_left t a b c).outcome ≡ Ok tt
 
 pub record RightPasses (t : Texts) (a b c : Attrs) : Type 0 where
-  pub first : (merge_of t b c).outcome ≡ Passed
-  pub second : (from_right t a b c).outcome ≡ Passed
+  pub first : (merge_of t b c).outcome ≡ Ok tt
+  pub second : (from_right t a b c).outcome ≡ Ok tt
 
 -- `merge_leading_attrs` of a target and a leading set is the same merge with its arguments changed over, so its two groupings are these two
 abbrev pub leading_of : Texts → Attrs → Attrs → Filled
@@ -121,16 +120,16 @@ TwoEmpty = (t : Texts) (d e a : Attrs) → HasNothing d → HasNothing e → wel
 -- ---- any number of sets, merged left to right
 
 -- a refusal stands, else it goes on
-abbrev pub unless_refused : outcomes.Outcome → Filled → Filled
-unless_refused (Refused r) f = refusing r
-unless_refused Passed f = f
+abbrev pub unless_refused : Result (Unit {0}) Refusal → Filled → Filled
+unless_refused (Err r) f = refusing r
+unless_refused (Ok _) f = f
 
 unfoldable pub merge_each : Texts → Attrs → List Attrs → Filled
-merge_each t a [] = record { outcome = Passed; set = a }
+merge_each t a [] = record { outcome = Ok tt; set = a }
 merge_each t a (b ∷ bs) = unless_refused (merge_of t a b).outcome (merge_each t (merge_of t a b).set bs)
 
 pub record SeveralMerged (t : Texts) (a : Attrs) (bs : List Attrs) : Type 0 where
-  pub passes : (merge_each t a bs).outcome ≡ Passed
+  pub passes : (merge_each t a bs).outcome ≡ Ok tt
   pub formed : well_formed t (merge_each t a bs).set ≡ true
   pub means : meaning_of t (merge_each t a bs).set ≡ all_mean t (a ∷ bs)
 
@@ -139,4 +138,4 @@ SeveralMerge = (t : Texts) (a : Attrs) (bs : List Attrs) → AllFormed t (a ∷ 
 
 -- and only then
 abbrev pub SeveralOnly : Type 0
-SeveralOnly = (t : Texts) (a : Attrs) (bs : List Attrs) → AllFormed t (a ∷ bs) → (merge_each t a bs).outcome ≡ Passed → AllWithin t (a ∷ bs)
+SeveralOnly = (t : Texts) (a : Attrs) (bs : List Attrs) → AllFormed t (a ∷ bs) → (merge_each t a bs).outcome ≡ Ok tt → AllWithin t (a ∷ bs)

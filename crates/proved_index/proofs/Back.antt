@@ -1,5 +1,7 @@
 -- What is read as a record is that record's line.
 -- Assumes nothing.
+use Rattle.std.proofs.lemmas.Option.{some_pair_parts}
+use Rattle.std.specs.Prelude.{None, Option, Some}
 use mathlib.Core.Path.{◌≡◌, refl, sym, ◌∙◌, ap}
 use mathlib.Core.Bool.{Bool, true, false, cond}
 use mathlib.Core.List.{List, [], ◌∷◌, ◌++◌}
@@ -16,16 +18,10 @@ use Rattle.base_lists.proofs.Scan.{run-all}
 use Rattle.base_bytes.specs.Bytes.{is_digit}
 use Rattle.text_digits.specs.Decimal.{decimal}
 use Rattle.text_digits.specs.Digits.{number_in}
-use Rattle.text_digits.specs.declared.Decimal as answer
-use Rattle.text_digits.specs.declared.Decimal.TheVariants.{None, Is}
 use Rattle.proved_valves.proofs.Numbers.{read_is}
 use Rattle.sheet_records.specs.Records.{InBounds, id_fits, id_field, not_lf, most_number, record_line}
 use Rattle.sheet_records.specs.Computed.{least_number, field_of, field_at, on_field, behind_tab, id_end, id_at, end_at, offset_at, count_at, record_at, id_in, record_in}
-use Rattle.sheet_records.specs.declared.NumberAt.{NumberAt}
-use Rattle.sheet_records.specs.declared.NumberAt.TheVariants.{Unread, Read}
 use Rattle.sheet_records.specs.declared.IndexRow.{IndexRow}
-use Rattle.sheet_records.specs.declared.RecordAt.{RecordAt}
-use Rattle.sheet_records.specs.declared.RecordAt.TheVariants.{Bad, Good}
 use Rattle.sheet_records.proofs.Written.{byte_past, line_parts}
 
 -- ---- numbers
@@ -36,15 +32,15 @@ pub record Number (t : List ℕ) (at least n p : ℕ) : Type 0 where
   pub below : n ≤ most_number
   pub behind : at ≤ p
 
-pub field_back : (t : List ℕ) (at least n p : ℕ) → field_at t at least ≡ Read n p → Number t at least n p
+pub field_back : (t : List ℕ) (at least n p : ℕ) → field_at t at least ≡ Some (n, p) → Number t at least n p
 unfolding field_at field_of least_number
 field_back t at least n p e = go (number_in most_number (take (run is_digit (drop at t)) (drop at t))) refl e
   where
-    bounded : (m : ℕ) (x : Bool) → ltb m least ≡ x → number_in most_number (take (run is_digit (drop at t)) (drop at t)) ≡ Is m → cond x Unread (Read m (at + (run is_digit (drop at t)))) ≡ Read n p → Number t at least n p
+    bounded : (m : ℕ) (x : Bool) → ltb m least ≡ x → number_in most_number (take (run is_digit (drop at t)) (drop at t)) ≡ Some m → cond {A = Option (ℕ × ℕ)} x None (Some (m, at + (run is_digit (drop at t)))) ≡ Some (n, p) → Number t at least n p
     bounded m true b q f = let z : ◌≡◌ {A = ℕ} 0 1 = cc in absurd (omega arith)
     bounded m false b q f =
-        let m≡ : m ≡ n = cc in
-        let p≡ : at + (run is_digit (drop at t)) ≡ p = cc in
+        let m≡ : m ≡ n = (some_pair_parts m n _ p f).0 in
+        let p≡ : at + (run is_digit (drop at t)) ≡ p = (some_pair_parts m n _ p f).1 in
         let w = read_is {most = most_number} {n = m} {s = take (run is_digit (drop at t)) (drop at t)} q in
         record {
           text = sym (take-append-drop (run is_digit (drop at t)) (drop at t)) ∙ rw (w.written, m≡, drop-drop (run is_digit (drop at t)) at t, p≡);
@@ -53,9 +49,9 @@ field_back t at least n p e = go (number_in most_number (take (run is_digit (dro
           behind = omega arith;
         }
 
-    go : (x : answer.Decimal) → number_in most_number (take (run is_digit (drop at t)) (drop at t)) ≡ x → least_number least (at + (run is_digit (drop at t))) x ≡ Read n p → Number t at least n p
+    go : (x : Option ℕ) → number_in most_number (take (run is_digit (drop at t)) (drop at t)) ≡ x → least_number least (at + (run is_digit (drop at t))) x ≡ Some (n, p) → Number t at least n p
     go None q f = let z : ◌≡◌ {A = ℕ} 0 1 = cc in absurd (omega arith)
-    go (Is m) q f = bounded m (ltb m least) refl q f
+    go (Some m) q f = bounded m (ltb m least) refl q f
 
 -- ---- bytes
 
@@ -68,28 +64,28 @@ byte_is t at b e =
     let q : drop at t ≡ b ∷ drop 1 (drop at t) = begins_is (drop at t) b e in
     q ∙ ap (λ (l : List ℕ). b ∷ l) (sym (byte_past t at b (drop 1 (drop at t)) q))
 
-pub record Tab (t : List ℕ) (at : ℕ) (got : RecordAt) (e : IndexRow) : Type 0 where
+pub record Tab (t : List ℕ) (at : ℕ) (got : Option IndexRow) (e : IndexRow) : Type 0 where
   pub text : drop at t ≡ 9 ∷ drop (suc at) t
-  pub is : got ≡ Good e
+  pub is : got ≡ Some e
 
-tab_back : (t : List ℕ) (at : ℕ) (k : ℕ → RecordAt) (e : IndexRow) → behind_tab t at k ≡ Good e → Tab t at (k (suc at)) e
+tab_back : (t : List ℕ) (at : ℕ) (k : ℕ → Option IndexRow) (e : IndexRow) → behind_tab t at k ≡ Some e → Tab t at (k (suc at)) e
 unfolding behind_tab
 tab_back t at k e q = go (begins (drop at t) 9) refl q
   where
-    go : (x : Bool) → begins (drop at t) 9 ≡ x → cond x (k (suc at)) Bad ≡ Good e → Tab t at (k (suc at)) e
+    go : (x : Bool) → begins (drop at t) 9 ≡ x → cond x (k (suc at)) None ≡ Some e → Tab t at (k (suc at)) e
     go true b f = record { text = byte_is t at 9 b; is = f }
     go false b f = let z : ◌≡◌ {A = ℕ} 0 1 = cc in absurd (omega arith)
 
-pub record Field-is (f : NumberAt) (k : ℕ → ℕ → RecordAt) (e : IndexRow) : Type 0 where
+pub record Field-is (f : Option (ℕ × ℕ)) (k : ℕ → ℕ → Option IndexRow) (e : IndexRow) : Type 0 where
   pub n : ℕ
   pub p : ℕ
-  pub is : f ≡ Read n p
-  pub on : k n p ≡ Good e
+  pub is : f ≡ Some (n, p)
+  pub on : k n p ≡ Some e
 
-on_back : (f : NumberAt) (k : ℕ → ℕ → RecordAt) (e : IndexRow) → on_field f k ≡ Good e → Field-is f k e
+on_back : (f : Option (ℕ × ℕ)) (k : ℕ → ℕ → Option IndexRow) (e : IndexRow) → on_field f k ≡ Some e → Field-is f k e
 unfolding on_field
-on_back Unread k e q = let z : ◌≡◌ {A = ℕ} 0 1 = cc in absurd (omega arith)
-on_back (Read n p) k e q = record { n = n; p = p; is = refl; on = q }
+on_back None k e q = let z : ◌≡◌ {A = ℕ} 0 1 = cc in absurd (omega arith)
+on_back (Some (n, p)) k e q = record { n = n; p = p; is = refl; on = q }
 
 -- ---- the id
 
@@ -102,7 +98,7 @@ pub record End (t : List ℕ) (l c o at : ℕ) (e : IndexRow) : Type 0 where
   pub fits : id_fits (id_in t e.from e.to)
   pub further : at < e.next
 
-id_back : (t : List ℕ) (l c o at : ℕ) (e : IndexRow) → drop at t ≡ 9 ∷ drop (suc at) t → id_at t l c o (suc at) ≡ Good e → End t l c o at e
+id_back : (t : List ℕ) (l c o at : ℕ) (e : IndexRow) → drop at t ≡ 9 ∷ drop (suc at) t → id_at t l c o (suc at) ≡ Some e → End t l c o at e
 unfolding id_at id_end
 id_back t l c o at e d q = go (ltb (suc at + (run not_lf (drop (suc at) t))) (length t)) refl q
   where
@@ -110,7 +106,7 @@ id_back t l c o at e d q = go (ltb (suc at + (run not_lf (drop (suc at) t))) (le
     stop h = eqb-true (get_or (drop (suc at) t) (run not_lf (drop (suc at) t)) 0) 10 (not-false _ (run_stops not_lf (drop (suc at) t) h))
 
     go : (x : Bool) → ltb (suc at + (run not_lf (drop (suc at) t))) (length t) ≡ x
-        → cond x (Good (record { line = l; count = c; offset = o; from = suc at; to = suc at + (run not_lf (drop (suc at) t)); next = suc (suc at + (run not_lf (drop (suc at) t))) })) Bad ≡ Good e → End t l c o at e
+        → cond x (Some (record { line = l; count = c; offset = o; from = suc at; to = suc at + (run not_lf (drop (suc at) t)); next = suc (suc at + (run not_lf (drop (suc at) t))) })) None ≡ Some e → End t l c o at e
     go true b f =
         let m : (run not_lf (drop (suc at) t)) < length (drop (suc at) t) = omega (arith, ltb-true (suc at + (run not_lf (drop (suc at) t))) (length t) b, length-drop (suc at) t) in
         let r : drop (run not_lf (drop (suc at) t)) (drop (suc at) t) ≡ 10 ∷ drop (suc (run not_lf (drop (suc at) t))) (drop (suc at) t) = drop-cons (drop (suc at) t) (run not_lf (drop (suc at) t)) 0 m ∙ ap (λ (x : ℕ). x ∷ drop (suc (run not_lf (drop (suc at) t))) (drop (suc at) t)) (stop m) in
@@ -130,12 +126,12 @@ id_back t l c o at e d q = go (ltb (suc at + (run not_lf (drop (suc at) t))) (le
         })
     go false b f = let z : ◌≡◌ {A = ℕ} 0 1 = cc in absurd (omega arith)
 
-end_back : (t : List ℕ) (l c o at : ℕ) (e : IndexRow) → end_at t l c o at ≡ Good e → End t l c o at e
+end_back : (t : List ℕ) (l c o at : ℕ) (e : IndexRow) → end_at t l c o at ≡ Some e → End t l c o at e
 unfolding end_at
 end_back t l c o at e q = go (begins (drop at t) 10) refl q
   where
     go : (x : Bool) → begins (drop at t) 10 ≡ x
-        → cond x (Good (record { line = l; count = c; offset = o; from = 0; to = 0; next = suc at })) (behind_tab t at (id_at t l c o)) ≡ Good e → End t l c o at e
+        → cond x (Some (record { line = l; count = c; offset = o; from = 0; to = 0; next = suc at })) (behind_tab t at (id_at t l c o)) ≡ Some e → End t l c o at e
     go true b f =
         let v : record { line = l; count = c; offset = o; from = 0; to = 0; next = suc at } ≡ e = cc in
         rw (← v) (record { lines = refl; counts = refl; offsets = refl; text = byte_is t at 10 b; fits = tt; further = omega arith })
@@ -165,7 +161,7 @@ joined {t} {at} {l} {c} {o} {p₁} {p₂} {p₃} {e} n₁ b₁ n₂ b₂ n₃ x 
       further = omega (arith, n₁.behind, n₂.behind, n₃.behind, x.further);
     }
 
-pub record_back : (t : List ℕ) (at : ℕ) (e : IndexRow) → record_at t at ≡ Good e → Wrote t at e
+pub record_back : (t : List ℕ) (at : ℕ) (e : IndexRow) → record_at t at ≡ Some e → Wrote t at e
 unfolding record_at count_at offset_at
 record_back t at e q =
     let f₁ = on_back (field_at t at 1) (λ n p. behind_tab t p (count_at t n)) e q in

@@ -1,5 +1,6 @@
 -- What is built is of the form, and is read as it was built.
 -- Assumes nothing.
+use Rattle.std.specs.Prelude.{Err, Ok, Result}
 use mathlib.Core.Path.{◌≡◌, refl, sym, ap}
 use mathlib.Core.Bool.{Bool, true, false, cond}
 use mathlib.Core.List.{List, [], ◌∷◌, ◌++◌, flat_map}
@@ -10,11 +11,10 @@ use lib.Dec.{ltb}
 use lib.ListN.{length}
 use Rattle.base_lists.proofs.Scan.{both}
 use Rattle.base_refusals.specs.Numbers.{max_text}
+use Rattle.base_refusals.specs.Numbers as numbers
 use Rattle.base_refusals.specs.Orders.{Ground, in_order, order_no}
 use Rattle.base_refusals.specs.declared.Refusal.{Refusal}
 use Rattle.base_refusals.specs.declared.Refusal.TheVariants.{JoinFull}
-use Rattle.base_refusals.specs.declared.Outcome as outcomes
-use Rattle.base_refusals.specs.declared.Outcome.TheVariants as outcome
 use Rattle.block_grammar.specs.Close.{no_lf}
 use Rattle.text_checks.specs.Check.{text_order, check_of, is_text}
 use Rattle.text_checks.proofs.Texts.{text_short, passed}
@@ -38,8 +38,6 @@ use Rattle.sheet_records.specs.Listed.{id_of, record_of, listed_if, added_of, re
 use Rattle.sheet_records.specs.Writing.{table_size}
 use Rattle.sheet_records.specs.Computed.{rows, is_other, read_index}
 use Rattle.sheet_index.specs.Building.{sheet_order, room_for, form_order, build_order, built_of, built_text, built_table, count_order, counted_of, counted_table}
-use Rattle.sheet_index.specs.declared.Built.TheVariants as build
-use Rattle.sheet_index.specs.declared.Counted.TheVariants as count
 use Rattle.proved_index.specs.Built.{SheetInRange, BuiltIsIndex, BuiltPasses, BuiltIsRead}
 use Rattle.proved_index.proofs.Form.{index_is_read, read_own}
 
@@ -77,9 +75,9 @@ module _ (t : List ℕ) (h : is_text t ≡ true) where
   unfolding added_of AllIn
   added-fits x rs w v = go (verdict_at t x)
     where
-      go : (o : outcomes.Outcome) → AllIn (listed_if (record_of t x) o ++ rs)
-      go outcome.Passed = (w, v)
-      go (outcome.Refused q) = v
+      go : (o : Result (Unit {0}) Refusal) → AllIn (listed_if (record_of t x) o ++ rs)
+      go (Ok _) = (w, v)
+      go (Err q) = v
 
   all_fit : (xs : List Try) (n at : ℕ) → InOrder t max_text n at xs → 1 ≤ n → n ≤ at + 1 → AllIn (flat_map (added_of t) xs)
   unfolding InOrder AllIn flat_map
@@ -94,15 +92,15 @@ sheet_in_range t h = all_fit t h (blocks_of t) 1 0 (sheet_in_order t (text_short
 
 -- ---- where something was built, no ground of the order holds
 
-clear_records : (gs : List Ground) (a b k m : ℕ) → in_order build.Refused gs (build.Index a b) ≡ build.Index k m → a ≡ k
+clear_records : (gs : List Ground) (a b k m : ℕ) → in_order {A = Result (ℕ × ℕ) Refusal} Err gs (Ok (a, b)) ≡ Ok (k, m) → a ≡ k
 unfolding in_order
-clear_records [] a b k m e = cc
+clear_records [] a b k m e = ap (λ (o : Result (ℕ × ℕ) Refusal). elim o [ Ok p ↦ p.0 | Err r ↦ a ]) e
 clear_records (Ground.given q true ∷ gs) a b k m e = let z : ◌≡◌ {A = ℕ} 0 1 = cc in absurd (omega arith)
 clear_records (Ground.given q false ∷ gs) a b k m e = clear_records gs a b k m e
 clear_records (Ground.lacking q true ∷ gs) a b k m e = clear_records gs a b k m e
 clear_records (Ground.lacking q false ∷ gs) a b k m e = let z : ◌≡◌ {A = ℕ} 0 1 = cc in absurd (omega arith)
 
-clear : {A : Type 0} (f : Refusal → A) (x : A) (gs : List Ground) (a b k m : ℕ) → in_order build.Refused gs (build.Index a b) ≡ build.Index k m → in_order f gs x ≡ x
+clear : {A : Type 0} (f : Refusal → A) (x : A) (gs : List Ground) (a b k m : ℕ) → in_order {A = Result (ℕ × ℕ) Refusal} Err gs (Ok (a, b)) ≡ Ok (k, m) → in_order f gs x ≡ x
 unfolding in_order
 clear f x [] a b k m e = refl
 clear f x (Ground.given q true ∷ gs) a b k m e = let z : ◌≡◌ {A = ℕ} 0 1 = cc in absurd (omega arith)
@@ -111,7 +109,7 @@ clear f x (Ground.lacking q true ∷ gs) a b k m e = clear f x gs a b k m e
 clear f x (Ground.lacking q false ∷ gs) a b k m e = let z : ◌≡◌ {A = ℕ} 0 1 = cc in absurd (omega arith)
 
 -- what stands in front of an order that is clear is clear
-front_clear : (gs hs : List Ground) → in_order outcome.Refused (gs ++ hs) outcome.Passed ≡ outcome.Passed → in_order outcome.Refused gs outcome.Passed ≡ outcome.Passed
+front_clear : (gs hs : List Ground) → in_order Err (gs ++ hs) numbers.passed ≡ numbers.passed → in_order Err gs numbers.passed ≡ numbers.passed
 unfolding in_order
 front_clear [] hs e = refl
 front_clear (Ground.given q true ∷ gs) hs e = e
@@ -128,7 +126,7 @@ index_long : (rs : List Record) → length (index_rows rs) ≡ length rs
 unfolding index_rows
 index_long rs = rows_long (length index_header) rs
 
-module _ (t : List ℕ) (cap n size k m : ℕ) (e : built_of t cap n size ≡ build.Index k m) where
+module _ (t : List ℕ) (cap n size k m : ℕ) (e : built_of t cap n size ≡ Ok (k, m)) where
   few : length (records_of t) ≡ k
   unfolding built_of
   few = clear_records (build_order t cap n size) (length (records_of t)) (length (index_text (records_of t))) k m e
@@ -139,7 +137,7 @@ module _ (t : List ℕ) (cap n size k m : ℕ) (e : built_of t cap n size ≡ bu
 
   a_text : is_text t ≡ true
   unfolding check_of build_order sheet_order
-  a_text = sym (passed t refl (front_clear (text_order t) (Ground.given JoinFull (ltb cap max_text) ∷ []) (front_clear (sheet_order t cap) (room_for n size (records_of t)) (none outcome.Refused outcome.Passed))))
+  a_text = sym (passed t refl (front_clear (text_order t) (Ground.given JoinFull (ltb cap max_text) ∷ []) (front_clear (sheet_order t cap) (room_for n size (records_of t)) (none Err (Ok tt)))))
 
   text_is : built_text t cap n size ≡ index_text (records_of t)
   unfolding built_text
@@ -163,7 +161,7 @@ module _ (t : List ℕ) (cap n size k m : ℕ) (e : built_of t cap n size ≡ bu
   never = rw (is_own, is_read)
 
   module _ (p : ℕ) (g : k ≤ table_size p) where
-    counted_so : counted_of (built_text t cap n size) p ≡ count.Rows k
+    counted_so : counted_of (built_text t cap n size) p ≡ Ok k
     unfolding counted_of count_order in_order
     counted_so = rw (is_own, is_read, index_long (records_of t), few, le-ltb (table_size p) k g)
 

@@ -1,5 +1,6 @@
 -- The form of an index, in both directions.
 -- Assumes nothing.
+use Rattle.std.specs.Prelude.{Err, None, Ok, Option, Some}
 use mathlib.Core.Path.{◌≡◌, refl, sym, ◌∙◌, ap}
 use mathlib.Core.Bool.{Bool, true, false, cond}
 use mathlib.Core.List.{List, [], ◌∷◌, ◌++◌, flat_map}
@@ -11,13 +12,10 @@ use lib.ListN.{length, take, drop, length-drop, length-append, drop_of_length-le
 use lib.Seq.{take-append_seam, drop-append_seam}
 use Rattle.base_lists.proofs.Same.{same_refl, same_true}
 use Rattle.base_refusals.specs.Orders.{in_order}
-use Rattle.base_refusals.specs.declared.Outcome.TheVariants as outcome
 use Rattle.base_refusals.specs.declared.Refusal.TheVariants.{NotAnIndex}
 use Rattle.sheet_records.specs.Records.{Record, AllIn, record_line, index_version, header_of, index_header, index_text, row_at, rows_at, index_rows, IsIndex}
 use Rattle.sheet_records.specs.Computed.{Index, not_index, rows, with_row, on_row, record_at, record_in, rows_from, is_headed_by, is_headed, is_other, other_told, head_in, index_by, read_index_of, read_index}
 use Rattle.sheet_records.specs.declared.IndexRow.{IndexRow}
-use Rattle.sheet_records.specs.declared.RecordAt.{RecordAt}
-use Rattle.sheet_records.specs.declared.RecordAt.TheVariants.{Bad, Good}
 use Rattle.sheet_records.proofs.Further.{further}
 use Rattle.sheet_records.proofs.Lines.{headed-passes, row_next}
 use Rattle.sheet_records.proofs.Written.{row_reads}
@@ -77,7 +75,7 @@ unfolding rows_from on_row AllIn flat_map
 from_back zero t at es e = let z : ◌≡◌ {A = ℕ} 0 1 = cc in absurd (omega arith)
 from_back (suc left) t at es e = go (ltb at (length t)) refl e (from_back left t)
   where
-    more : (en : IndexRow) → record_at t at ≡ Good en → (x : Index) → rows_from left t en.next ≡ x → with_row en x ≡ rows es
+    more : (en : IndexRow) → record_at t at ≡ Some en → (x : Index) → rows_from left t en.next ≡ x → with_row en x ≡ rows es
         → ((at : ℕ) (es : List IndexRow) → rows_from left t at ≡ rows es → Held t at (records_by t es)) → Held t at (records_by t es)
     more en q (not_index r) g f ih = let z : ◌≡◌ {A = ℕ} 0 1 = cc in absurd (omega arith)
     more en q (rows ys) g f ih =
@@ -86,10 +84,10 @@ from_back (suc left) t at es e = go (ltb at (length t)) refl e (from_back left t
         let y = ih en.next ys g in
         rw (← v) (record { in_range = (w.in_range, y.in_range); text = w.text ∙ ap (λ (l : List ℕ). record_line (record_in t en) ++ l) y.text })
 
-    one : (r : RecordAt) → record_at t at ≡ r → on_row r (rows_from left t) ≡ rows es
+    one : (r : Option IndexRow) → record_at t at ≡ r → on_row r (rows_from left t) ≡ rows es
         → ((at : ℕ) (es : List IndexRow) → rows_from left t at ≡ rows es → Held t at (records_by t es)) → Held t at (records_by t es)
-    one Bad q f ih = let z : ◌≡◌ {A = ℕ} 0 1 = cc in absurd (omega arith)
-    one (Good en) q f ih = more en q (rows_from left t en.next) refl f ih
+    one None q f ih = let z : ◌≡◌ {A = ℕ} 0 1 = cc in absurd (omega arith)
+    one (Some en) q f ih = more en q (rows_from left t en.next) refl f ih
 
     go : (x : Bool) → ltb at (length t) ≡ x → cond x (on_row (record_at t at) (rows_from left t)) (rows []) ≡ rows es
         → ((at : ℕ) (es : List IndexRow) → rows_from left t at ≡ rows es → Held t at (records_by t es)) → Held t at (records_by t es)
@@ -102,7 +100,7 @@ pub read_is_index : ReadIsIndex
 unfolding read_index_of head_in in_order index_text
 read_is_index t es e = go (is_other index_version t) (is_headed t) refl e
   where
-    go : (o x : Bool) → is_headed t ≡ x → index_by index_version t (cond o (outcome.Refused (other_told index_version)) (cond x outcome.Passed (outcome.Refused NotAnIndex))) ≡ rows es → IsIndex t (records_by t es)
+    go : (o x : Bool) → is_headed t ≡ x → index_by index_version t (cond o (Err (other_told index_version)) (cond x (Ok tt) (Err NotAnIndex))) ≡ rows es → IsIndex t (records_by t es)
     go true x b f = let z : ◌≡◌ {A = ℕ} 0 1 = cc in absurd (omega arith)
     go false true b f =
         let w = from_back (suc (length t)) t (length index_header) es f in

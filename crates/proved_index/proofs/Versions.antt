@@ -1,5 +1,7 @@
 -- The first line of an index, and what is refused for it.
 -- Assumes nothing.
+use Rattle.std.proofs.lemmas.Option.{some_pair_parts}
+use Rattle.std.specs.Prelude.{None, Option, Some}
 use mathlib.Core.Path.{◌≡◌, refl, sym, ◌∙◌, ap}
 use mathlib.Core.Bool.{Bool, true, false, cond, not, ◌&&◌}
 use mathlib.Core.List.{List, ◌∷◌, ◌++◌, flat_map, append_assoc}
@@ -18,8 +20,6 @@ use Rattle.base_refusals.specs.declared.Refusal.TheVariants.{NotAnIndex, Another
 use Rattle.text_digits.specs.Decimal.{decimal}
 use Rattle.sheet_records.specs.Records.{record_line, most_number, index_version, header_of}
 use Rattle.sheet_records.specs.Computed.{Index, not_index, rows, field_at, is_headed_by, head_front, ends_line, is_numbered, is_other, other_told, head_in, read_index_of, read_index}
-use Rattle.sheet_records.specs.declared.NumberAt.{NumberAt}
-use Rattle.sheet_records.specs.declared.NumberAt.TheVariants.{Unread, Read}
 use Rattle.sheet_records.specs.declared.IndexRow.{IndexRow}
 use Rattle.sheet_index.specs.Finding.{records_by}
 use Rattle.sheet_index.proofs.Rows.{Whys, whys}
@@ -39,7 +39,7 @@ module _ (n : ℕ) (s : List ℕ) (k : n ≤ most_number) where
   front_is : drop (length head_front) (header_of n ++ s) ≡ decimal n ++ (10 ∷ s)
   front_is = rw (head_parts n s) (drop-append_seam head_front (decimal n ++ (10 ∷ s)))
 
-  number_read : field_at (header_of n ++ s) (length head_front) 0 ≡ Read n (length head_front + length (decimal n))
+  number_read : field_at (header_of n ++ s) (length head_front) 0 ≡ Some (n, length head_front + length (decimal n))
   unfolding is_digit within
   number_read = field_reads (header_of n ++ s) (length head_front) n (10 ∷ s) front_is 0 refl (omega arith) k
 
@@ -58,10 +58,10 @@ headed-text v t e = sym (take-append-drop (length (header_of v)) t) ∙ ap (λ (
 -- no text begins with those of two versions
 one_version : (v n : ℕ) (t s : List ℕ) → v ≤ most_number → n ≤ most_number → is_headed_by v t ≡ true → t ≡ header_of n ++ s → n ≡ v
 one_version v n t s k l e f =
-    let a : field_at t (length head_front) 0 ≡ Read v (length head_front + length (decimal v)) = ap (λ (x : List ℕ). field_at x (length head_front) 0) (headed-text v t e) ∙ number_read v (drop (length (header_of v)) t) k in
-    let b : field_at t (length head_front) 0 ≡ Read n (length head_front + length (decimal n)) = ap (λ (x : List ℕ). field_at x (length head_front) 0) f ∙ number_read n s l in
-    let c : Read n (length head_front + length (decimal n)) ≡ Read v (length head_front + length (decimal v)) = sym b ∙ a in
-    cc
+    let a : field_at t (length head_front) 0 ≡ Some (v, length head_front + length (decimal v)) = ap (λ (x : List ℕ). field_at x (length head_front) 0) (headed-text v t e) ∙ number_read v (drop (length (header_of v)) t) k in
+    let b : field_at t (length head_front) 0 ≡ Some (n, length head_front + length (decimal n)) = ap (λ (x : List ℕ). field_at x (length head_front) 0) f ∙ number_read n s l in
+    let c : Some (n, length head_front + length (decimal n)) ≡ Some (v, length head_front + length (decimal v)) = sym b ∙ a in
+    (some_pair_parts n v _ _ c).0
 
 -- ---- the rule and the computing
 
@@ -84,9 +84,9 @@ module _ (v : ℕ) (t : List ℕ) (k : v ≤ most_number) where
       let b = both (same (take (length head_front) t) head_front) (ends_line t (field_at t (length head_front) 0)) a.0 in
       go (field_at t (length head_front) 0) refl b.1 (same_true (take (length head_front) t) head_front b.0) (not-true (is_headed_by v t) a.1)
     where
-      go : (f : NumberAt) → field_at t (length head_front) 0 ≡ f → ends_line t f ≡ true → take (length head_front) t ≡ head_front → is_headed_by v t ≡ false → OtherHeader v t
-      go Unread q b h n = let z : ◌≡◌ {A = ℕ} 0 1 = cc in absurd (omega arith)
-      go (Read m p) q b h n =
+      go : (f : Option (ℕ × ℕ)) → field_at t (length head_front) 0 ≡ f → ends_line t f ≡ true → take (length head_front) t ≡ head_front → is_headed_by v t ≡ false → OtherHeader v t
+      go None q b h n = let z : ◌≡◌ {A = ℕ} 0 1 = cc in absurd (omega arith)
+      go (Some (m, p)) q b h n =
           let w = field_back t (length head_front) 0 m p q in
           let x : t ≡ header_of m ++ drop (suc p) t = sym (take-append-drop (length head_front) t) ∙ (ap (λ (l : List ℕ). l ++ drop (length head_front) t) h ∙ (ap (λ (l : List ℕ). head_front ++ l) (w.text ∙ ap (λ (l : List ℕ). decimal m ++ l) (byte_is t p 10 b)) ∙ sym (head_parts m (drop (suc p) t)))) in
           record { number = m; within = w.below; other = λ (y : m ≡ v). apart (ap (λ (i : ℕ). header_of i ++ drop (suc p) t) y) x n; behind = drop (suc p) t; text = x }

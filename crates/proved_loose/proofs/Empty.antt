@@ -1,5 +1,6 @@
 -- When nothing is left, that a second call answers no, and that no bytes are no raw bytes.
 -- Assumes nothing.
+use Rattle.std.specs.Prelude.{Err, Ok}
 use mathlib.Core.Path.{◌≡◌, refl, sym, ◌∙◌, ap}
 use mathlib.Core.Bool.{Bool, true, false, cond, not}
 use mathlib.Core.List.{List, [], ◌∷◌}
@@ -19,8 +20,6 @@ use Rattle.set_table.specs.declared.Attrs.{Attrs}
 use Rattle.set_table.proofs.Whole.{rows_table}
 use Rattle.set_wellformed.specs.WellFormed.{well_formed}
 use Rattle.set_writer.specs.Write.{writable, attrs_wrote}
-use Rattle.set_writer.specs.declared.Wrote.TheVariants as wrote
-use Rattle.set_loose.specs.declared.Did.TheVariants.{Yes, No}
 use Rattle.set_loose.specs.declared.Consumed.{Consumed}
 use Rattle.set_loose.specs.Loose.{loose_name, is_loose, without_loose, loose_of}
 use Rattle.set_loose.proofs.Whole.{some_raw}
@@ -65,7 +64,7 @@ lone n v (x ∷ m) d l e = go (same x.name n) refl l e
         λ i. record { name = w i; values = l i } ∷ rest i
     go false q l e = let y : ◌≡◌ {A = ℕ} 1 0 = cc in absurd (omega arith)
 
-module _ (t : Texts) (a : Attrs) (w : well_formed t a ≡ true) (d : (loose_of t a).did ≡ Yes) where
+module _ (t : Texts) (a : Attrs) (w : well_formed t a ≡ true) (d : (loose_of t a).did ≡ Ok true) where
   loose : is_loose (meaning_of t a) ≡ true
   loose = when_yes t a w d
 
@@ -89,7 +88,7 @@ module _ (t : Texts) (a : Attrs) (w : well_formed t a ≡ true) (d : (loose_of t
       let k : without_loose t (rows_in a) ≡ no_rows = sym (rows_table (without_loose t (rows_in a))) ∙ sym (ap rows_in (left_yes t a w loose)) ∙ r in
       left_yes t a w loose ∙ ap table_of k ∙ empty_table
 
-  unwritten : (loose_of t a).set ≡ empty_set → (size : ℕ) → attrs_wrote t (loose_of t a).set size ≡ wrote.Refused EmptySet
+  unwritten : (loose_of t a).set ≡ empty_set → (size : ℕ) → attrs_wrote t (loose_of t a).set size ≡ Err EmptySet
   unfolding attrs_wrote writable
   unwritten e size = let z = formed_parts t a w in rw (both_pass t z.0 z.1, left_formed t a w, e, empty_means t)
 
@@ -104,10 +103,10 @@ still m = rw (gone_name loose_name m)
 pub loose_once : LooseOnce
 loose_once t a w = go (is_loose (meaning_of t a)) refl
   where
-    second : is_loose (meaning_of t (loose_of t a).set) ≡ false → (loose_of t (loose_of t a).set).did ≡ No
+    second : is_loose (meaning_of t (loose_of t a).set) ≡ false → (loose_of t (loose_of t a).set).did ≡ Ok false
     second e = ap (λ (c : Consumed). c.did) (answer t (loose_of t a).set (loose_means t a w).formed) ∙ rw e
 
-    go : (b : Bool) → is_loose (meaning_of t a) ≡ b → (loose_of t (loose_of t a).set).did ≡ No
+    go : (b : Bool) → is_loose (meaning_of t a) ≡ b → (loose_of t (loose_of t a).set).did ≡ Ok false
     go true e = second (ap is_loose (means_left t a w e) ∙ still (meaning_of t a))
     go false e = second (ap is_loose (stays_left t a w e) ∙ e)
 

@@ -1,5 +1,6 @@
 -- What the answer means, which rows stay, and that the set handed out is well-formed.
 -- Assumes nothing.
+use Rattle.std.specs.Prelude.{Err, Ok, Result}
 use mathlib.Core.Path.{◌≡◌, refl, sym, ◌∙◌, ap}
 use mathlib.Core.Bool.{Bool, true, false, cond}
 use mathlib.Core.List.{List, [], ◌∷◌}
@@ -13,8 +14,6 @@ use Rattle.base_lists.proofs.Scan.{both}
 use Rattle.base_lists.proofs.More.{contra}
 use Rattle.base_refusals.specs.declared.Refusal.{Refusal}
 use Rattle.base_refusals.specs.declared.Refusal.TheVariants.{NotWellFormed}
-use Rattle.base_refusals.specs.declared.Outcome.{Outcome}
-use Rattle.base_refusals.specs.declared.Outcome.TheVariants as outcome
 use Rattle.text_checks.specs.Check.{both_of}
 use Rattle.block_grammar.specs.Meaning.{Entry, lookup, once_in, classes_once}
 use Rattle.set_table.specs.Types.{Texts, value_bytes, zero_row, empty_set}
@@ -29,8 +28,6 @@ use Rattle.set_wellformed.proofs.Shape.{Passed, shaped, table_passed}
 use Rattle.set_merge.proofs.Whole.{few}
 use Rattle.set_lent.specs.Lent.{loose_end}
 use Rattle.set_loose.specs.declared.Consumed.{Consumed}
-use Rattle.set_loose.specs.declared.Did.{Did}
-use Rattle.set_loose.specs.declared.Did.TheVariants.{Refused, Yes, No}
 use Rattle.set_loose.specs.Without.{without_at, without_row}
 use Rattle.set_loose.specs.Loose.{loose_name, is_no_bytes, is_loose, row_named, without_loose, consumed_by, not_consumed, loose_by, loose_of}
 use Rattle.set_loose.proofs.Without.{gone-length, low, high}
@@ -44,13 +41,13 @@ use Rattle.proved_loose.specs.Loose.{without_name, SaysLoose, LooseMeans, ActsBy
 use Rattle.proved_loose.proofs.Without.{shaped_without, without_means}
 
 -- ---- answers differ
-yes_no : {A : Type 0} → Yes ≡ No → A
+yes_no : {A : Type 0} → ◌≡◌ {A = Result Bool Refusal} (Ok true) (Ok false) → A
 yes_no e = let z : ◌≡◌ {A = ℕ} 0 1 = cc in absurd (omega arith)
 
-refused_yes : {A : Type 0} {r : Refusal} → Refused r ≡ Yes → A
+refused_yes : {A : Type 0} {r : Refusal} → Err r ≡ Ok true → A
 refused_yes e = let z : ◌≡◌ {A = ℕ} 0 1 = cc in absurd (omega arith)
 
-refused_no : {A : Type 0} {r : Refusal} → Refused r ≡ No → A
+refused_no : {A : Type 0} {r : Refusal} → Err r ≡ Ok false → A
 refused_no e = let z : ◌≡◌ {A = ℕ} 0 1 = cc in absurd (omega arith)
 
 -- ---- classes that don't count are passed over
@@ -110,14 +107,14 @@ module _ (t : Texts) (a : Attrs) (w : well_formed t a ≡ true) where
   by_answer b e = answer ∙ ap (λ x. consumed_by x t (rows_in a)) e
 
   -- which of the two it is
-  pub when_yes : (loose_of t a).did ≡ Yes → is_loose (meaning_of t a) ≡ true
+  pub when_yes : (loose_of t a).did ≡ Ok true → is_loose (meaning_of t a) ≡ true
   when_yes d = go (is_loose (meaning_of t a)) refl
     where
       go : (b : Bool) → is_loose (meaning_of t a) ≡ b → b ≡ true
       go true e = refl
       go false e = yes_no (sym d ∙ ap (λ (c : Consumed). c.did) (by_answer false e))
 
-  pub when_no : (loose_of t a).did ≡ No → is_loose (meaning_of t a) ≡ false
+  pub when_no : (loose_of t a).did ≡ Ok false → is_loose (meaning_of t a) ≡ false
   when_no d = go (is_loose (meaning_of t a)) refl
     where
       go : (b : Bool) → is_loose (meaning_of t a) ≡ b → b ≡ false
@@ -193,7 +190,7 @@ loose_means t a w =
       formed = let z = formed_parts t a w in formed_whole t (loose_of t a).set z.0 z.1 ∙ left_formed t a w;
     }
   where
-    untaken : (r : Refusal) (b : Bool) → is_loose (meaning_of t a) ≡ b → (loose_of t a).did ≡ Refused r → ⊥
+    untaken : (r : Refusal) (b : Bool) → is_loose (meaning_of t a) ≡ b → (loose_of t a).did ≡ Err r → ⊥
     untaken r true e d = refused_yes (sym d ∙ ap (λ (c : Consumed). c.did) (by_answer t a w true e))
     untaken r false e d = refused_no (sym d ∙ ap (λ (c : Consumed). c.did) (by_answer t a w false e))
 
@@ -212,8 +209,8 @@ others_kept t a w d = stay t a w (when_yes t a w d)
 -- whatever is handed out is the empty set of a refusal, or a table of rows
 pub data Handed (t : Texts) (a : Attrs) : Consumed → Type 0 where
   none : (r : Refusal) → Handed t a (not_consumed r)
-  left : (s : Rows) → Handed t a (record { did = Yes; set = table_of s })
-  same_rows : Handed t a (record { did = No; set = table_of (rows_in a) })
+  left : (s : Rows) → Handed t a (record { did = Ok true; set = table_of s })
+  same_rows : Handed t a (record { did = Ok false; set = table_of (rows_in a) })
 
 handed : (t : Texts) (a : Attrs) → Handed t a (loose_of t a)
 unfolding loose_of
@@ -224,9 +221,9 @@ handed t a = by_check (both_of t.first t.second)
     by_table true false = Handed.same_rows
     by_table false l = Handed.none NotWellFormed
 
-    by_check : (o : Outcome) → Handed t a (loose_by o t a)
-    by_check (outcome.Refused r) = Handed.none r
-    by_check outcome.Passed = by_table (table_ok t a) (is_loose (meaning_of t a))
+    by_check : (o : Result (Unit {0}) Refusal) → Handed t a (loose_by o t a)
+    by_check (Err r) = Handed.none r
+    by_check (Ok _) = by_table (table_ok t a) (is_loose (meaning_of t a))
 
 pub loose_zeroed : LooseZeroed
 loose_zeroed t a = go (handed t a)
@@ -239,7 +236,7 @@ loose_zeroed t a = go (handed t a)
 pub refused_empty : RefusedEmpty
 refused_empty t a r = go (handed t a)
   where
-    go : {c : Consumed} → Handed t a c → c.did ≡ Refused r → c.set ≡ empty_set
+    go : {c : Consumed} → Handed t a c → c.did ≡ Err r → c.set ≡ empty_set
     go (Handed.none q) e = refl
     go (Handed.left s) e = refused_yes (sym e)
     go Handed.same_rows e = refused_no (sym e)
@@ -247,7 +244,7 @@ refused_empty t a r = go (handed t a)
 pub all_kept : AllKept
 all_kept t a = go (handed t a)
   where
-    go : {c : Consumed} → Handed t a c → c.did ≡ No → rows_in c.set ≡ rows_in a
+    go : {c : Consumed} → Handed t a c → c.did ≡ Ok false → rows_in c.set ≡ rows_in a
     go (Handed.none r) e = refused_no e
     go (Handed.left s) e = yes_no e
     go Handed.same_rows e = rows_table (rows_in a)
@@ -257,10 +254,10 @@ pub lent_stays : LentStays
 unfolding loose_end
 lent_stays was c n = go c.did refl
   where
-    go : (d : Did) → c.did ≡ d → loose_end was c ≡ was
-    go (Refused r) e = rw e
-    go Yes e = absurd (n e)
-    go No e = rw e
+    go : (d : Result Bool Refusal) → c.did ≡ d → loose_end was c ≡ was
+    go (Err r) e = rw e
+    go (Ok true) e = absurd (n e)
+    go (Ok false) e = rw e
 
 pub lent_goes : LentGoes
 unfolding loose_end

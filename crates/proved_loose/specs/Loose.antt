@@ -1,6 +1,6 @@
 -- "it acts only if the key's unescaped value is empty, removes the key and its slot, and answers whether it did. Other rows keep order and content. The
 -- result is well-formed, may be empty, and the writer then answers 12."
-use Rattle.std.specs.Prelude.{◌≡◌, true, cond, List, [], ◌∷◌, ℕ, suc, ◌<◌, ◌≤◌, length, get_or}
+use Rattle.std.specs.Prelude.{◌≡◌, true, cond, List, [], ◌∷◌, ℕ, suc, ◌<◌, ◌≤◌, length, get_or, Err, Ok, false}
 use Rattle.base_lists.specs.Lists.{same}
 use Rattle.base_refusals.specs.declared.Refusal.{Refusal}
 use Rattle.base_refusals.specs.declared.Refusal.TheVariants.{EmptySet}
@@ -11,9 +11,7 @@ use Rattle.set_table.specs.Rows.{rows_in, listed_of, meaning_of}
 use Rattle.set_table.specs.declared.Attrs.{Attrs}
 use Rattle.set_wellformed.specs.WellFormed.{well_formed}
 use Rattle.set_writer.specs.Write.{attrs_wrote}
-use Rattle.set_writer.specs.declared.Wrote.TheVariants as wrote
 use Rattle.set_lent.specs.Lent.{loose_end}
-use Rattle.set_loose.specs.declared.Did.TheVariants.{Refused, Yes, No}
 use Rattle.set_loose.specs.declared.Consumed.{Consumed}
 use Rattle.set_loose.specs.Loose.{loose_name, row_named, loose_of}
 use Rattle.proved_sets.specs.HandedOut.{Zeroed}
@@ -30,11 +28,11 @@ SaysLoose m = lookup loose_name m ≡ [] ∷ []
 -- ---- what the answer means
 pub record ActsRight (t : Texts) (a : Attrs) : Type 0 where
   -- "it acts only if the key's unescaped value is empty, removes the key and its slot"
-  pub acts : (loose_of t a).did ≡ Yes → SaysLoose (meaning_of t a) × (meaning_of t (loose_of t a).set ≡ without_name loose_name (meaning_of t a))
+  pub acts : (loose_of t a).did ≡ Ok true → SaysLoose (meaning_of t a) × (meaning_of t (loose_of t a).set ≡ without_name loose_name (meaning_of t a))
   -- and then it does: no other no is given, and the set still means what it meant
-  pub stays : (loose_of t a).did ≡ No → (SaysLoose (meaning_of t a) → ⊥) × (meaning_of t (loose_of t a).set ≡ meaning_of t a)
+  pub stays : (loose_of t a).did ≡ Ok false → (SaysLoose (meaning_of t a) → ⊥) × (meaning_of t (loose_of t a).set ≡ meaning_of t a)
   -- a well-formed set isn't refused
-  pub taken : (r : Refusal) → (loose_of t a).did ≡ Refused r → ⊥
+  pub taken : (r : Refusal) → (loose_of t a).did ≡ Err r → ⊥
   -- "The result is well-formed"
   pub formed : well_formed t (loose_of t a).set ≡ true
 
@@ -59,11 +57,11 @@ pub record RowsStay (t : Texts) (a : Attrs) : Type 0 where
   pub lists : listed_of t (loose_of t a).set ≡ without_name loose_name (listed_of t a)
 
 abbrev pub OthersKept : Type 0
-OthersKept = (t : Texts) (a : Attrs) → well_formed t a ≡ true → (loose_of t a).did ≡ Yes → RowsStay t a
+OthersKept = (t : Texts) (a : Attrs) → well_formed t a ≡ true → (loose_of t a).did ≡ Ok true → RowsStay t a
 
 -- and where it doesn't act all of them are kept
 abbrev pub AllKept : Type 0
-AllKept = (t : Texts) (a : Attrs) → (loose_of t a).did ≡ No → rows_in (loose_of t a).set ≡ rows_in a
+AllKept = (t : Texts) (a : Attrs) → (loose_of t a).did ≡ Ok false → rows_in (loose_of t a).set ≡ rows_in a
 
 -- ---- what is handed out, of any table over any texts
 
@@ -73,27 +71,27 @@ LooseZeroed = (t : Texts) (a : Attrs) → Zeroed (loose_of t a).set
 
 -- a refusal hands out no set
 abbrev pub RefusedEmpty : Type 0
-RefusedEmpty = (t : Texts) (a : Attrs) (r : Refusal) → (loose_of t a).did ≡ Refused r → (loose_of t a).set ≡ empty_set
+RefusedEmpty = (t : Texts) (a : Attrs) (r : Refusal) → (loose_of t a).did ≡ Err r → (loose_of t a).set ≡ empty_set
 
 -- ---- "may be empty, and the writer then answers 12"
 pub record EmptyLeft (t : Texts) (a : Attrs) : Type 0 where
   pub all_there_was : (loose_of t a).set ≡ empty_set → meaning_of t a ≡ record { name = loose_name; values = [] ∷ [] } ∷ []
   pub empties : meaning_of t a ≡ record { name = loose_name; values = [] ∷ [] } ∷ [] → (loose_of t a).set ≡ empty_set
-  pub unwritten : (loose_of t a).set ≡ empty_set → (size : ℕ) → attrs_wrote t (loose_of t a).set size ≡ wrote.Refused EmptySet
+  pub unwritten : (loose_of t a).set ≡ empty_set → (size : ℕ) → attrs_wrote t (loose_of t a).set size ≡ Err EmptySet
 
 abbrev pub LooseEmpty : Type 0
-LooseEmpty = (t : Texts) (a : Attrs) → well_formed t a ≡ true → (loose_of t a).did ≡ Yes → EmptyLeft t a
+LooseEmpty = (t : Texts) (a : Attrs) → well_formed t a ≡ true → (loose_of t a).did ≡ Ok true → EmptyLeft t a
 
 -- "A loose list must say so once": a second call answers no
 abbrev pub LooseOnce : Type 0
-LooseOnce = (t : Texts) (a : Attrs) → well_formed t a ≡ true → (loose_of t (loose_of t a).set).did ≡ No
+LooseOnce = (t : Texts) (a : Attrs) → well_formed t a ≡ true → (loose_of t (loose_of t a).set).did ≡ Ok false
 
 -- ---- of a lent set: unless the answer is yes, it is as it was, to its last row
 abbrev pub LentStays : Type 0
-LentStays = (was : Attrs) (c : Consumed) → (c.did ≡ Yes → ⊥) → loose_end was c ≡ was
+LentStays = (was : Attrs) (c : Consumed) → (c.did ≡ Ok true → ⊥) → loose_end was c ≡ was
 
 abbrev pub LentGoes : Type 0
-LentGoes = (was : Attrs) (c : Consumed) → c.did ≡ Yes → loose_end was c ≡ c.set
+LentGoes = (was : Attrs) (c : Consumed) → c.did ≡ Ok true → loose_end was c ≡ c.set
 
 -- ---- "the key's unescaped value is empty" exactly where it has no raw bytes either
 abbrev pub NoBytesRaw : Type 0

@@ -1,5 +1,6 @@
 -- A mended index is the fresh one.
 -- Assumes nothing.
+use Rattle.std.specs.Prelude.{Err, Ok, Result}
 use mathlib.Core.Path.{◌≡◌, refl, sym, ◌∙◌}
 use mathlib.Core.Bool.{Bool, true, false}
 use mathlib.Core.List.{List, [], ◌∷◌, ◌++◌}
@@ -9,16 +10,14 @@ use lib.Dec.{ltb}
 use lib.ListN.{length}
 use Rattle.base_lists.specs.Lists.{same}
 use Rattle.base_lists.proofs.Same.{same_true}
-use Rattle.base_refusals.specs.Numbers.{max_text}
+use Rattle.base_refusals.specs.Numbers.{max_text, passed}
 use Rattle.base_refusals.specs.Orders.{Ground, in_order}
 use Rattle.base_refusals.specs.declared.Refusal.{Refusal}
 use Rattle.base_refusals.specs.declared.Refusal.TheVariants.{NothingThere, JoinFull}
-use Rattle.base_refusals.specs.declared.Outcome.TheVariants as outcome
 use Rattle.text_checks.specs.Check.{text_order}
 use Rattle.sheet_records.specs.Records.{index_text, index_rows, table_numbers}
 use Rattle.sheet_records.specs.Listed.{records_of}
 use Rattle.sheet_index.specs.Building.{sheet_order, room_for, build_order, built_of, built_text, built_table}
-use Rattle.sheet_index.specs.declared.Built.TheVariants as build
 use Rattle.sheet_index.proofs.Steps.{order_past, order_parts}
 use Rattle.sheet_edits.specs.Edits.{again_of, is_again}
 use Rattle.sheet_edits.proofs.Cuts.{again_replaced}
@@ -28,9 +27,9 @@ use Rattle.proved_mends.specs.Mended.{Afresh, MendedAfresh, RefusedLeaves}
 -- ---- an order of which no ground holds
 
 abbrev Clear : List Ground → Type 0
-Clear gs = in_order outcome.Refused gs outcome.Passed ≡ outcome.Passed
+Clear gs = in_order Err gs passed ≡ passed
 
-is_clear : (gs : List Ground) (x y k m : ℕ) → in_order build.Refused gs (build.Index x y) ≡ build.Index k m → Clear gs
+is_clear : (gs : List Ground) (x y k m : ℕ) → in_order {A = Result (ℕ × ℕ) Refusal} Err gs (Ok (x, y)) ≡ Ok (k, m) → Clear gs
 unfolding in_order
 is_clear [] x y k m e = refl
 is_clear (Ground.given q true ∷ gs) x y k m e = let z : ◌≡◌ {A = ℕ} 0 1 = cc in absurd (omega arith)
@@ -39,7 +38,7 @@ is_clear (Ground.lacking q true ∷ gs) x y k m e = is_clear gs x y k m e
 is_clear (Ground.lacking q false ∷ gs) x y k m e = let z : ◌≡◌ {A = ℕ} 0 1 = cc in absurd (omega arith)
 
 both_clear : (gs hs : List Ground) → Clear gs → Clear hs → Clear (gs ++ hs)
-both_clear gs hs e f = order_past outcome.Refused outcome.Passed gs hs e ∙ f
+both_clear gs hs e f = order_past Err passed gs hs e ∙ f
 
 -- then the value itself is given, whatever it is
 clear_gives : {A : Type 0} (f : Refusal → A) (x : A) (gs : List Ground) → Clear gs → in_order f gs x ≡ x
@@ -57,7 +56,7 @@ lacking_clear q true e = refl
 lacking_clear q false e = let z : ◌≡◌ {A = ℕ} 0 1 = cc in absurd (omega arith)
 
 -- where one holds, nothing is laid
-met_lays : (gs : List Ground) (x y : ℕ) (r : Refusal) → in_order build.Refused gs (build.Index x y) ≡ build.Refused r → (xs : List ℕ) → in_order {A = List ℕ} (λ q. []) gs xs ≡ []
+met_lays : (gs : List Ground) (x y : ℕ) (r : Refusal) → in_order {A = Result (ℕ × ℕ) Refusal} Err gs (Ok (x, y)) ≡ Err r → (xs : List ℕ) → in_order {A = List ℕ} (λ q. []) gs xs ≡ []
 unfolding in_order
 met_lays [] x y r e xs = let z : ◌≡◌ {A = ℕ} 0 1 = cc in absurd (omega arith)
 met_lays (Ground.given q true ∷ gs) x y r e xs = refl
@@ -67,7 +66,7 @@ met_lays (Ground.lacking q false ∷ gs) x y r e xs = refl
 
 -- ---- mending
 
-module _ (old new : List ℕ) (a b : ℕ) (index : List ℕ) (cap n size k m : ℕ) (e : mended_of old new a b index cap n size ≡ build.Index k m) where
+module _ (old new : List ℕ) (a b : ℕ) (index : List ℕ) (cap n size k m : ℕ) (e : mended_of old new a b index cap n size ≡ Ok (k, m)) where
   abbrev room : List Ground
   room = room_for n size (records_of new)
 
@@ -100,8 +99,8 @@ module _ (old new : List ℕ) (a b : ℕ) (index : List ℕ) (cap n size k m : �
         replaced = again_replaced old new a b (lacking_clear NothingThere (is_again (again_of old new a b)) new_clear.1);
         own = same_true index (index_text (records_of old)) (lacking_clear _ (same index (index_text (records_of old))) rest_clear.0);
         answer =
-            clear_gives build.Refused (build.Index (length (records_of new)) (length (index_text (records_of new)))) (build_order new cap n size) build_clear
-            ∙ (sym (clear_gives build.Refused (build.Index (length (records_of new)) (length (index_text (records_of new)))) (mend_order old new a b index cap n size) clear) ∙ e);
+            clear_gives {A = Result (ℕ × ℕ) Refusal} Err (Ok (length (records_of new), length (index_text (records_of new)))) (build_order new cap n size) build_clear
+            ∙ (sym (clear_gives {A = Result (ℕ × ℕ) Refusal} Err (Ok (length (records_of new), length (index_text (records_of new)))) (mend_order old new a b index cap n size) clear) ∙ e);
         text =
             clear_gives (λ q. []) (index_text (records_of new)) (mend_order old new a b index cap n size) clear
             ∙ sym (clear_gives (λ q. []) (index_text (records_of new)) (build_order new cap n size) build_clear);

@@ -1,10 +1,9 @@
 -- "mend after lines a to b were replaced. The mended index equals one built afresh from the new text."
-use Rattle.std.specs.Prelude.{◌≡◌, true, List, ℕ, ◌≤◌, length}
+use Rattle.std.specs.Prelude.{◌≡◌, true, List, ℕ, ◌≤◌, length, Some}
 use Rattle.base_refusals.specs.Numbers.{max_text}
 use Rattle.sheet_edits.specs.Edits.{Replaced, again_of, is_again}
 use Rattle.sheet_edits.specs.Rules.{ReadAgain}
 use Rattle.sheet_edits.specs.Mends.{Mends}
-use Rattle.sheet_edits.specs.declared.Again.TheVariants.{Lines}
 
 -- 3 as a rule: "lines a to b not in the old text, or the new text not beginning with the old bytes before line a and, without overlap, ending with those after line b".
 -- It isn't given exactly where some bytes stand in the place of these lines.
@@ -19,8 +18,8 @@ ThreeByRule = (old new : List ℕ) (a b : ℕ) → ByRule old new a b
 -- the new text behind what stands in the place of lines a to b, else to the end.
 abbrev pub AgainByRule : Type 0
 AgainByRule = (old new : List ℕ) (a b p e n : ℕ)
-    → (again_of old new a b ≡ Lines p e n → ReadAgain old new a b p e n) × (ReadAgain old new a b p e n → again_of old new a b ≡ Lines p e n)
+    → (again_of old new a b ≡ Some (p, e, n) → ReadAgain old new a b p e n) × (ReadAgain old new a b p e n → again_of old new a b ≡ Some (p, e, n))
 
 -- the records before the lines that are read again are kept, those behind them are kept and moved, and with those of these lines they are the new text's
 abbrev pub MendedIsFresh : Type 0
-MendedIsFresh = (old new : List ℕ) (a b p e n : ℕ) → again_of old new a b ≡ Lines p e n → length old ≤ max_text → length new ≤ max_text → Mends old new p e n
+MendedIsFresh = (old new : List ℕ) (a b p e n : ℕ) → again_of old new a b ≡ Some (p, e, n) → length old ≤ max_text → length new ≤ max_text → Mends old new p e n

@@ -1,5 +1,6 @@
 -- A set with its two texts changed over, over the texts changed over.
 -- Assumes nothing.
+use Rattle.std.specs.Prelude.{Err, Ok, Result}
 use mathlib.Core.Path.{◌≡◌, refl, ◌∙◌, ap}
 use mathlib.Core.Bool.{Bool, true, false, cond}
 use mathlib.Core.List.{List, [], ◌∷◌, map}
@@ -8,8 +9,6 @@ use native.Mathlib.Omega.{arith}
 use lib.ListN.{length, get_or, take, replicate, length-map}
 use lib.Seq.{slice, take-append_seam, drop-append_seam}
 use Rattle.base_lists.proofs.More.{contra}
-use Rattle.base_refusals.specs.declared.Outcome.{Outcome}
-use Rattle.base_refusals.specs.declared.Outcome.TheVariants as outcome
 use Rattle.text_checks.specs.Check.{is_text, both_of}
 use Rattle.text_checks.specs.Outcomes.{or_else, or_left}
 use Rattle.set_table.specs.Types.{Texts, text_at, range_bytes, name_bytes, text_bytes, value_bytes, max_classes, max_keys, zero_value, zero_row, empty_set}
@@ -27,7 +26,6 @@ use Rattle.set_table.specs.declared.Filled.{Filled}
 use Rattle.set_exchange.specs.Exchange.{other_origin, changed_over, other_text, other_value, other_name, other_row, firsts_by, exchanged}
 use Rattle.set_values.specs.Values.{range_ok, text_ok, name_ok}
 use Rattle.set_wellformed.specs.WellFormed.{counts_ok, table_ok, well_formed}
-use Rattle.set_writer.specs.declared.Wrote.{Wrote}
 use Rattle.set_writer.specs.Write.{or_refused, writable, attrs_wrote, attrs_content}
 use Rattle.set_merge.specs.Merge.{merged_by, merge_of}
 use Rattle.proved_origins.specs.Exchanged.{ExchangeKeeps, ExchangeRest, ExchangeMerges, ExchangeWrites}
@@ -35,6 +33,7 @@ use Rattle.proved_origins.proofs.Pairs.{Pairs, pairs-length, pairs_are}
 use Rattle.proved_origins.proofs.Alike.{IdentLike, RowLike, RowsLike, Keeps, is_there_lem}
 use Rattle.proved_origins.proofs.Checks.{passes, and_changed, both_changed, both_pass, both_texts}
 use Rattle.proved_origins.proofs.Sets.{SetsLike, Follows, same_table, same-meaning, same_merge}
+use Rattle.base_refusals.specs.declared.Refusal.{Refusal}
 
 -- ---- twice is nothing
 origin_twice : (o : Origin) → other_origin (other_origin o) ≡ o
@@ -210,17 +209,17 @@ follows : Follows Other OtherName (λ f f'. f' ≡ with_exchanged f)
 follows = record { refused = λ r. rw empty_exchanged; done = λ s s' h. rw (table_exchanged s s' h) }
 
 module _ (t : Texts) (a b : Attrs) where
-  merged_by_lem : (o : Outcome) → merged_by o (changed_over t) (exchanged a) (exchanged b) ≡ with_exchanged (merged_by o t a b)
+  merged_by_lem : (o : Result (Unit {0}) Refusal) → merged_by o (changed_over t) (exchanged a) (exchanged b) ≡ with_exchanged (merged_by o t a b)
   merged_by_lem = same_merge (keeps t) (exchanged_like a) (exchanged_like b) follows
 
   -- a refusal's set is the empty one, whichever of the texts it is for
-  set-changed_over : (o p : Outcome) → passes o ≡ passes p → (merged_by o t a b).set ≡ (merged_by p t a b).set
+  set-changed_over : (o p : Result (Unit {0}) Refusal) → passes o ≡ passes p → (merged_by o t a b).set ≡ (merged_by p t a b).set
   set-changed_over = both_pass (λ q. (merged_by q t a b).set) empty_set (λ r. refl)
 
-  outcome_changed_over : (o p : Outcome) → passes o ≡ passes p → (merged_by o t a b).outcome ≡ or_else o (merged_by p t a b).outcome
-  outcome_changed_over (outcome.Refused r) p e = refl
-  outcome_changed_over outcome.Passed outcome.Passed e = refl
-  outcome_changed_over outcome.Passed (outcome.Refused r) e = contra true refl e
+  outcome_changed_over : (o p : Result (Unit {0}) Refusal) → passes o ≡ passes p → (merged_by o t a b).outcome ≡ or_else o (merged_by p t a b).outcome
+  outcome_changed_over (Err r) p e = refl
+  outcome_changed_over (Ok _) (Ok _) e = refl
+  outcome_changed_over (Ok _) (Err r) e = contra true refl e
 
 pub exchange_merges : ExchangeMerges
 unfolding merge_of
@@ -236,13 +235,13 @@ exchange_merges t a b =
 
 -- ---- of the writer
 module _ (t : Texts) (a : Attrs) where
-  told : (o p : Outcome) → passes o ≡ passes p → (q : Outcome) (w : Wrote) → or_refused (or_else o q) w ≡ or_refused o (or_refused (or_else p q) w)
-  told (outcome.Refused r) p e q w = refl
-  told outcome.Passed outcome.Passed e outcome.Passed w = refl
-  told outcome.Passed outcome.Passed e (outcome.Refused r) w = refl
-  told outcome.Passed (outcome.Refused r) e q w = contra true refl e
+  told : (o p : Result (Unit {0}) Refusal) → passes o ≡ passes p → (q : Result (Unit {0}) Refusal) (w : Result ℕ Refusal) → or_refused (or_else o q) w ≡ or_refused o (or_refused (or_else p q) w)
+  told (Err r) p e q w = refl
+  told (Ok _) (Ok _) e (Ok _) w = refl
+  told (Ok _) (Ok _) e (Err r) w = refl
+  told (Ok _) (Err r) e q w = contra true refl e
 
-  left : (q : Outcome) (buf xs : List ℕ) (o p : Outcome) → passes o ≡ passes p → or_left (or_else o q) buf xs ≡ or_left (or_else p q) buf xs
+  left : (q : Result (Unit {0}) Refusal) (buf xs : List ℕ) (o p : Result (Unit {0}) Refusal) → passes o ≡ passes p → or_left (or_else o q) buf xs ≡ or_left (or_else p q) buf xs
   left q buf xs = both_pass (λ r. or_left (or_else r q) buf xs) buf (λ r. refl)
 
   wrote : (size : ℕ) → attrs_wrote (changed_over t) (exchanged a) size ≡ or_refused (both_of t.second t.first) (attrs_wrote t a size)

@@ -1,24 +1,23 @@
 -- A set of the first text alone, exchanged and lent that text as the second, behaves as before.
 -- Assumes nothing.
+use Rattle.std.specs.Prelude.{Err, Ok, Result}
 use mathlib.Core.Path.{◌≡◌, refl, ◌∙◌, ap}
 use mathlib.Core.Bool.{true}
 use mathlib.Core.List.{List, []}
 use Prim.Native.Nat.{ℕ}
-use Rattle.base_refusals.specs.declared.Outcome.{Outcome}
-use Rattle.base_refusals.specs.declared.Outcome.TheVariants as outcome
 use Rattle.text_checks.specs.Check.{is_text, both_of}
 use Rattle.text_checks.specs.Outcomes.{or_else}
 use Rattle.set_table.specs.Types.{two, one}
 use Rattle.set_table.specs.declared.Origin.TheVariants.{First}
 use Rattle.set_table.specs.declared.Attrs.{Attrs}
 use Rattle.set_exchange.specs.Exchange.{exchanged}
-use Rattle.set_writer.specs.declared.Wrote.{Wrote}
 use Rattle.set_writer.specs.Write.{or_refused, writable, attrs_wrote}
 use Rattle.set_merge.specs.Merge.{merged_by, merge_of}
 use Rattle.proved_origins.specs.OneText.{is_all_of, MergesMirrored, Mirrored, MirrorsAsBefore}
 use Rattle.proved_origins.proofs.Checks.{changed_lent}
 use Rattle.proved_origins.proofs.Exchanged.{exchange_keeps, exchange_merges, exchange_writes}
 use Rattle.proved_origins.proofs.OneText.{exchanged_of, behaves_as_before}
+use Rattle.base_refusals.specs.declared.Refusal.{Refusal}
 
 module _ (t u : List ℕ) where
   -- the checks of the two texts, asked again before the answer
@@ -27,17 +26,17 @@ module _ (t u : List ℕ) where
     unfolding attrs_wrote writable
     wrote_again a size = rw (changed_lent t u h) (go (both_of t []) _ _)
       where
-        go : (o q : Outcome) (w : Wrote) → or_refused o (or_refused (or_else o q) w) ≡ or_refused (or_else o q) w
-        go outcome.Passed q w = refl
-        go (outcome.Refused r) q w = refl
+        go : (o q : Result (Unit {0}) Refusal) (w : Result ℕ Refusal) → or_refused o (or_refused (or_else o q) w) ≡ or_refused (or_else o q) w
+        go (Ok _) q w = refl
+        go (Err r) q w = refl
 
     merged_again : (a b : Attrs) → or_else (both_of u t) (merge_of (one t) a b).outcome ≡ (merge_of (one t) a b).outcome
     unfolding merge_of
     merged_again a b = rw (changed_lent t u h) (go (both_of t []))
       where
-        go : (o : Outcome) → or_else o (merged_by o (one t) a b).outcome ≡ (merged_by o (one t) a b).outcome
-        go outcome.Passed = refl
-        go (outcome.Refused r) = refl
+        go : (o : Result (Unit {0}) Refusal) → or_else o (merged_by o (one t) a b).outcome ≡ (merged_by o (one t) a b).outcome
+        go (Ok _) = refl
+        go (Err r) = refl
 
   mirrored : (a : Attrs) → is_all_of First a ≡ true → Mirrored t u a
   mirrored a e =

@@ -1,17 +1,16 @@
 -- "A set with one text only, the other being lent empty, behaves as before."
 -- Assumes nothing.
+use Rattle.std.specs.Prelude.{Err, Ok, Result}
 use mathlib.Core.Path.{◌≡◌, refl, ◌∙◌, ap}
 use mathlib.Core.Bool.{Bool, true, ◌&&◌}
 use mathlib.Core.List.{List, []}
 use Prim.Native.Nat.{ℕ}
 use Rattle.base_lists.specs.Lists.{all}
 use Rattle.base_lists.proofs.Scan.{both}
-use Rattle.base_refusals.specs.declared.Outcome.TheVariants as outcome
 use Rattle.text_checks.specs.Check.{check_of, is_text, both_of}
 use Rattle.text_checks.specs.Outcomes.{or_else}
 use Rattle.text_checks.proofs.CheckNumbers.{both_is}
 use Rattle.text_checks.proofs.Texts.{text-passes}
-use Rattle.base_refusals.specs.declared.Outcome.{Outcome}
 use Rattle.set_table.specs.Types.{Texts, empty_set}
 use Rattle.set_table.specs.Rows.{Ident, Rows, table_of, rows_in}
 use Rattle.set_table.specs.declared.Origin.{Origin}
@@ -37,6 +36,7 @@ use Rattle.proved_origins.proofs.Checks.{empty_text, second_lent, first_lent}
 use Rattle.proved_origins.proofs.Sets.{SetsLike, Follows, same_table, same-meaning, same_merge}
 use Rattle.proved_origins.proofs.Exchanged.{exchanged_like}
 use Rattle.proved_origins.proofs.Steady.{Stays, NameStays, steady_keeps, of_text, of_name, ok_text, ok_name}
+use Rattle.base_refusals.specs.declared.Refusal.{Refusal}
 
 -- ---- the mirror image
 origin_other : (o p : Origin) → is_origin (other_origin o) (other_origin p) ≡ is_origin o p
@@ -84,7 +84,7 @@ module _ {t t' : Texts} where
   rows_same s s' h = rw (← ident_same h.ident, ← pairs-same (λ v w e. e.is) h.classes, ← pairs-same row_same h.keys, ← h.order)
 
   follows : Follows (Stays t t') (NameStays t t') (λ f f'. f' ≡ f)
-  follows = record { refused = λ r. refl; done = λ s s' h. ap (λ r. record { outcome = outcome.Passed; set = table_of r }) (rows_same s s' h) }
+  follows = record { refused = λ r. refl; done = λ s s' h. ap (λ r. record { outcome = Ok tt; set = table_of r }) (rows_same s s' h) }
 
 -- ---- what follows of a set whose rows stay
 module _ (o : Origin) (t u : List ℕ) where
@@ -240,9 +240,9 @@ behaves_as_before o t u =
     own = of_set o (λ v e. record { is = refl; steady = of_text o t u v.text e }) (λ n e. record { is = refl; steady = of_name o t u n e })
 
 -- ---- the empty text asks nothing
-empty_behind : (o : Outcome) → or_else o outcome.Passed ≡ o
-empty_behind outcome.Passed = refl
-empty_behind (outcome.Refused r) = refl
+empty_behind : (o : Result (Unit {0}) Refusal) → or_else o (Ok tt) ≡ o
+empty_behind (Ok _) = refl
+empty_behind (Err r) = refl
 
 pub empty_asks : EmptyAsksNothing
 unfolding well_formed

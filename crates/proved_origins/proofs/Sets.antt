@@ -1,5 +1,6 @@
 -- Sets whose rows are alike: they mean the same, are well-formed alike, and merge alike.
 -- Assumes nothing.
+use Rattle.std.specs.Prelude.{Err, Ok, Result}
 use mathlib.Core.Path.{◌≡◌, refl}
 use mathlib.Core.Bool.{Bool, true, false, cond, ◌&&◌}
 use lib.Dec.{ltb}
@@ -7,8 +8,6 @@ use lib.ListN.{length}
 use Rattle.base_refusals.specs.Orders.{in_order}
 use Rattle.base_refusals.specs.declared.Refusal.{Refusal}
 use Rattle.base_refusals.specs.declared.Refusal.TheVariants.{TooManyClasses, TooManyKeys, NotWellFormed}
-use Rattle.base_refusals.specs.declared.Outcome.{Outcome}
-use Rattle.base_refusals.specs.declared.Outcome.TheVariants as outcome
 use Rattle.set_table.specs.Types.{Texts, max_classes, max_keys}
 use Rattle.set_table.specs.Rows.{Rows, with_puts, table_of, rows_in, meaning_of}
 use Rattle.set_table.specs.Filled.{refusing, limited}
@@ -34,11 +33,11 @@ merged_rows t a b = with_puts t (rows_in a) (puts_by (rows_in b))
 -- G holds of two answers of a merge, if it does of the same refusal twice and of the tables of alike rows
 pub record Follows (P : Value → Value → Type 0) (Q : Name → Name → Type 0) (G : Filled → Filled → Type 0) : Type 0 where
   pub refused : (r : Refusal) → G (refusing r) (refusing r)
-  pub done : (s s' : Rows) → RowsLike P Q s s' → G (record { outcome = outcome.Passed; set = table_of s }) (record { outcome = outcome.Passed; set = table_of s' })
+  pub done : (s s' : Rows) → RowsLike P Q s s' → G (record { outcome = Ok tt; set = table_of s }) (record { outcome = Ok tt; set = table_of s' })
 
 -- what comes of rows with too many classes, of rows with too many keys
 abbrev by : Bool → Bool → Rows → Filled
-by a b r = cond a (refusing TooManyClasses) (cond b (refusing TooManyKeys) (record { outcome = outcome.Passed; set = table_of r }))
+by a b r = cond a (refusing TooManyClasses) (cond b (refusing TooManyKeys) (record { outcome = Ok tt; set = table_of r }))
 
 module _ {P : Value → Value → Type 0} {Q : Name → Name → Type 0} {G : Filled → Filled → Type 0} (f : Follows P Q G) where
   pub limited_alike : {s s' : Rows} → RowsLike P Q s s' → G (limited s) (limited s')
@@ -62,9 +61,9 @@ module _ {P : Value → Value → Type 0} {Q : Name → Name → Type 0} {t t' :
     pub same_rows : table_ok t b ≡ true → RowsLike P Q (merged_rows t a b) (merged_rows t' a' b')
     same_rows e = with_puts_lem k h.rows (puts_by_lem k g.rows (slots_named (rows_in b) (table_passed t b e).slots))
 
-    pub same_merge : {G : Filled → Filled → Type 0} → Follows P Q G → (o : Outcome) → G (merged_by o t a b) (merged_by o t' a' b')
-    same_merge f (outcome.Refused r) = f.refused r
-    same_merge {G} f outcome.Passed = rw (same_table h, same_table g) (go (table_ok t a) (table_ok t b) refl)
+    pub same_merge : {G : Filled → Filled → Type 0} → Follows P Q G → (o : Result (Unit {0}) Refusal) → G (merged_by o t a b) (merged_by o t' a' b')
+    same_merge f (Err r) = f.refused r
+    same_merge {G} f (Ok _) = rw (same_table h, same_table g) (go (table_ok t a) (table_ok t b) refl)
       where
         go : (x y : Bool) → table_ok t b ≡ y → G (cond (x && y) (limited (merged_rows t a b)) (refusing NotWellFormed)) (cond (x && y) (limited (merged_rows t' a' b')) (refusing NotWellFormed))
         go true true e = limited_alike f (same_rows e)

@@ -1,5 +1,6 @@
 -- The places of names, tags, tokens and payloads: the longest prefixes that can be continued, on boundaries, and what the test answers.
 -- Assumes nothing.
+use Rattle.std.specs.Prelude.{Err}
 use mathlib.Core.Path.{◌≡◌, refl}
 use mathlib.Core.Bool.{Bool, true, false}
 use mathlib.Core.List.{List}
@@ -11,7 +12,6 @@ use Rattle.base_bytes.specs.declared.Mode.{Mode}
 use Rattle.base_bytes.specs.Bytes.{is_blank, within, is_letter, is_digit, is_alnum, is_name_start, is_name_part, is_key_start, is_quote, is_plain}
 use Rattle.text_names.specs.Names.{is_name, is_key, is_bare_name}
 use Rattle.text_names.specs.Computed.{is_size, tag_from, language_by, is_language}
-use Rattle.text_names.specs.declared.Tested.TheVariants.{Stops}
 use Rattle.text_names.proofs.NamePlaces as names
 use Rattle.text_names.proofs.TagPlaces as tags
 use Rattle.text_names.proofs.Told.{whole_is, stops_is}
@@ -71,7 +71,7 @@ stops_wrong m s n e =
 pub wrong_stops : WrongStops
 wrong_stops m s n w = go (accepted (read_payload m 0 s)) refl
   where
-    go : (x : Bool) → accepted (read_payload m 0 s) ≡ x → payload_tested m s ≡ Stops n
+    go : (x : Bool) → accepted (read_payload m 0 s) ≡ x → payload_tested m s ≡ Err n
     go true p = absurd (w.none (is_read m s p))
     go false p = rw (p, one_place (HasReading m) s n (payload_place m s) w.longest (place.place_longest m s))
 

@@ -1,5 +1,6 @@
 -- At a brace a prefix that goes on does so by bytes that a block can hold, and the block then closes behind them.
 -- Assumes nothing.
+use Rattle.std.specs.Prelude.{Some}
 use mathlib.Core.Path.{◌≡◌, refl, ◌∙◌}
 use mathlib.Core.Bool.{Bool, true, false, not, ◌&&◌}
 use mathlib.Core.List.{List, [], ◌∷◌, ◌++◌}
@@ -17,7 +18,6 @@ use Rattle.base_bytes.specs.declared.Mode.TheVariants.{Strict, Loose}
 use Rattle.base_bytes.specs.Bytes.{is_blank, is_letter, is_digit, is_alnum, is_name_start, is_name_part, is_key_start, is_quote, is_plain, within}
 use Rattle.block_grammar.specs.Close.{no_lf}
 use Rattle.block_grammar.specs.ComputedClose.{go_on, scan_step, close_from, find_close}
-use Rattle.block_grammar.specs.declared.Place.TheVariants.{At}
 use Rattle.block_places.specs.Computed.{Spot, Turn, may_end, turn_of, onward, walk_takes, walk_passes, payload_place}
 use Rattle.block_places.specs.Inner.{scan_of, is_out}
 use Rattle.block_places.proofs.Search.{Sane, same, goes_sane, out_scan, closing}
@@ -43,12 +43,12 @@ may_end_out (Spot.quoted q x) e = contra false e refl
 may_end_out Spot.shut e = refl
 
 module _ (m : Mode) where
-  pub closes_behind : (p t : List ℕ) {st : Spot} (i : ℕ) → Sane st → no_lf p ≡ true → walk_takes (is_blank m) st p ≡ true → close_from (p ++ (125 ∷ t)) (scan_of st) i ≡ At (i + length p)
+  pub closes_behind : (p t : List ℕ) {st : Spot} (i : ℕ) → Sane st → no_lf p ≡ true → walk_takes (is_blank m) st p ≡ true → close_from (p ++ (125 ∷ t)) (scan_of st) i ≡ Some (i + length p)
   unfolding walk_takes close_from
   closes_behind [] t {st} i h n e = rw (out_scan st (may_end_out st e), closing 125 refl, add-zero)
   closes_behind (b ∷ p) t {st} i h n e = go (turn_of (is_blank m) st b) refl e (λ v g f. closes_behind p t (suc i) g (not_lf b p n).1 f)
     where
-      go : (x : Turn) → turn_of (is_blank m) st b ≡ x → onward false (λ v. walk_takes (is_blank m) v p) x ≡ true → ((v : Spot) → Sane v → walk_takes (is_blank m) v p ≡ true → close_from (p ++ (125 ∷ t)) (scan_of v) (suc i) ≡ At (suc i + length p)) → go_on (scan_step (scan_of st) b) i (λ v. close_from (p ++ (125 ∷ t)) v (suc i)) ≡ At (i + suc (length p))
+      go : (x : Turn) → turn_of (is_blank m) st b ≡ x → onward false (λ v. walk_takes (is_blank m) v p) x ≡ true → ((v : Spot) → Sane v → walk_takes (is_blank m) v p ≡ true → close_from (p ++ (125 ∷ t)) (scan_of v) (suc i) ≡ Some (suc i + length p)) → go_on (scan_step (scan_of st) b) i (λ v. close_from (p ++ (125 ∷ t)) v (suc i)) ≡ Some (i + suc (length p))
       go Turn.stop q f ih = contra false f refl
       go (Turn.go v) q f ih = let z = same m b v h (not_lf b p n).0 q in rw (z.step, add-suc, ← suc-add i (length p)) (ih v z.sane f)
 

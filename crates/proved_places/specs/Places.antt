@@ -1,6 +1,6 @@
 -- "the length in bytes of the longest prefix of the payload, ending on a character boundary, that can still be continued to an acceptable payload in the same mode."
 -- By the rule it is `Longest` (text_names/specs/Longest), over the grammar's own types; the tests compute it.
-use Rattle.std.specs.Prelude.{◌≡◌, Bool, true, not, ◌&&◌, List, [], ◌∷◌, ◌++◌, map, ℕ, ◌≤◌, eqb, ltb, length, take}
+use Rattle.std.specs.Prelude.{◌≡◌, Bool, true, not, ◌&&◌, List, [], ◌∷◌, ◌++◌, map, ℕ, ◌≤◌, eqb, ltb, length, take, Err, Ok, Some}
 use Rattle.base_lists.specs.Lists.{all}
 use Rattle.base_bytes.specs.declared.Mode.{Mode}
 use Rattle.base_bytes.specs.declared.Mode.TheVariants.{Strict}
@@ -11,10 +11,8 @@ use Rattle.text_names.specs.Longest.{CanGoOn, Longest}
 use Rattle.text_names.specs.Names.{is_name, is_key, is_bare_name, name_place, key_place, bare_place}
 use Rattle.text_names.specs.Grammar.{Tag, Language}
 use Rattle.text_names.specs.Computed.{tag_place}
-use Rattle.text_names.specs.declared.Tested.TheVariants.{Whole, Stops}
 use Rattle.block_grammar.specs.Close.{no_lf}
 use Rattle.block_grammar.specs.ComputedClose.{find_close}
-use Rattle.block_grammar.specs.declared.Place.TheVariants.{At}
 use Rattle.block_places.specs.Rules.{HasReading, HasToken}
 use Rattle.block_places.specs.Computed.{payload_place, token_place}
 use Rattle.block_tokens.specs.Shown.{payload_tested}
@@ -48,16 +46,16 @@ pub record WrongAt (m : Mode) (s : List ℕ) (n : ℕ) : Type 0 where
   pub longest : Longest (HasReading m) s n
 
 abbrev pub StopsIsWrong : Type 0
-StopsIsWrong = (m : Mode) (s : List ℕ) (n : ℕ) → Stops n ≡ payload_tested m s → WrongAt m s n
+StopsIsWrong = (m : Mode) (s : List ℕ) (n : ℕ) → Err n ≡ payload_tested m s → WrongAt m s n
 
 abbrev pub WrongStops : Type 0
-WrongStops = (m : Mode) (s : List ℕ) (n : ℕ) → WrongAt m s n → payload_tested m s ≡ Stops n
+WrongStops = (m : Mode) (s : List ℕ) (n : ℕ) → WrongAt m s n → payload_tested m s ≡ Err n
 
 abbrev pub WholeIsRead : Type 0
-WholeIsRead = (m : Mode) (s : List ℕ) → Whole ≡ payload_tested m s → HasReading m s
+WholeIsRead = (m : Mode) (s : List ℕ) → Ok tt ≡ payload_tested m s → HasReading m s
 
 abbrev pub ReadIsWhole : Type 0
-ReadIsWhole = (m : Mode) (s : List ℕ) → HasReading m s → payload_tested m s ≡ Whole
+ReadIsWhole = (m : Mode) (s : List ℕ) → HasReading m s → payload_tested m s ≡ Ok tt
 
 -- "ending on a character boundary": in well-formed text the place is one, ..
 abbrev pub PlaceIsBoundary : Type 0
@@ -77,7 +75,7 @@ pub record GoesOnAtABrace (m : Mode) (p : List ℕ) : Type 0 where
   pub rest : List ℕ
   pub harmless : all is_harmless rest ≡ true
   pub reading : HasReading m (p ++ rest)
-  pub closes : (t : List ℕ) → no_lf p ≡ true → find_close ((p ++ rest) ++ (close_brace ∷ t)) 0 ≡ At (length (p ++ rest))
+  pub closes : (t : List ℕ) → no_lf p ≡ true → find_close ((p ++ rest) ++ (close_brace ∷ t)) 0 ≡ Some (length (p ++ rest))
 
 abbrev pub PrefixGoesOnAtABrace : Type 0
 PrefixGoesOnAtABrace = (m : Mode) (s : List ℕ) → GoesOnAtABrace m (take (payload_place m s) s)
@@ -123,4 +121,4 @@ place_cases =
     ∷ []
 
 abbrev pub CasesHold : Type 0
-CasesHold = map (λ c. payload_tested Strict c.bytes) place_cases ≡ map (λ c. Stops c.place) place_cases
+CasesHold = map (λ c. payload_tested Strict c.bytes) place_cases ≡ map (λ c. Err c.place) place_cases

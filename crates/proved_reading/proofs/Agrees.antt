@@ -1,5 +1,6 @@
 -- Reading at a brace and its definition without sizes, limits and UTF-8 (proved_sets/proofs/CanonAtBrace): so what was read, written and read again is the same.
 -- Assumes nothing.
+use Rattle.std.specs.Prelude.{Err, Ok, Result}
 use mathlib.Core.Path.{◌≡◌, refl, ◌∙◌, ap, sym}
 use mathlib.Core.Bool.{Bool, true, false}
 use mathlib.Core.List.{List, [], ◌∷◌}
@@ -27,8 +28,8 @@ use Rattle.proved_sets.proofs.CanonAtBrace.{AtBrace, read_at}
 use Rattle.proved_sets.proofs.CanonAgain.{well_formed_lem}
 use Rattle.set_table.specs.Types.{one, max_classes, max_keys}
 use Rattle.set_table.specs.Rows.{meaning_of, listed_of}
-use Rattle.read_brace.specs.declared.Answer.{Answer}
-use Rattle.read_brace.specs.declared.Answer.TheVariants.{Refused, Unread, Next}
+use Rattle.read_brace.specs.declared.NotRead.{NotRead}
+use Rattle.read_brace.specs.declared.NotRead.TheVariants.{Refused, Unread}
 use Rattle.read_brace.specs.declared.Read.{Read}
 use Rattle.read_brace.specs.Brace.{read_attrs_at}
 use Rattle.proved_reading.specs.Table.{BlockAt, Given}
@@ -42,10 +43,10 @@ use Rattle.proved_sets.proofs.CanonOnce.{once_wf}
 use Rattle.proved_sets.proofs.CanonBack.{back}
 
 -- what was read, by the refusal's number, or by the set's meaning and the place behind the close
-abbrev seen_as : Answer → List Entry → rules.Answer
-seen_as (Refused r) s = rules.Answer.refused (number_of r)
-seen_as (Unread n) s = rules.Answer.refused (number_of NoReading)
-seen_as (Next n) s = rules.Answer.read s n
+abbrev seen_as : Result ℕ NotRead → List Entry → rules.Answer
+seen_as (Err (Refused r)) s = rules.Answer.refused (number_of r)
+seen_as (Err (Unread n)) s = rules.Answer.refused (number_of NoReading)
+seen_as (Ok n) s = rules.Answer.read s n
 
 abbrev seen : List ℕ → Read → rules.Answer
 seen t r = seen_as r.answer (meaning_of (one t) r.set)
@@ -59,10 +60,10 @@ inside t i b = go (leb (length t) i) refl
     go false e = leb-false (length t) i e
 
 -- the answers that have nothing to do with sizes, limits and UTF-8: 3, 4, 5 and a set
-abbrev is_shared : Answer → Bool
-is_shared (Refused r) = is_in (3 ∷ 4 ∷ []) (number_of r)
-is_shared (Unread n) = true
-is_shared (Next n) = true
+abbrev is_shared : Result ℕ NotRead → Bool
+is_shared (Err (Refused r)) = is_in (3 ∷ 4 ∷ []) (number_of r)
+is_shared (Err (Unread n)) = true
+is_shared (Ok n) = true
 
 -- what the items list, each class once
 abbrev once_by : rules.Answer → rules.Answer
@@ -73,7 +74,7 @@ agrees : (m : Mode) (t : List ℕ) (i : ℕ) → is_shared (read_attrs_at m t i)
 unfolding is_in number_of meaning
 agrees m t i e = go (given m t i) e
   where
-    go : {a : Answer} {s : List Entry} → Given m t i a s → is_shared a ≡ true → once_by (read_at m t i) ≡ seen_as a s
+    go : {a : Result ℕ NotRead} {s : List Entry} → Given m t i a s → is_shared a ≡ true → once_by (read_at m t i) ≡ seen_as a s
     go (Given.long l) q = contra false q refl
     go (Given.none l n) q = ap once_by (rules.only (AtBrace.none (λ b. n (record { there = inside t i b; brace = b }))))
     go (Given.unclosed l o n) q = ap once_by (rules.only (AtBrace.unclosed o.brace n))
@@ -94,11 +95,11 @@ block_utf8 {t} {i} {e} u b =
 
 -- ======== what is read there within sizes and limits is read here
 module _ {m : Mode} {t : List ℕ} {i : ℕ} {s : List Entry} {n : ℕ} where
-  pub reads_as : read_at m t i ≡ rules.Answer.read s n → length t ≤ max_text → is_utf8 t ≡ true → class_count s ≤ max_classes → key_count s ≤ max_keys → AnswersSo m t i (Next n) (classes_once s)
+  pub reads_as : read_at m t i ≡ rules.Answer.read s n → length t ≤ max_text → is_utf8 t ≡ true → class_count s ≤ max_classes → key_count s ≤ max_keys → AnswersSo m t i (Ok n) (classes_once s)
   unfolding meaning
   reads_as e l u c k = go (rules.by_rules m t i) e
     where
-      go : {r : rules.Answer} → AtBrace m t i r → r ≡ rules.Answer.read s n → AnswersSo m t i (Next n) (classes_once s)
+      go : {r : rules.Answer} → AtBrace m t i r → r ≡ rules.Answer.read s n → AnswersSo m t i (Ok n) (classes_once s)
       go (AtBrace.none x) q = contra true refl (cc)
       go (AtBrace.unclosed b x) q = contra true refl (cc)
       go (AtBrace.unread b x y) q = contra true refl (cc)
@@ -109,7 +110,7 @@ module _ {m : Mode} {t : List ℕ} {i : ℕ} {s : List Entry} {n : ℕ} where
           rw (y, z) (only (Given.read (record { block = w; utf8 = block_utf8 u w; payload = p }) (omega (arith, class_listed is, ap class_count y)) (omega (arith, key_listed is, ap key_count y))))
 
 -- the set lists what is read
-pub lists_as : (m : Mode) (t : List ℕ) (i : ℕ) {s : List Entry} {n k : ℕ} → read_at m t i ≡ rules.Answer.read s n → (read_attrs_at m t i).answer ≡ Next k → listed_of (one t) (read_attrs_at m t i).set ≡ s
+pub lists_as : (m : Mode) (t : List ℕ) (i : ℕ) {s : List Entry} {n k : ℕ} → read_at m t i ≡ rules.Answer.read s n → (read_attrs_at m t i).answer ≡ Ok k → listed_of (one t) (read_attrs_at m t i).set ≡ s
 lists_as m t i e q =
     let r = read_means q in
     let z = sym (rules.only (AtBrace.read r.reads.block.opens.brace r.reads.block.closes r.reads.payload)) ∙ e in
@@ -124,7 +125,7 @@ listed_by (rules.Answer.refused k) e = contra true refl (cc)
 listed_by (rules.Answer.read s k) e = (s, cc, cc)
 
 module _ (m : Mode) (t : List ℕ) (i : ℕ) {n : ℕ} where
-  was_read : (read_attrs_at m t i).answer ≡ Next n → (l : List Entry) × (read_at m t i ≡ rules.Answer.read l n) × (classes_once l ≡ meant_at m t i)
+  was_read : (read_attrs_at m t i).answer ≡ Ok n → (l : List Entry) × (read_at m t i ≡ rules.Answer.read l n) × (classes_once l ≡ meant_at m t i)
   was_read e = listed_by (read_at m t i) (agrees m t i (rw e) ∙ (rw e))
 
   pub read_well : ReadIsWell m t i n
@@ -134,7 +135,7 @@ module _ (m : Mode) (t : List ℕ) (i : ℕ) {n : ℕ} where
       (rw w.2 at (once_wf w.0 g.0), λ q. g.1 (once_empty w.0 (w.2 ∙ q)))
 
   -- each class once already
-  own : (read_attrs_at m t i).answer ≡ Next n → classes_once (meant_at m t i) ≡ meant_at m t i
+  own : (read_attrs_at m t i).answer ≡ Ok n → classes_once (meant_at m t i) ≡ meant_at m t i
   own e = let w = was_read e in (rw w.2 at (once_twice w.0))
 
   pub read_again : ReadsBackAgain m t i n

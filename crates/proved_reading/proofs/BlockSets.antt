@@ -1,5 +1,6 @@
 -- The sets of blocks at a place, over the lent text and what was joined.
 -- Assumes nothing.
+use Rattle.std.specs.Prelude.{Err, Ok, Result}
 use Rattle.set_table.specs.declared.Attrs.{Attrs}
 use Rattle.set_table.specs.declared.Filled.{Filled}
 use Rattle.proved_sets.proofs.Settled.{chain_settled}
@@ -29,8 +30,6 @@ use Rattle.proved_sets.specs.HandedOut.{Settled, Zeroed}
 use Rattle.proved_reading.proofs.HandedOut.{empty_ok}
 use Rattle.proved_reading.proofs.ChainsOut.{chain_out_ok}
 use Rattle.run_lines.specs.Runs as runs
-use Rattle.base_refusals.specs.declared.Outcome as outcomes
-use Rattle.base_refusals.specs.declared.Outcome.TheVariants as outcome
 use Rattle.run_lines.proofs.Bounds.{text_short}
 use Rattle.proved_runs.proofs.Texts.{text_well, opens_well}
 use Rattle.block_trimmed_line.specs.Fronts.{front_of, opens_at}
@@ -86,9 +85,9 @@ module _ (t : List ℕ) (h : is_text t ≡ true) where
       closed true = (read_joined Loose t r.text 0 (length r.text)).formed h ∙ chain_out_ok Loose r.text 0 (length r.text) u
       closed false = none_ok at NoReading r.text r.lookahead u
 
-      go : (x : outcomes.Outcome) → SetFormed t at (ended_run r x)
-      go outcome.Passed = closed (good_line r.text 0 (length r.text))
-      go (outcome.Refused q) = none_ok at q r.text r.lookahead u
+      go : (x : Result (Unit {0}) Refusal) → SetFormed t at (ended_run r x)
+      go (Ok _) = closed (good_line r.text 0 (length r.text))
+      go (Err q) = none_ok at q r.text r.lookahead u
 
 pub found_ok_lem : BlockFormedAt
 unfolding found
@@ -110,7 +109,7 @@ wrapped_ok t h at base cap = go (opens_at t at) refl
 
 -- ---- a refusal hands out the empty set
 
-pub filled_empty : {f : Filled} {r : Refusal} → Settled f → f.outcome ≡ outcome.Refused r → f.set ≡ empty_set
+pub filled_empty : {f : Filled} {r : Refusal} → Settled f → f.outcome ≡ Err r → f.set ≡ empty_set
 filled_empty (Settled.refused q) e = refl
 filled_empty (Settled.done s) e = let z : ◌≡◌ {A = ℕ} 0 1 = cc in absurd (omega arith)
 

@@ -1,5 +1,6 @@
 -- Lines, blocks and runs are answered as the table's rules give, and in no other way: the numbers, and the meaning of what is read.
 -- Assumes nothing.
+use Rattle.std.specs.Prelude.{Err, None, Ok, Option, Result, Some}
 use mathlib.Core.Path.{◌≡◌, refl, ◌∙◌, ap}
 use mathlib.Core.Bool.{Bool, true, false, cond}
 use mathlib.Core.List.{List, [], map}
@@ -13,13 +14,7 @@ use Rattle.base_bytes.specs.declared.Mode.TheVariants.{Loose}
 use Rattle.base_refusals.specs.Numbers.{max_text}
 use Rattle.base_refusals.specs.declared.Refusal.{Refusal}
 use Rattle.base_refusals.specs.declared.Refusal.TheVariants.{TextTooLong, NothingThere, NoReading}
-use Rattle.base_refusals.specs.declared.Outcome.{Outcome}
-use Rattle.base_refusals.specs.declared.Outcome.TheVariants.{Passed, Refused}
 use Rattle.text_lines.specs.Lines.{line_of}
-use Rattle.text_lines.specs.declared.Line as places
-use Rattle.text_lines.specs.declared.Line.TheVariants as place
-use Rattle.text_line_start.specs.declared.Start as starts
-use Rattle.text_line_start.specs.declared.Start.TheVariants as start
 use Rattle.text_line_start.specs.Starts.{begun, start_at, on_start}
 use Rattle.block_grammar.specs.Grammar.{Placed, Reading}
 use Rattle.block_grammar.specs.Meaning.{Entry, classes_once}
@@ -51,10 +46,11 @@ use Rattle.proved_sets.proofs.TableMeant.{shaped_none}
 use Rattle.proved_sets.proofs.TableWhole.{empty_means}
 use Rattle.proved_reading.specs.Measuring.{makes_run}
 use Rattle.proved_reading.specs.ByLines.{BlocksGiven, OpenGiven, LineGiven, RunGiven, BlockGiven, NumberGiven, BlocksByRules, LineByRules, FoundExactly, BlockByRules, BlockByRulesAt, RunByRules, RunByRulesAt}
+use Rattle.text_lines.specs.declared.Range.{Range}
 
 -- what the rules G give is what the rules H give
-same_rules : {G H : Outcome → List Entry → Type 0} → ((p : Outcome) (u : List Entry) → G p u → H p u) → ((p : Outcome) (u : List Entry) → H p u → G p u)
-    → {o : Outcome} {s : List Entry} → Exactly G o s → Exactly H o s
+same_rules : {G H : Result (Unit {0}) Refusal → List Entry → Type 0} → ((p : Result (Unit {0}) Refusal) (u : List Entry) → G p u → H p u) → ((p : Result (Unit {0}) Refusal) (u : List Entry) → H p u → G p u)
+    → {o : Result (Unit {0}) Refusal} {s : List Entry} → Exactly G o s → Exactly H o s
 same_rules f g {o} {s} x = exactly (λ p u y. x.only p u (g p u y)) (f o s x.given)
 
 -- ======== blocks back to back
@@ -64,10 +60,10 @@ read t from to = filled_by (one t) (read_blocks Loose from (slice from to t))
 
 module _ (t : List ℕ) (from to : ℕ) where
   -- none: 5
-  none_exactly : ((is : List Placed) → Blocks Loose from (slice from to t) is → ⊥) → Exactly (BlocksGiven t from to) (Refused NoReading) []
+  none_exactly : ((is : List Placed) → Blocks Loose from (slice from to t) is → ⊥) → Exactly (BlocksGiven t from to) (Err NoReading) []
   none_exactly n = exactly only (BlocksGiven.unread n)
     where
-      only : Only (BlocksGiven t from to) (Refused NoReading) []
+      only : Only (BlocksGiven t from to) (Err NoReading) []
       only p u (BlocksGiven.unread k) = (refl, refl)
       only p u (BlocksGiven.good {is = is} q l) = absurd (n is q)
 
@@ -106,18 +102,18 @@ blocks_by_rules t from to =
     (λ l. read_exactly t from to)
 
 -- ======== at a place
-module _ (t : List ℕ) (at : ℕ) {G : Outcome → List Entry → Type 0} where
-  unopened_exactly : opens_at t at ≡ false → Exactly (OpenGiven t at G) (Refused NothingThere) []
+module _ (t : List ℕ) (at : ℕ) {G : Result (Unit {0}) Refusal → List Entry → Type 0} where
+  unopened_exactly : opens_at t at ≡ false → Exactly (OpenGiven t at G) (Err NothingThere) []
   unopened_exactly e = exactly only (OpenGiven.unopened e)
     where
-      only : Only (OpenGiven t at G) (Refused NothingThere) []
+      only : Only (OpenGiven t at G) (Err NothingThere) []
       only p u (OpenGiven.unopened k) = (refl, refl)
       only p u (OpenGiven.opened k x) = contra (opens_at t at) k e
 
-  opened_exactly : opens_at t at ≡ true → {o : Outcome} {s : List Entry} → Exactly G o s → Exactly (OpenGiven t at G) o s
+  opened_exactly : opens_at t at ≡ true → {o : Result (Unit {0}) Refusal} {s : List Entry} → Exactly G o s → Exactly (OpenGiven t at G) o s
   opened_exactly e = same_rules (λ p u x. OpenGiven.opened e x) back
     where
-      back : (p : Outcome) (u : List Entry) → OpenGiven t at G p u → G p u
+      back : (p : Result (Unit {0}) Refusal) (u : List Entry) → OpenGiven t at G p u → G p u
       back p u (OpenGiven.unopened k) = contra (opens_at t at) e k
       back p u (OpenGiven.opened k x) = x
 
@@ -131,7 +127,7 @@ line_exactly t l at = go (opens_at t at) refl
     go false e = rw (empty_means (one t)) (unopened_exactly t at e)
 
 -- ---- a refusal, with whatever was joined
-refused_exactly : {G : Outcome → List Entry → Type 0} (t : List ℕ) (at : ℕ) {q : Refusal} (x : List ℕ) (n : ℕ) → Exactly G (Refused q) [] → FoundExactly G t at (Found.none q x n)
+refused_exactly : {G : Result (Unit {0}) Refusal → List Entry → Type 0} (t : List ℕ) (at : ℕ) {q : Refusal} (x : List ℕ) (n : ℕ) → Exactly G (Err q) [] → FoundExactly G t at (Found.none q x n)
 unfolding block_of
 refused_exactly t at x n g = rw (empty_means (two t x)) g
 
@@ -149,15 +145,15 @@ module _ (t : List ℕ) (l : length t ≤ max_text) (at base cap : ℕ) where
   unfolding run_found
   run_exactly = go ran.stop refl
     where
-      go : (x : Outcome) → ran.stop ≡ x → FoundExactly (RunGiven t base cap at) t at (ended_run ran x)
-      go Passed e = same_rules (λ p u y. RunGiven.joined e y) back (closed_exactly (good_line ran.text 0 (length ran.text)) refl)
+      go : (x : Result (Unit {0}) Refusal) → ran.stop ≡ x → FoundExactly (RunGiven t base cap at) t at (ended_run ran x)
+      go (Ok _) e = same_rules (λ p u y. RunGiven.joined e y) back (closed_exactly (good_line ran.text 0 (length ran.text)) refl)
         where
-          back : (p : Outcome) (u : List Entry) → RunGiven t base cap at p u → BlocksGiven ran.text 0 (length ran.text) p u
+          back : (p : Result (Unit {0}) Refusal) (u : List Entry) → RunGiven t base cap at p u → BlocksGiven ran.text 0 (length ran.text) p u
           back p u (RunGiven.met k) = contra true refl (cc)
           back p u (RunGiven.joined k y) = y
-      go (Refused q) e = refused_exactly t at ran.text ran.lookahead (exactly only (RunGiven.met e))
+      go (Err q) e = refused_exactly t at ran.text ran.lookahead (exactly only (RunGiven.met e))
         where
-          only : Only (RunGiven t base cap at) (Refused q) []
+          only : Only (RunGiven t base cap at) (Err q) []
           only p u (RunGiven.met k) = (cc, refl)
           only p u (RunGiven.joined k y) = contra true refl (cc)
 
@@ -171,17 +167,17 @@ wrapped_exactly t l at base cap = go (opens_at t at) refl
 
 -- ---- a block
 module _ (t : List ℕ) (base cap at : ℕ) where
-  as_line : makes_run t at ≡ false → {o : Outcome} {s : List Entry} → Exactly (LineGiven t at) o s → Exactly (BlockGiven t base cap at) o s
+  as_line : makes_run t at ≡ false → {o : Result (Unit {0}) Refusal} {s : List Entry} → Exactly (LineGiven t at) o s → Exactly (BlockGiven t base cap at) o s
   as_line e = same_rules (λ p u x. BlockGiven.line e x) back
     where
-      back : (p : Outcome) (u : List Entry) → BlockGiven t base cap at p u → LineGiven t at p u
+      back : (p : Result (Unit {0}) Refusal) (u : List Entry) → BlockGiven t base cap at p u → LineGiven t at p u
       back p u (BlockGiven.line k x) = x
       back p u (BlockGiven.run k x) = contra (makes_run t at) k e
 
-  as_run : makes_run t at ≡ true → {o : Outcome} {s : List Entry} → Exactly (RunGiven t base cap at) o s → Exactly (BlockGiven t base cap at) o s
+  as_run : makes_run t at ≡ true → {o : Result (Unit {0}) Refusal} {s : List Entry} → Exactly (RunGiven t base cap at) o s → Exactly (BlockGiven t base cap at) o s
   as_run e = same_rules (λ p u x. BlockGiven.run e x) back
     where
-      back : (p : Outcome) (u : List Entry) → BlockGiven t base cap at p u → RunGiven t base cap at p u
+      back : (p : Result (Unit {0}) Refusal) (u : List Entry) → BlockGiven t base cap at p u → RunGiven t base cap at p u
       back p u (BlockGiven.line k x) = contra (makes_run t at) e k
       back p u (BlockGiven.run k x) = x
 
@@ -198,7 +194,7 @@ block_exactly t l at base cap = go (opens_at t at) refl (good_line t (front_of t
     go false p g q c r = refused_exactly t at [] 0 (as_line t base cap at (rw p) (unopened_exactly t at p))
 
 -- ---- 1 first
-sized_exactly : (t : List ℕ) (at : ℕ) (f : Found) {G : Outcome → List Entry → Type 0} → (length t ≤ max_text → FoundExactly G t at f) → FoundExactly (SizeGiven t G) t at (sized t f)
+sized_exactly : (t : List ℕ) (at : ℕ) (f : Found) {G : Result (Unit {0}) Refusal → List Entry → Type 0} → (length t ≤ max_text → FoundExactly G t at f) → FoundExactly (SizeGiven t G) t at (sized t f)
 unfolding sized block_of
 sized_exactly t at f h =
     size_exactly t (λ b. (block_of t at (cond b (nothing TextTooLong) f)).outcome) (λ b. meaning_of (texts_in t (cond b (nothing TextTooLong) f)) (block_of t at (cond b (nothing TextTooLong) f)).set)
@@ -211,9 +207,9 @@ pub run_by_rules_at : RunByRulesAt
 run_by_rules_at t at base cap = sized_exactly t at (wrapped t at base cap) (λ l. wrapped_exactly t l at base cap)
 
 -- ======== by line number: f and g are what is answered where the line begins
-module _ (t : List ℕ) (n : ℕ) {G : ℕ → Outcome → List Entry → Type 0} (f : starts.Start → Outcome) (g : starts.Start → List Entry)
-    (e : (r : Refusal) → (f (start.Refused r) ≡ Refused r) × (g (start.Refused r) ≡ [])) (h : length t ≤ max_text → (at : ℕ) → Exactly (G at) (f (start.At at)) (g (start.At at))) where
-  number_only : length t ≤ max_text → Only (NumberGiven t n G) (f (begun Passed (line_of n t))) (g (begun Passed (line_of n t)))
+module _ (t : List ℕ) (n : ℕ) {G : ℕ → Result (Unit {0}) Refusal → List Entry → Type 0} (f : Result ℕ Refusal → Result (Unit {0}) Refusal) (g : Result ℕ Refusal → List Entry)
+    (e : (r : Refusal) → (f (Err r) ≡ Err r) × (g (Err r) ≡ [])) (h : length t ≤ max_text → (at : ℕ) → Exactly (G at) (f (Ok at)) (g (Ok at))) where
+  number_only : length t ≤ max_text → Only (NumberGiven t n G) (f (begun (Ok tt) (line_of n t))) (g (begun (Ok tt) (line_of n t)))
   number_only l p u (NumberGiven.missing x) = rw (missing_line n t x) (e NothingThere)
   number_only l p u (NumberGiven.there {r = r} q x) = rw q ((h l r.from).only p u x)
 
@@ -221,9 +217,9 @@ module _ (t : List ℕ) (n : ℕ) {G : ℕ → Outcome → List Entry → Type 0
   unfolding start_at
   number_exactly = text_exactly t (λ c. f (begun c (line_of n t))) (λ c. g (begun c (line_of n t))) e (λ l w. go l (line_of n t) refl)
     where
-      go : length t ≤ max_text → (x : places.Line) → line_of n t ≡ x → Exactly (NumberGiven t n G) (f (begun Passed (line_of n t))) (g (begun Passed (line_of n t)))
-      go l place.Missing q = exactly (number_only l) (NumberGiven.missing (line_missing n t q))
-      go l (place.At r) q = exactly (number_only l) (NumberGiven.there q (h l r.from).given)
+      go : length t ≤ max_text → (x : Option Range) → line_of n t ≡ x → Exactly (NumberGiven t n G) (f (begun (Ok tt) (line_of n t))) (g (begun (Ok tt) (line_of n t)))
+      go l None q = exactly (number_only l) (NumberGiven.missing (line_missing n t q))
+      go l (Some r) q = exactly (number_only l) (NumberGiven.there q (h l r.from).given)
 
 pub line_by_rules : LineByRules
 unfolding parse_standalone
@@ -232,7 +228,7 @@ line_by_rules t n =
     (line_exactly t)
 
 -- what is found by number is found by place
-found_exactly : (t : List ℕ) (n : ℕ) (k : ℕ → Found) {G : ℕ → Outcome → List Entry → Type 0} → (length t ≤ max_text → (at : ℕ) → FoundExactly (G at) t at (k at))
+found_exactly : (t : List ℕ) (n : ℕ) (k : ℕ → Found) {G : ℕ → Result (Unit {0}) Refusal → List Entry → Type 0} → (length t ≤ max_text → (at : ℕ) → FoundExactly (G at) t at (k at))
     → FoundExactly (SizeGiven t (Utf8Given t (NumberGiven t n G))) t (on_start (λ r. 0) (λ at. at) (start_at t n)) (on_start nothing k (start_at t n))
 unfolding block_of
 found_exactly t n k h =

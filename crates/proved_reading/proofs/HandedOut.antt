@@ -1,5 +1,6 @@
 -- The set that reading at a brace hands out is well-formed, that of a refusal too: it is the empty one.
 -- Assumes nothing.
+use Rattle.std.specs.Prelude.{None, Ok, Option, Some}
 use mathlib.Core.Path.{◌≡◌, refl}
 use mathlib.Core.Bool.{Bool, true, false, cond}
 use mathlib.Core.List.{List, [], ◌∷◌}
@@ -19,8 +20,6 @@ use Rattle.base_refusals.specs.declared.Refusal.TheVariants.{NotUtf8, NothingThe
 use Rattle.block_grammar.specs.Grammar.{Placed, Reading}
 use Rattle.block_grammar.specs.Computed.{read_from, read_payload}
 use Rattle.block_grammar.specs.ComputedClose.{find_close}
-use Rattle.block_grammar.specs.declared.Place.{Place}
-use Rattle.block_grammar.specs.declared.Place.TheVariants.{Nothing, At}
 use Rattle.block_places.specs.Computed.{payload_place}
 use Rattle.set_table.specs.Types.{Texts, one, empty_set, max_classes, max_keys}
 use Rattle.set_table.specs.Rows.{Rows, no_rows, with_puts, table_of}
@@ -32,7 +31,6 @@ use Rattle.proved_sets.proofs.PutsParts.{own_part}
 use Rattle.proved_sets.proofs.PutsRead.{read_ok, brace_part, brace_flat}
 use Rattle.proved_sets.proofs.TableWhole.{empty_table}
 use Rattle.set_fill.specs.Fill as fills
-use Rattle.base_refusals.specs.declared.Outcome.TheVariants as outcome
 use Rattle.set_table.specs.declared.Filled.{Filled}
 use Rattle.proved_reading.specs.HandedSets.{BraceFormed, FillFormed}
 use Rattle.read_brace.specs.Brace.{refusing_read, brace_at, payload_of, finished, read_to, at_brace, read_attrs_at}
@@ -48,7 +46,7 @@ unfolding limited
 limited_ok t s h = go (ltb max_classes (length s.classes)) refl (ltb max_keys (length s.keys)) refl
   where
     go : (a : Bool) → ltb max_classes (length s.classes) ≡ a → (b : Bool) → ltb max_keys (length s.keys) ≡ b
-        → table_ok t (cond {A = Filled} a (filled.refusing TooManyClasses) (cond b (filled.refusing TooManyKeys) (record { outcome = outcome.Passed; set = table_of s }))).set ≡ true
+        → table_ok t (cond {A = Filled} a (filled.refusing TooManyClasses) (cond b (filled.refusing TooManyKeys) (record { outcome = Ok tt; set = table_of s }))).set ≡ true
     go true p b q = empty_ok t
     go false p true q = empty_ok t
     go false p false q = table_ok_lem t s h (ltb-false max_classes (length s.classes) p) (ltb-false max_keys (length s.keys) q)
@@ -64,14 +62,14 @@ pub handed_out_ok : BraceFormed
 unfolding well_formed read_attrs_at at_brace brace_at finished fills.filled_of
 handed_out_ok m t i h = rw (h, empty_text) (go (ltb max_text (length t)) (brace_at t i) refl)
   where
-    payload : (e : ℕ) → brace_at t i ≡ true → find_close t (suc i) ≡ At e → (is : List Placed) → read_payload m (suc i) (payload_of t i e) ≡ Reading.items is → all (put_ok (one t)) (puts_in is) ≡ true
+    payload : (e : ℕ) → brace_at t i ≡ true → find_close t (suc i) ≡ Some e → (is : List Placed) → read_payload m (suc i) (payload_of t i e) ≡ Reading.items is → all (put_ok (one t)) (puts_in is) ≡ true
     payload e o c is r =
         let z = both (ltb i (length t)) (eqb (get_or t i 0) 123) o in
         read_ok t m is (brace_part t i e (text_utf8 t h) (ltb-true i (length t) z.0) (eqb-true (get_or t i 0) 123 z.1) c) (brace_flat t i e c) r
 
-    closed : (p : Place) → brace_at t i ≡ true → find_close t (suc i) ≡ p → table_ok (one t) (read_to m t i p).set ≡ true
-    closed Nothing o c = empty_ok (one t)
-    closed (At e) o c = cut (is_utf8 (payload_of t i e))
+    closed : (p : Option ℕ) → brace_at t i ≡ true → find_close t (suc i) ≡ p → table_ok (one t) (read_to m t i p).set ≡ true
+    closed None o c = empty_ok (one t)
+    closed (Some e) o c = cut (is_utf8 (payload_of t i e))
       where
         cut : (b : Bool) → table_ok (one t) (cond b (finished (fills.filled_of m (one t) (suc i) (payload_of t i e)) (suc e) (payload_place m (payload_of t i e))) (refusing_read NotUtf8)).set ≡ true
         cut true = filled_ok (one t) (read_payload m (suc i) (payload_of t i e)) (payload e o c)

@@ -1,13 +1,12 @@
 -- Reading and measuring agree, whatever was found.
 -- Assumes nothing.
+use Rattle.std.specs.Prelude.{Err}
 use mathlib.Core.Path.{◌≡◌, refl}
 use mathlib.Core.List.{List}
 use Prim.Native.Nat.{ℕ}
 use native.Mathlib.Omega.{arith}
 use Rattle.base_refusals.specs.declared.Refusal.{Refusal}
-use Rattle.base_refusals.specs.declared.Outcome.TheVariants as outcome
 use Rattle.read_blocks.specs.Blocks.{Found, lines_of, block_of}
-use Rattle.read_lengths.specs.declared.Length.TheVariants as lengthIs
 use Rattle.proved_reading.specs.Measuring.{MeasuresWhatIsRead, RefusedAlike}
 use Rattle.read_lengths.specs.Lengths.{length_of, lines_in, measured}
 
@@ -25,7 +24,7 @@ module _ (t : List ℕ) (at : ℕ) (f : Found) where
   unfolding measured block_of
   refused_alike e = go f e
     where
-      go : (f : Found) {q : Refusal} → length_of f ≡ lengthIs.Refused q → (block_of t at f).outcome ≡ outcome.Refused q
+      go : (f : Found) {q : Refusal} → length_of f ≡ Err q → (block_of t at f).outcome ≡ Err q
       go Found.line e = let z : ◌≡◌ {A = ℕ} 0 1 = cc in absurd (omega arith)
       go (Found.run r) e = let z : ◌≡◌ {A = ℕ} 0 1 = cc in absurd (omega arith)
       go (Found.none p x n) {q} e = let z : p ≡ q = cc in rw z

@@ -1,5 +1,6 @@
 -- Which numbers measuring gives, at a place and by line number, and how long what is joined and the lookahead can be.
 -- Assumes nothing.
+use Rattle.std.specs.Prelude.{Err, None, Ok, Option, Result, Some}
 use mathlib.Core.Path.{◌≡◌, refl}
 use mathlib.Core.Bool.{Bool, true, false, cond}
 use mathlib.Core.List.{List, map}
@@ -13,11 +14,7 @@ use Rattle.base_refusals.specs.Numbers.{max_text, number_of, outcome_no}
 use Rattle.base_refusals.specs.declared.Refusal.{Refusal}
 use Rattle.base_refusals.specs.declared.Refusal.TheVariants.{TextTooLong, NotUtf8, NothingThere, NoReading}
 use Rattle.text_checks.specs.Check.{check_of}
-use Rattle.base_refusals.specs.declared.Outcome as outcomes
-use Rattle.base_refusals.specs.declared.Outcome.TheVariants as outcome
 use Rattle.text_lines.specs.Lines.{lines, line_of, line_at}
-use Rattle.text_lines.specs.declared.Line as places
-use Rattle.text_lines.specs.declared.Line.TheVariants as place
 use Rattle.block_chain.specs.Chain.{good_line}
 use Rattle.run_joins.specs.Joins.{Lined, So}
 use Rattle.run_lines.specs.Runs as runs
@@ -29,6 +26,7 @@ use Rattle.read_blocks.specs.ByLine.{block_found, wrapped_found}
 use Rattle.read_lengths.specs.Lengths.{flush_left, standalone_found, indented_found}
 use Rattle.proved_runs.proofs.Bounds.{lookahead_le}
 use Rattle.proved_reading.specs.Measuring.{measured_numbers, Fair, FairFound, FairBlock, FairWraps, FairStandalone, FairIndented}
+use Rattle.text_lines.specs.declared.Range.{Range}
 
 stop_given : (cap : ℕ) (so : So) (ls : List Lined) → is_in measured_numbers (outcome_no (runs.run_from cap so ls).stop) ≡ true
 unfolding is_in number_of
@@ -51,10 +49,10 @@ module _ (t : List ℕ) (cap : ℕ) where
       closed r true a k = record { number = refl; lookahead = a; joined = k; room = λ h. refl }
       closed r false a k = record { number = refl; lookahead = a; joined = k; room = λ h. refl }
 
-      go : (r : runs.Run) (x : outcomes.Outcome) → is_in measured_numbers (outcome_no x) ≡ true → (length t ≤ cap → eqb (outcome_no x) 9 ≡ false) → r.lookahead ≤ length t → length r.text ≤ length t
+      go : (r : runs.Run) (x : Result (Unit {0}) Refusal) → is_in measured_numbers (outcome_no x) ≡ true → (length t ≤ cap → eqb (outcome_no x) 9 ≡ false) → r.lookahead ≤ length t → length r.text ≤ length t
           → Fair t cap (ended_run r x)
-      go r outcome.Passed i n a k = closed r (good_line r.text 0 (length r.text)) a k
-      go r (outcome.Refused q) i n a k = record { number = i; lookahead = a; joined = k; room = n }
+      go r (Ok _) i n a k = closed r (good_line r.text 0 (length r.text)) a k
+      go r (Err q) i n a k = record { number = i; lookahead = a; joined = k; room = n }
 
   pub fair_found : FairFound t cap
   unfolding found is_in number_of
@@ -81,11 +79,11 @@ module _ (t : List ℕ) (cap : ℕ) where
   unfolding start_at check_of is_in number_of
   fair_start n g h = go (ltb max_text (length t)) (is_utf8 t) (line_of n t)
     where
-      go : (x y : Bool) (l : places.Line) → Fair t cap (on_start nothing g (begun (cond x (outcome.Refused TextTooLong) (cond y outcome.Passed (outcome.Refused NotUtf8))) l))
+      go : (x y : Bool) (l : Option Range) → Fair t cap (on_start nothing g (begun (cond x (Err TextTooLong) (cond y (Ok tt) (Err NotUtf8))) l))
       go true y l = fair_none t cap TextTooLong refl refl
       go false false l = fair_none t cap NotUtf8 refl refl
-      go false true place.Missing = fair_none t cap NothingThere refl refl
-      go false true (place.At r) = h r.from
+      go false true None = fair_none t cap NothingThere refl refl
+      go false true (Some r) = h r.from
 
   pub fair_block : FairBlock t cap
   unfolding block_found

@@ -1,5 +1,6 @@
 -- The sets that the entries by line number hand out: of a line alone, of a block and of a run.
 -- Assumes nothing.
+use Rattle.std.specs.Prelude.{Err, Ok, Result}
 use mathlib.Core.Path.{◌≡◌, refl}
 use mathlib.Core.Bool.{Bool, true, false, cond}
 use mathlib.Core.List.{List, []}
@@ -7,7 +8,6 @@ use Prim.Native.Nat.{ℕ}
 use Rattle.base_bytes.specs.declared.Mode.TheVariants.{Loose}
 use Rattle.base_refusals.specs.declared.Refusal.TheVariants.{NothingThere}
 use Rattle.text_checks.specs.Check.{is_text}
-use Rattle.base_refusals.specs.declared.Outcome.TheVariants as outcome
 use Rattle.set_fill.specs.Fill.{chain_at}
 use Rattle.proved_sets.proofs.Zeroed.{Zeroed, empty_zeroed}
 use Rattle.set_table.specs.Types.{one}
@@ -15,8 +15,6 @@ use Rattle.set_wellformed.specs.WellFormed.{well_formed}
 use Rattle.proved_origins.proofs.Checks.{empty_text}
 use Rattle.proved_reading.proofs.ChainsOut.{chain_out_ok}
 use Rattle.block_trimmed_line.specs.Fronts.{front_of, opens_at}
-use Rattle.text_line_start.specs.declared.Start as starts
-use Rattle.text_line_start.specs.declared.Start.TheVariants as start
 use Rattle.text_line_start.specs.Starts.{start_at, on_start, place_of}
 use Rattle.read_blocks.specs.Blocks.{Found, nothing, found, wrapped, filled_found, block_of}
 use Rattle.read_by_line.specs.Entries.{line_read, parse_standalone}
@@ -42,18 +40,18 @@ pub line_zeroed : LineZeroed
 unfolding parse_standalone
 line_zeroed t n = go (start_at t n)
   where
-    go : (s : starts.Start) → Zeroed (on_start refusing (line_read t) s).set
-    go (start.Refused r) = empty_zeroed
-    go (start.At at) = line_read_zeroed t at
+    go : (s : Result ℕ Refusal) → Zeroed (on_start refusing (line_read t) s).set
+    go (Err r) = empty_zeroed
+    go (Ok at) = line_read_zeroed t at
 
 -- ---- well-formed sets
 
 start_ok : (t : List ℕ) → is_text t ≡ true → (n : ℕ) (g : ℕ → Found) → ((at : ℕ) → SetFormed t at (g at)) → SetFormed t (place_of t n) (on_start nothing g (start_at t n))
 start_ok t h n g k = go (start_at t n)
   where
-    go : (s : starts.Start) → SetFormed t (on_start (λ r. 0) (λ at. at) s) (on_start nothing g s)
-    go (start.Refused r) = none_ok t h 0 r [] 0 empty_text
-    go (start.At at) = k at
+    go : (s : Result ℕ Refusal) → SetFormed t (on_start (λ r. 0) (λ at. at) s) (on_start nothing g s)
+    go (Err r) = none_ok t h 0 r [] 0 empty_text
+    go (Ok at) = k at
 
 pub block_set_ok : BlockFormed
 unfolding block_found
@@ -75,9 +73,9 @@ pub line_set_ok : LineFormed
 unfolding parse_standalone
 line_set_ok t h n = go (start_at t n)
   where
-    go : (s : starts.Start) → well_formed (one t) (on_start refusing (line_read t) s).set ≡ true
-    go (start.Refused r) = empty_fits t h
-    go (start.At at) = line_read_ok t h at
+    go : (s : Result ℕ Refusal) → well_formed (one t) (on_start refusing (line_read t) s).set ≡ true
+    go (Err r) = empty_fits t h
+    go (Ok at) = line_read_ok t h at
 
 -- ---- a refusal hands out the empty set
 
@@ -89,6 +87,6 @@ line_empty t n r = go (start_at t n)
     read at true = chain_settled Loose t (front_of t at).from (front_of t at).to
     read at false = Settled.refused NothingThere
 
-    go : (s : starts.Start) → (on_start refusing (line_read t) s).outcome ≡ outcome.Refused r → (on_start refusing (line_read t) s).set ≡ empty_set
-    go (start.Refused q) e = refl
-    go (start.At at) e = filled_empty (read at (opens_at t at)) e
+    go : (s : Result ℕ Refusal) → (on_start refusing (line_read t) s).outcome ≡ Err r → (on_start refusing (line_read t) s).set ≡ empty_set
+    go (Err q) e = refl
+    go (Ok at) e = filled_empty (read at (opens_at t at)) e

@@ -1,5 +1,6 @@
 -- Reading at a brace gives what the table's rules say and nothing else, for every text and place: the numbers, the place behind the close, the meaning.
 -- Assumes nothing.
+use Rattle.std.specs.Prelude.{None, Option, Some, Err, Ok, Result}
 use mathlib.Core.Path.{◌≡◌, refl, sym, ◌∙◌, ap}
 use mathlib.Core.Bool.{Bool, true, false, cond}
 use mathlib.Core.List.{List, [], ◌∷◌, ◌++◌, map}
@@ -25,8 +26,6 @@ use Rattle.block_grammar.specs.Meaning.{Entry, classes_once}
 use Rattle.proved_grammar.specs.Meaning.{entries_of, meaning, listed}
 use Rattle.block_grammar.specs.Close.{Closes}
 use Rattle.block_grammar.specs.ComputedClose.{find_close}
-use Rattle.block_grammar.specs.declared.Place.{Place}
-use Rattle.block_grammar.specs.declared.Place.TheVariants.{Nothing, At}
 use Rattle.block_grammar.proofs.Payload.{sound, complete}
 use Rattle.block_grammar.proofs.Close.{found, payload_is}
 use Rattle.block_places.specs.Rules.{HasReading}
@@ -45,8 +44,8 @@ use Rattle.proved_sets.proofs.Limited.{over_classes, over_keys, fits}
 use Rattle.proved_sets.proofs.Limits.{exactly, not_utf8}
 use Rattle.proved_sets.proofs.Slots.{slots_fit}
 use Rattle.proved_sets.proofs.TableWhole.{table_means, empty_table, empty_means, table_lists}
-use Rattle.read_brace.specs.declared.Answer.{Answer}
-use Rattle.read_brace.specs.declared.Answer.TheVariants.{Refused, Unread, Next}
+use Rattle.read_brace.specs.declared.NotRead.{NotRead}
+use Rattle.read_brace.specs.declared.NotRead.TheVariants.{Refused, Unread}
 use Rattle.read_brace.specs.declared.Read.{Read}
 use Rattle.read_brace.specs.Brace.{brace_paper, refusing_read, brace_at, payload_of, finished, read_to, at_brace, read_attrs_at}
 use Rattle.proved_reading.specs.Table.{BraceAt, BlockAt, Reads, Given}
@@ -71,7 +70,7 @@ pub opened : {t : List ℕ} {i : ℕ} → BraceAt t i → brace_at t i ≡ true
 unfolding brace_at
 opened {t} {i} o = rw (lt-ltb i (length t) o.there, eq-eqb (get_or t i 0) 123 o.brace)
 
-never_closes : (t : List ℕ) (i : ℕ) → find_close t (suc i) ≡ Nothing → (e : ℕ) → Closes (drop (suc i) t) (suc i) e → ⊥
+never_closes : (t : List ℕ) (i : ℕ) → find_close t (suc i) ≡ None → (e : ℕ) → Closes (drop (suc i) t) (suc i) e → ⊥
 unfolding find_close
 never_closes t i h e c = no_close (drop (suc i) t) (suc i) h c
 
@@ -79,12 +78,12 @@ module _ {t : List ℕ} {i e : ℕ} (b : BlockAt t i e) where
   pub inside_is : payload_of t i e ≡ b.closes.inside
   inside_is = slice_part (suc i) e t ∙ payload_is t (suc i) b.closes
 
-  pub close_is : find_close t (suc i) ≡ At e
+  pub close_is : find_close t (suc i) ≡ Some e
   unfolding find_close
   close_is = close_complete b.closes
 
   -- the code's way to the payload
-  reads_to : (m : Mode) {r : Read} → read_to m t i (At e) ≡ r → read_attrs_at m t i ≡ r
+  reads_to : (m : Mode) {r : Read} → read_to m t i (Some e) ≡ r → read_attrs_at m t i ≡ r
   unfolding read_attrs_at at_brace
   reads_to m h = rw (le-ltb max_text (length t) b.short, opened b.opens, close_is) h
 
@@ -118,13 +117,13 @@ module _ {m : Mode} {t : List ℕ} {i e : ℕ} {is : List Placed} (h : Reads m t
     unfolding finished number_of
     reads_keys k = reads_filled (rw (over_keys rows few (omega (arith, key_fill st, k))))
 
-    reads_set : key_count (entries_of is) ≤ max_keys → read_attrs_at m t i ≡ record { answer = Next (suc e); set = table_of rows }
+    reads_set : key_count (entries_of is) ≤ max_keys → read_attrs_at m t i ≡ record { answer = Ok (suc e); set = table_of rows }
     unfolding finished
     reads_set k = reads_filled (rw (fits rows few (omega (arith, key_fill st, k))))
 
 -- ======== what is given is by the rules
 -- an answer with the empty set
-abbrev no_set : Answer → Read
+abbrev no_set : Result ℕ NotRead → Read
 no_set a = record { answer = a; set = empty_set }
 
 abbrev Right : Mode → List ℕ → ℕ → Read → Type 0
@@ -132,7 +131,7 @@ Right m t i r = Given m t i r.answer (meaning_of (one t) r.set)
 
 module _ (m : Mode) (t : List ℕ) (i : ℕ) where
   -- a refusal's set means nothing
-  without : {a : Answer} → Given m t i a [] → read_attrs_at m t i ≡ no_set a → Right m t i (read_attrs_at m t i)
+  without : {a : Result ℕ NotRead} → Given m t i a [] → read_attrs_at m t i ≡ no_set a → Right m t i (read_attrs_at m t i)
   without g e = rw (e, empty_means (one t)) g
 
   with_items : {e : ℕ} {is : List Placed} → Reads m t i e is → Right m t i (read_attrs_at m t i)
@@ -164,24 +163,24 @@ module _ (m : Mode) (t : List ℕ) (i : ℕ) where
   unfolding read_attrs_at at_brace
   given = go (ltb max_text (length t)) refl (brace_at t i) refl (find_close t (suc i)) refl
     where
-      go : (x : Bool) → ltb max_text (length t) ≡ x → (y : Bool) → brace_at t i ≡ y → (p : Place) → find_close t (suc i) ≡ p → Right m t i (read_attrs_at m t i)
+      go : (x : Bool) → ltb max_text (length t) ≡ x → (y : Bool) → brace_at t i ≡ y → (p : Option ℕ) → find_close t (suc i) ≡ p → Right m t i (read_attrs_at m t i)
       go true a y b p c = without (Given.long (omega (arith, ltb-true max_text (length t) a))) (rw a)
       go false a false b p c = without (Given.none (ltb-false max_text (length t) a) (λ o. contra (brace_at t i) (opened o) b)) (rw (a, b))
-      go false a true b Nothing c = without (Given.unclosed (ltb-false max_text (length t) a) (opens t i b) (never_closes t i c)) (rw (a, b, c))
-      go false a true b (At e) c = with_block (record { short = ltb-false max_text (length t) a; opens = opens t i b; closes = (found t (suc i) e c).closes })
+      go false a true b None c = without (Given.unclosed (ltb-false max_text (length t) a) (opens t i b) (never_closes t i c)) (rw (a, b, c))
+      go false a true b (Some e) c = with_block (record { short = ltb-false max_text (length t) a; opens = opens t i b; closes = (found t (suc i) e c).closes })
 
 -- ======== and the rules give nothing else
 -- what is handed out, by the answer and the meaning: the empty set, or the rows that the items fill
-data Out (m : Mode) (t : List ℕ) (i : ℕ) : Answer → List Entry → Read → Type 0 where
-  no : (a : Answer) → Out m t i a [] (no_set a)
+data Out (m : Mode) (t : List ℕ) (i : ℕ) : Result ℕ NotRead → List Entry → Read → Type 0 where
+  no : (a : Result ℕ NotRead) → Out m t i a [] (no_set a)
   yes : {e : ℕ} {is : List Placed} → Reads m t i e is → class_count (entries_of is) ≤ max_classes → key_count (entries_of is) ≤ max_keys
-      → Out m t i (Next (suc e)) (meaning is) (record { answer = Next (suc e); set = table_of (with_puts (one t) no_rows (puts_in is)) })
+      → Out m t i (Ok (suc e)) (meaning is) (record { answer = Ok (suc e); set = table_of (with_puts (one t) no_rows (puts_in is)) })
 
 module _ {m : Mode} {t : List ℕ} {i : ℕ} where
-  nothing : {a : Answer} → read_attrs_at m t i ≡ no_set a → Out m t i a [] (read_attrs_at m t i)
+  nothing : {a : Result ℕ NotRead} → read_attrs_at m t i ≡ no_set a → Out m t i a [] (read_attrs_at m t i)
   nothing {a} e = rw e (Out.no a)
 
-  exact : {a : Answer} {s : List Entry} → Given m t i a s → Out m t i a s (read_attrs_at m t i)
+  exact : {a : Result ℕ NotRead} {s : List Entry} → Given m t i a s → Out m t i a s (read_attrs_at m t i)
   unfolding read_attrs_at at_brace finished fills.filled_of number_of
   exact (Given.long l) = nothing (rw (lt-ltb max_text (length t) (omega (arith, l))))
   exact (Given.none l n) = nothing (rw (le-ltb max_text (length t) l) (go (brace_at t i) refl))
@@ -191,29 +190,29 @@ module _ {m : Mode} {t : List ℕ} {i : ℕ} where
       go false e = refl
   exact (Given.unclosed l o n) = nothing (rw (le-ltb max_text (length t) l, opened o) (go (find_close t (suc i)) refl))
     where
-      go : (p : Place) → find_close t (suc i) ≡ p → read_to m t i p ≡ refusing_read NoClose
-      go Nothing e = refl
-      go (At k) e = absurd (n k (found t (suc i) k e).closes)
+      go : (p : Option ℕ) → find_close t (suc i) ≡ p → read_to m t i p ≡ refusing_read NoClose
+      go None e = refl
+      go (Some k) e = absurd (n k (found t (suc i) k e).closes)
   exact (Given.garbled b n) = nothing (reads_to b m (rw (inside_is b, not_utf8 b.closes.inside n)))
   exact (Given.unread {e = e} {n = k} b w n l) = nothing (reads_to b m (rw (inside_is b, utf8.complete w) (go (read_payload m (suc i) b.closes.inside) refl)))
     where
-      go : (r : Reading) → read_payload m (suc i) b.closes.inside ≡ r → finished (fills.filled_by (one t) r) (suc e) (payload_place m b.closes.inside) ≡ no_set (Unread k)
-      go Reading.refused q = ap (λ x. no_set (Unread x)) (one_place (HasReading m) b.closes.inside (payload_place m b.closes.inside) k (place_longest m b.closes.inside) l)
+      go : (r : Reading) → read_payload m (suc i) b.closes.inside ≡ r → finished (fills.filled_by (one t) r) (suc e) (payload_place m b.closes.inside) ≡ no_set (Err (Unread k))
+      go Reading.refused q = ap (λ x. no_set (Err (Unread x))) (one_place (HasReading m) b.closes.inside (payload_place m b.closes.inside) k (place_longest m b.closes.inside) l)
       go (Reading.items is) q = absurd (n is (sound m (suc i) b.closes.inside is q))
   exact (Given.classes h l) = nothing (reads_classes h l)
   exact (Given.keys h l k) = nothing (reads_keys h (omega (arith, l)) k)
   exact (Given.read h l k) = rw (reads_set h l k) (Out.yes h l k)
 
 module _ {m : Mode} {t : List ℕ} {i : ℕ} where
-  pub only : {a : Answer} {s : List Entry} → Given m t i a s → AnswersSo m t i a s
+  pub only : {a : Result ℕ NotRead} {s : List Entry} → Given m t i a s → AnswersSo m t i a s
   unfolding meaning
   only g = let z = exact g in record { answer = answers z; means = meant z }
     where
-      answers : {a : Answer} {s : List Entry} {r : Read} → Out m t i a s r → r.answer ≡ a
+      answers : {a : Result ℕ NotRead} {s : List Entry} {r : Read} → Out m t i a s r → r.answer ≡ a
       answers (Out.no r) = refl
       answers (Out.yes h l k) = refl
 
-      meant : {a : Answer} {s : List Entry} {r : Read} → Out m t i a s r → meaning_of (one t) r.set ≡ s
+      meant : {a : Result ℕ NotRead} {s : List Entry} {r : Read} → Out m t i a s r → meaning_of (one t) r.set ≡ s
       meant (Out.no r) = empty_means (one t)
       meant (Out.yes {is = is} h l k) = table_means (with_puts (one t) no_rows (puts_in is)) (one t) ∙ ap classes_once (rows_list (st h))
 
@@ -233,7 +232,7 @@ pub record Means (m : Mode) (t : List ℕ) (i n : ℕ) (s : List Entry) : Type 0
   pub keys : key_count (entries_of items) ≤ max_keys
 
 module _ {m : Mode} {t : List ℕ} {i : ℕ} where
-  by_next : {a : Answer} {s : List Entry} → Given m t i a s → (n : ℕ) → a ≡ Next n → Means m t i n s
+  by_next : {a : Result ℕ NotRead} {s : List Entry} → Given m t i a s → (n : ℕ) → a ≡ Ok n → Means m t i n s
   by_next (Given.long l) n e = contra true refl (cc)
   by_next (Given.none l o) n e = contra true refl (cc)
   by_next (Given.unclosed l o c) n e = contra true refl (cc)
@@ -243,11 +242,11 @@ module _ {m : Mode} {t : List ℕ} {i : ℕ} where
   by_next (Given.keys h l k) n e = contra true refl (cc)
   by_next (Given.read {e = c} {is = is} h l k) n e = record { close = c; items = is; reads = h; next = cc; meant = refl; classes = l; keys = k }
 
-  pub read_means : {n : ℕ} → (read_attrs_at m t i).answer ≡ Next n → Means m t i n (meaning_of (one t) (read_attrs_at m t i).set)
+  pub read_means : {n : ℕ} → (read_attrs_at m t i).answer ≡ Ok n → Means m t i n (meaning_of (one t) (read_attrs_at m t i).set)
   read_means {n} e = by_next (given m t i) n e
 
 -- the set lists what they list
-pub set_lists : (m : Mode) (t : List ℕ) (i : ℕ) {n : ℕ} (e : (read_attrs_at m t i).answer ≡ Next n) → listed_of (one t) (read_attrs_at m t i).set ≡ listed (read_means e).items
+pub set_lists : (m : Mode) (t : List ℕ) (i : ℕ) {n : ℕ} (e : (read_attrs_at m t i).answer ≡ Ok n) → listed_of (one t) (read_attrs_at m t i).set ≡ listed (read_means e).items
 set_lists m t i e =
     let r = read_means e in
     ap (λ x. listed_of (one t) x.set) (reads_set r.reads r.classes r.keys) ∙ table_lists (with_puts (one t) no_rows (puts_in r.items)) (one t) ∙ rows_list (st r.reads)
@@ -267,7 +266,7 @@ one_inside : {t : List ℕ} {i e k : ℕ} (b : BlockAt t i e) (c : BlockAt t i k
 one_inside {t} {i} b c = sym (inside_is b) ∙ ap (payload_of t i) (one_close b.closes c.closes) ∙ inside_is c
 
 module _ {m : Mode} {t : List ℕ} {i : ℕ} where
-  by_unread : {a : Answer} {s : List Entry} → Given m t i a s → (n : ℕ) → a ≡ Unread n → Wrong m t i n
+  by_unread : {a : Result ℕ NotRead} {s : List Entry} → Given m t i a s → (n : ℕ) → a ≡ Err (Unread n) → Wrong m t i n
   by_unread (Given.long l) n e = contra true refl (cc)
   by_unread (Given.none l o) n e = contra true refl (cc)
   by_unread (Given.unclosed l o c) n e = contra true refl (cc)
@@ -277,11 +276,11 @@ module _ {m : Mode} {t : List ℕ} {i : ℕ} where
   by_unread (Given.keys h l k) n e = contra true refl (cc)
   by_unread (Given.read h l k) n e = contra true refl (cc)
 
-  pub read_wrong : {n : ℕ} → (read_attrs_at m t i).answer ≡ Unread n → Wrong m t i n
+  pub read_wrong : {n : ℕ} → (read_attrs_at m t i).answer ≡ Err (Unread n) → Wrong m t i n
   read_wrong {n} e = by_unread (given m t i) n e
 
   -- then nothing is read there
-  pub none_reads : {n e : ℕ} {is : List Placed} → (read_attrs_at m t i).answer ≡ Unread n → Reads m t i e is → ⊥
+  pub none_reads : {n e : ℕ} {is : List Placed} → (read_attrs_at m t i).answer ≡ Err (Unread n) → Reads m t i e is → ⊥
   none_reads {is = is} q h = let w = read_wrong q in w.none is (rw (one_inside h.block w.block) at h.payload)
 
 pub place_on_boundary : PlaceOnBoundary
@@ -295,10 +294,10 @@ pub five_has_place : (m : Mode) (t : List ℕ) (i : ℕ) → FiveHasPlace m t i
 unfolding number_of
 five_has_place m t i e = go (given m t i) e
   where
-    told : {a b : Answer} → a ≡ b → (brace_paper a).number ≡ (brace_paper b).number
+    told : {a b : Result ℕ NotRead} → a ≡ b → (brace_paper a).number ≡ (brace_paper b).number
     told q = ap (λ x. (brace_paper x).number) q
 
-    go : {a : Answer} {s : List Entry} → Given m t i a s → a ≡ Refused NoReading → ⊥
+    go : {a : Result ℕ NotRead} {s : List Entry} → Given m t i a s → a ≡ Err (Refused NoReading) → ⊥
     go (Given.long l) q = absurd (omega (arith, told q))
     go (Given.none l n) q = absurd (omega (arith, told q))
     go (Given.unclosed l o n) q = absurd (omega (arith, told q))
@@ -324,7 +323,7 @@ module _ (m : Mode) (t : List ℕ) (i : ℕ) where
   pub tidy : BraceTidy m t i
   tidy = go (exact (given m t i))
     where
-      go : {a : Answer} {s : List Entry} {r : Read} → Out m t i a s r → Tidy r.set
+      go : {a : Result ℕ NotRead} {s : List Entry} {r : Read} → Out m t i a s r → Tidy r.set
       go (Out.no r) = rw empty_table at (tidy_table no_rows (omega arith) (omega arith) (omega arith))
       go (Out.yes {is = is} h l k) =
           let o = slots_fit (rows_shaped (st h) (shaped_none (one t))) (omega (arith, key_fill (st h))) in
@@ -333,7 +332,7 @@ module _ (m : Mode) (t : List ℕ) (i : ℕ) where
   pub refused_empty : BraceRefused m t i
   refused_empty e = go (exact (given m t i)) e
     where
-      go : {a : Answer} {s : List Entry} {f : Read} → Out m t i a s f → 0 < (brace_paper f.answer).number → f.set ≡ empty_set
+      go : {a : Result ℕ NotRead} {s : List Entry} {f : Read} → Out m t i a s f → 0 < (brace_paper f.answer).number → f.set ≡ empty_set
       go (Out.no x) q = refl
       go (Out.yes h l k) q = absurd (omega (arith, q))
 
@@ -341,7 +340,7 @@ module _ (m : Mode) (t : List ℕ) (i : ℕ) where
   unfolding number_of
   up_to_seven = go (given m t i)
     where
-      go : {a : Answer} {s : List Entry} → Given m t i a s → (brace_paper a).number ≤ 7
+      go : {a : Result ℕ NotRead} {s : List Entry} → Given m t i a s → (brace_paper a).number ≤ 7
       go (Given.long l) = omega arith
       go (Given.none l n) = omega arith
       go (Given.unclosed l o n) = omega arith

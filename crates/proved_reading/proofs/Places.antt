@@ -1,5 +1,6 @@
 -- Where no run is made nothing is joined; a block that is measured isn't refused 5; and the place behind the lines of a block.
 -- Assumes nothing.
+use Rattle.std.specs.Prelude.{Err, Ok, Result}
 use Prim.Native.Nat.{ℕ, ◌<◌, ◌≤◌}
 use mathlib.Core.Path.{◌≡◌, refl, ◌∙◌, ap}
 use mathlib.Core.Bool.{Bool, true, false, not, cond, ◌&&◌}
@@ -17,8 +18,7 @@ use Rattle.read_blocks.proofs.Finds.{unread_is}
 use Rattle.proved_runs.proofs.Joined.{past_lines_lem}
 use Rattle.proved_reading.specs.Measuring.{NoRun, MeasuredIsRead, PlaceBehind}
 use Rattle.run_lines.specs.Runs as runs
-use Rattle.base_refusals.specs.declared.Outcome as outcomes
-use Rattle.base_refusals.specs.declared.Outcome.TheVariants as outcome
+use Rattle.base_refusals.specs.declared.Refusal.{Refusal}
 
 pub no_run : NoRun
 unfolding found
@@ -45,9 +45,9 @@ module _ (t : List ℕ) (at base cap : ℕ) where
       closed r true g s h = unread_is r.text 0 (length r.text) s ∙ ap not g
       closed r false g s h = absurd (omega arith)
 
-      go : (r : runs.Run) (x : outcomes.Outcome) → length r.text ≤ max_text → 0 < lines_of (ended_run r x) → is_unread (block_of t at (ended_run r x)).outcome ≡ false
-      go r outcome.Passed s h = closed r (good_line r.text 0 (length r.text)) refl s h
-      go r (outcome.Refused q) s h = absurd (omega arith)
+      go : (r : runs.Run) (x : Result (Unit {0}) Refusal) → length r.text ≤ max_text → 0 < lines_of (ended_run r x) → is_unread (block_of t at (ended_run r x)).outcome ≡ false
+      go r (Ok _) s h = closed r (good_line r.text 0 (length r.text)) refl s h
+      go r (Err q) s h = absurd (omega arith)
 
   pub found_read : MeasuredIsRead t at base cap
   unfolding found block_of

@@ -1,5 +1,5 @@
 -- Reading at a brace against the table 'Sizes and refusal numbers', whose rows are the rules `Given` of Table.
-use Rattle.std.specs.Prelude.{ℕ, ◌≤◌, ◌≡◌, true, cond, List, [], length}
+use Rattle.std.specs.Prelude.{ℕ, ◌≤◌, ◌≡◌, true, cond, List, [], length, Err, Ok, Result}
 use Rattle.base_bytes.specs.declared.Mode.{Mode}
 use Rattle.base_bytes.specs.declared.Mode.TheVariants.{Strict}
 use Rattle.base_refusals.specs.Numbers.{max_text, too_long}
@@ -13,8 +13,8 @@ use Rattle.set_canon.specs.Canon.{canon}
 use Rattle.proved_sets.specs.Formed.{wf}
 use Rattle.set_table.specs.Types.{one}
 use Rattle.set_table.specs.Rows.{listed_of, meaning_of}
-use Rattle.read_brace.specs.declared.Answer.{Answer}
-use Rattle.read_brace.specs.declared.Answer.TheVariants.{Refused, Unread, Next}
+use Rattle.read_brace.specs.declared.NotRead.{NotRead}
+use Rattle.read_brace.specs.declared.NotRead.TheVariants.{Refused, Unread}
 use Rattle.read_brace.specs.declared.Read.{Read}
 use Rattle.read_brace.specs.Brace.{brace_paper, refusing_read, brace_at, read_to, read_attrs_at}
 use Rattle.proved_grammar.specs.Close.{last_close, search_with}
@@ -27,10 +27,10 @@ meant_at m t i = meaning_of (one t) (read_attrs_at m t i).set
 
 -- "Reading .. still list[s] every class": the set lists what the payload's items list
 abbrev pub BraceLists : Type 0
-BraceLists = (m : Mode) (t : List ℕ) (i n e : ℕ) (is : List Placed) → (read_attrs_at m t i).answer ≡ Next n → Reads m t i e is → listed_of (one t) (read_attrs_at m t i).set ≡ listed is
+BraceLists = (m : Mode) (t : List ℕ) (i n e : ℕ) (is : List Placed) → (read_attrs_at m t i).answer ≡ Ok n → Reads m t i e is → listed_of (one t) (read_attrs_at m t i).set ≡ listed is
 
 -- reading at i answers a, with a set that means s
-pub record AnswersSo (m : Mode) (t : List ℕ) (i : ℕ) (a : Answer) (s : List Entry) : Type 0 where
+pub record AnswersSo (m : Mode) (t : List ℕ) (i : ℕ) (a : Result ℕ NotRead) (s : List Entry) : Type 0 where
   pub answer : (read_attrs_at m t i).answer ≡ a
   pub means : meant_at m t i ≡ s
 
@@ -46,22 +46,22 @@ UpToSeven m t i = (brace_paper (read_attrs_at m t i).answer).number ≤ 7
 -- ---- "Refusal 5 at a brace shall carry a place": none is given without one
 
 abbrev pub FiveHasPlace : Mode → List ℕ → ℕ → Type 0
-FiveHasPlace m t i = (read_attrs_at m t i).answer ≡ Refused NoReading → ⊥
+FiveHasPlace m t i = (read_attrs_at m t i).answer ≡ Err (Refused NoReading) → ⊥
 
 -- ".., ending on a character boundary": it is one of the payload, so among the prefixes that end on one it is the longest too
 abbrev pub PlaceOnBoundary : Type 0
-PlaceOnBoundary = (m : Mode) (t : List ℕ) (i e n : ℕ) (b : BlockAt t i e) → (read_attrs_at m t i).answer ≡ Unread n → is_boundary b.closes.inside n ≡ true
+PlaceOnBoundary = (m : Mode) (t : List ℕ) (i e n : ℕ) (b : BlockAt t i e) → (read_attrs_at m t i).answer ≡ Err (Unread n) → is_boundary b.closes.inside n ≡ true
 
 -- ---- "Reading back is `read_attrs_at` at byte 0"
 
 -- what was read has a canonical text
 abbrev pub ReadIsWell : Mode → List ℕ → ℕ → ℕ → Type 0
-ReadIsWell m t i n = (read_attrs_at m t i).answer ≡ Next n → (wf (meant_at m t i) ≡ true) × (meant_at m t i ≡ [] → ⊥)
+ReadIsWell m t i n = (read_attrs_at m t i).answer ≡ Ok n → (wf (meant_at m t i) ≡ true) × (meant_at m t i ≡ [] → ⊥)
 
 -- which, within the sizes, reads back to its last byte as the same
 abbrev pub ReadsBackAgain : Mode → List ℕ → ℕ → ℕ → Type 0
-ReadsBackAgain m t i n = (read_attrs_at m t i).answer ≡ Next n → length (canon (meant_at m t i)) ≤ max_text → is_utf8 (canon (meant_at m t i)) ≡ true
-    → AnswersSo Strict (canon (meant_at m t i)) 0 (Next (length (canon (meant_at m t i)))) (meant_at m t i)
+ReadsBackAgain m t i n = (read_attrs_at m t i).answer ≡ Ok n → length (canon (meant_at m t i)) ≤ max_text → is_utf8 (canon (meant_at m t i)) ≡ true
+    → AnswersSo Strict (canon (meant_at m t i)) 0 (Ok (length (canon (meant_at m t i)))) (meant_at m t i)
 
 -- ---- "its dropped third argument, the true place of the text's last `}`, changes nothing"
 

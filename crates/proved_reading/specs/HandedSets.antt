@@ -1,9 +1,8 @@
 -- The sets that reading hands out: at a brace, of a line, of a block and of a run.
-use Rattle.std.specs.Prelude.{ℕ, ◌<◌, ◌≤◌, ◌≡◌, true, List, length}
+use Rattle.std.specs.Prelude.{ℕ, ◌<◌, ◌≤◌, ◌≡◌, true, List, length, Err}
 use Rattle.std.proofs.Math.Seq.{slice}
 use Rattle.base_bytes.specs.declared.Mode.{Mode}
 use Rattle.base_refusals.specs.declared.Refusal.{Refusal}
-use Rattle.base_refusals.specs.declared.Outcome.TheVariants as outcome
 use Rattle.text_utf8.specs.Computed.{is_utf8}
 use Rattle.text_checks.specs.Check.{is_text}
 use Rattle.text_line_start.specs.Starts.{place_of}
@@ -25,11 +24,11 @@ abbrev pub BraceRefused : Mode → List ℕ → ℕ → Type 0
 BraceRefused m t i = 0 < (brace_paper (read_attrs_at m t i).answer).number → (read_attrs_at m t i).set ≡ empty_set
 
 abbrev pub LineRefused : List ℕ → ℕ → Refusal → Type 0
-LineRefused t n r = (parse_standalone t n).outcome ≡ outcome.Refused r → (parse_standalone t n).set ≡ empty_set
+LineRefused t n r = (parse_standalone t n).outcome ≡ Err r → (parse_standalone t n).set ≡ empty_set
 
 -- of a block or run, whatever was found
 abbrev pub BlockRefused : List ℕ → ℕ → Found → Refusal → Type 0
-BlockRefused t at f r = (block_of t at f).outcome ≡ outcome.Refused r → (block_of t at f).set ≡ empty_set
+BlockRefused t at f r = (block_of t at f).outcome ≡ Err r → (block_of t at f).set ≡ empty_set
 
 -- ---- "Rows past the counts are zero in every set handed out"
 

@@ -1,9 +1,8 @@
 -- Measuring, and reading beside it: which numbers come, how far is looked ahead, and that both agree.
-use Rattle.std.specs.Prelude.{ℕ, ◌<◌, ◌≤◌, ◌≡◌, Bool, true, false, not, ◌&&◌, List, [], ◌∷◌, eqb, length, drop}
+use Rattle.std.specs.Prelude.{ℕ, ◌<◌, ◌≤◌, ◌≡◌, Bool, true, false, not, ◌&&◌, List, [], ◌∷◌, eqb, length, drop, Err}
 use Rattle.base_lists.specs.Lists.{is_in}
 use Rattle.base_refusals.specs.Numbers.{max_text}
 use Rattle.base_refusals.specs.declared.Refusal.{Refusal}
-use Rattle.base_refusals.specs.declared.Outcome.TheVariants as outcome
 use Rattle.text_lines.specs.Lines.{lines}
 use Rattle.block_chain.specs.Chain.{good_line}
 use Rattle.block_trimmed_line.specs.Fronts.{front_of, opens_at}
@@ -11,7 +10,6 @@ use Rattle.run_lines.specs.Runs.{past_lines}
 use Rattle.read_blocks.specs.Blocks.{Found, found, joined_in, lookahead_of, lines_of, block_of}
 use Rattle.read_blocks.specs.Inner.{is_unread}
 use Rattle.read_blocks.specs.ByLine.{block_found, wrapped_found}
-use Rattle.read_lengths.specs.declared.Length.TheVariants as lengthIs
 use Rattle.read_lengths.specs.Lengths.{length_of, length_no, lines_in, measured, standalone_found, indented_found}
 
 -- ---- "Measuring never gives 6 or 7"
@@ -55,7 +53,7 @@ MeasuresWhatIsRead t at f =
 
 -- and what measuring refuses, reading refuses with the same number
 abbrev pub RefusedAlike : List ℕ → ℕ → Found → Refusal → Type 0
-RefusedAlike t at f q = (measured t at f).length ≡ lengthIs.Refused q → (block_of t at f).outcome ≡ outcome.Refused q
+RefusedAlike t at f q = (measured t at f).length ≡ Err q → (block_of t at f).outcome ≡ Err q
 
 -- a block that is measured is read, or refused for a limit: never 5
 abbrev pub MeasuredIsRead : (t : List ℕ) (at base cap : ℕ) → Type 0

@@ -1,5 +1,6 @@
 -- The last open brace: what is found is what the rules say and nothing else, and its column counts characters.
 -- Assumes nothing.
+use Rattle.std.specs.Prelude.{None, Option, Some}
 use mathlib.Core.Path.{◌≡◌, refl, sym, ◌∙◌, ap}
 use mathlib.Core.Bool.{Bool, true, false, cond, not, ◌&&◌}
 use mathlib.Core.List.{List, [], ◌∷◌}
@@ -14,10 +15,7 @@ use Rattle.text_tabs.specs.Columns.{column_after, columns_from}
 use Rattle.text_tabs.proofs.Laws.{capped_id, columns_le}
 use Rattle.proved_texts.proofs.Tabs.{columns_count}
 use Rattle.block_grammar.specs.Close.{uncovered, fresh}
-use Rattle.block_grammar.specs.declared.Quote.{Quote}
 use Rattle.block_grammar.specs.declared.Scan.{Scan}
-use Rattle.block_grammar.specs.declared.Place.{Place}
-use Rattle.block_grammar.specs.declared.Place.TheVariants.{Nothing, At}
 use Rattle.run_scanners.specs.declared.Seek.{Seek}
 use Rattle.run_scanners.specs.Scanners.{passed, ignored, scan_from, is_bare, seek_step, seek_from, seek_start, last_open_brace, capped_at}
 use Rattle.proved_runs.specs.Rules.{none_bare, tabs_spaced, LastBrace}
@@ -83,7 +81,7 @@ seek_cons k b s = refl
 
 -- the step over a brace outside quotes
 module _ (k : Seek) (o : is_bare k.scan 123 123 ≡ true) where
-  found_of : (seek_step k 123).found ≡ At k.column
+  found_of : (seek_step k 123).found ≡ Some k.column
   unfolding seek_step
   found_of = rw o
 
@@ -92,27 +90,27 @@ module _ (k : Seek) (o : is_bare k.scan 123 123 ≡ true) where
   last_of s e = rw (brace_stays k.scan 123 o, (bare_is k.scan 123 123 o).1) e
 
 -- what the rules say is found
-brace_found : (k : Seek) (s : List ℕ) {n : ℕ} → LastBrace k.scan k.column s n → (seek_from k s).found ≡ At n
+brace_found : (k : Seek) (s : List ℕ) {n : ℕ} → LastBrace k.scan k.column s n → (seek_from k s).found ≡ Some n
 brace_found k s {n} l =
     let j = seek_from k l.before in
     let sc : j.scan ≡ scan_from ignored k.scan l.before = seek_scan k l.before in
     let o : is_bare j.scan 123 123 ≡ true = ap (λ st. is_bare st 123 123) sc ∙ l.outside in
     let co : j.column ≡ n = seek_column k l.before ∙ sym l.column in
-    rw (l.whole, seek_append k l.before (123 ∷ l.behind), seek_cons, seek_none (seek_step j 123) l.behind (last_of j o l.behind l.last)) (found_of j o ∙ ap (λ c. At c) co)
+    rw (l.whole, seek_append k l.before (123 ∷ l.behind), seek_cons, seek_none (seek_step j 123) l.behind (last_of j o l.behind l.last)) (found_of j o ∙ ap (λ c. Some c) co)
 
-abbrev value_of : Place → ℕ
-value_of Nothing = 0
-value_of (At n) = n
+abbrev value_of : Option ℕ → ℕ
+value_of None = 0
+value_of (Some n) = n
 
-abbrev is_at : Place → Bool
-is_at Nothing = false
-is_at (At n) = true
+abbrev is_at : Option ℕ → Bool
+is_at None = false
+is_at (Some n) = true
 
 moved : {st : Scan} {c : ℕ} {s : List ℕ} {m n : ℕ} → m ≡ n → LastBrace st c s m → LastBrace st c s n
 moved e l = record { before = l.before; behind = l.behind; whole = l.whole; outside = l.outside; last = l.last; column = sym e ∙ l.column }
 
 -- the computed answer is the rules' answer, and there is one only
-module _ (q : Quote) (c : ℕ) (s : List ℕ) where
+module _ (q : Option ℕ) (c : ℕ) (s : List ℕ) where
   pub brace_complete : {n : ℕ} → BraceComplete q c s n
   unfolding last_open_brace
   brace_complete l = brace_found (seek_start q c) s l
@@ -122,7 +120,7 @@ module _ (q : Quote) (c : ℕ) (s : List ℕ) where
   brace_sound {n} e = go (seen (uncovered q) c s)
     where
       go : Seen (uncovered q) c s → LastBrace (uncovered q) c s n
-      go (Seen.none h) = contra (is_at (At n)) refl (ap is_at (sym e ∙ seek_none (seek_start q c) s h))
+      go (Seen.none h) = contra (is_at (Some n)) refl (ap is_at (sym e ∙ seek_none (seek_start q c) s h))
       go (Seen.some m l) = moved (ap value_of (sym (brace_found (seek_start q c) s l) ∙ e)) l
 
   pub no_brace : NoneFound q c s
@@ -135,7 +133,7 @@ module _ (q : Quote) (c : ℕ) (s : List ℕ) where
     where
       go : Seen (uncovered q) c s → none_bare 123 (uncovered q) s ≡ true
       go (Seen.none h) = h
-      go (Seen.some m l) = contra (is_at (At m)) refl (ap is_at (sym (brace_found (seek_start q c) s l) ∙ e))
+      go (Seen.some m l) = contra (is_at (Some m)) refl (ap is_at (sym (brace_found (seek_start q c) s l) ∙ e))
 
 -- ---- columns
 
@@ -156,9 +154,9 @@ module _ {st : Scan} {c : ℕ} {s : List ℕ} {n : ℕ} (l : LastBrace st c s n)
 pub brace_whole : BraceWhole
 brace_whole q c s h = go (last_open_brace q c s) refl
   where
-    go : (p : Place) → last_open_brace q c s ≡ p → capped_at p ≡ p
-    go Nothing e = refl
-    go (At n) e = ap (λ m. At m) (capped_id n (omega (arith, brace_lt (brace_sound q c s e))))
+    go : (p : Option ℕ) → last_open_brace q c s ≡ p → capped_at p ≡ p
+    go None e = refl
+    go (Some n) e = ap (λ m. Some m) (capped_id n (omega (arith, brace_lt (brace_sound q c s e))))
 
 -- ---- keeping a column as a 64-bit number changes no answer
 

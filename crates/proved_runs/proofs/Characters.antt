@@ -1,5 +1,6 @@
 -- On UTF-8 text the scanners go by characters: each character does what its first byte does, and takes one column.
 -- Assumes nothing.
+use Rattle.std.specs.Prelude.{None, Option, Some}
 use mathlib.Core.Path.{◌≡◌, refl, sym, ◌∙◌, ap}
 use mathlib.Core.Bool.{Bool, true, false, cond, not, ◌&&◌, ◌||◌, and-false}
 use mathlib.Core.List.{List, [], ◌∷◌, ◌++◌}
@@ -15,13 +16,9 @@ use Rattle.text_tabs.specs.Columns.{column_after}
 use Rattle.proved_texts.specs.Utf8Rules.{one, two, three_E0, three_E1, three_ED, three_EE, four_F0, four_F1, four_F4, none, more, Char, Octets}
 use Rattle.proved_texts.proofs.Utf8Shape.{starts, shape}
 use Rattle.block_grammar.specs.Close.{uncovered, fresh, turned}
-use Rattle.block_grammar.specs.declared.Quote.{Quote}
-use Rattle.block_grammar.specs.declared.Quote.TheVariants.{Out, In}
 use Rattle.block_grammar.specs.declared.Scan.{Scan}
 use Rattle.run_scanners.specs.declared.Seek.{Seek}
 use Rattle.run_scanners.specs.declared.Held.{Held}
-use Rattle.run_scanners.specs.declared.Hold.{Hold}
-use Rattle.run_scanners.specs.declared.Hold.TheVariants.{Dead, Live}
 use Rattle.run_scanners.specs.Scanners.{in_quote, takes, passed, honoured, ignored, scan_from, is_bare, open_quote_at_end, seek_step, seek_from, seek_start, last_open_brace, live, held_step, hold_step, hold_from, hold_start, is_held, holds_open}
 use Rattle.proved_runs.specs.Rules.{leads, is_sound}
 use Rattle.proved_runs.specs.Scanning.{ScansByCharacters}
@@ -32,7 +29,7 @@ module _ (b : ℕ) (h : 128 ≤ b) where
   unfolding is_quote is_in
   high_quote = rw (ne_eqb b 34 (λ e. omega arith), ne_eqb b 39 (λ e. omega arith))
 
-  high_takes : (o : Bool) (q : Quote) → takes o q b ≡ false
+  high_takes : (o : Bool) (q : Option ℕ) → takes o q b ≡ false
   high_takes o q = go (in_quote q || o)
     where
       go : (x : Bool) → (x && eqb b 92) ≡ false
@@ -105,16 +102,16 @@ quote_starts : (b : ℕ) → is_quote b ≡ true → is_tail b ≡ false
 unfolding is_quote is_in all is_tail within
 quote_starts b e = among_not is_tail (34 ∷ 39 ∷ []) b refl e
 
-sound_turned : (q : Quote) (b : ℕ) → is_sound q ≡ true → is_sound (turned q b) ≡ true
+sound_turned : (q : Option ℕ) (b : ℕ) → is_sound q ≡ true → is_sound (turned q b) ≡ true
 unfolding turned
-sound_turned Out b f = go (is_quote b) refl
+sound_turned None b f = go (is_quote b) refl
   where
-    go : (x : Bool) → is_quote b ≡ x → is_sound (cond x (In b) Out) ≡ true
+    go : (x : Bool) → is_quote b ≡ x → is_sound (cond x (Some b) None) ≡ true
     go true e = rw (quote_starts b e)
     go false e = refl
-sound_turned (In k) b f = go (eqb b k)
+sound_turned (Some k) b f = go (eqb b k)
   where
-    go : (x : Bool) → is_sound (cond x Out (In k)) ≡ true
+    go : (x : Bool) → is_sound (cond x None (Some k)) ≡ true
     go true = refl
     go false = f
 
@@ -137,10 +134,10 @@ module _ (o : Bool) where
       go true = refl
       go false = refl
 
-  quiet : (q : Quote) (t : ℕ) → is_sound q ≡ true → is_tail t ≡ true → passed o (uncovered q) t ≡ uncovered q
+  quiet : (q : Option ℕ) (t : ℕ) → is_sound q ≡ true → is_tail t ≡ true → passed o (uncovered q) t ≡ uncovered q
   unfolding passed turned
-  quiet Out t f e = rw (high_takes t (tail_high t e) o Out, high_quote t (tail_high t e))
-  quiet (In k) t f e = rw (high_takes t (tail_high t e) o (In k), apart is_tail t k e (not-true (is_tail k) f))
+  quiet None t f e = rw (high_takes t (tail_high t e) o None, high_quote t (tail_high t e))
+  quiet (Some k) t f e = rw (high_takes t (tail_high t e) o (Some k), apart is_tail t k e (not-true (is_tail k) f))
 
   scan_idle : (st : Scan) (b t : ℕ) → is_sound st.quote ≡ true → 128 ≤ b → is_tail t ≡ true → passed o (passed o st b) t ≡ passed o st b
   scan_idle st b t f h e =
@@ -170,16 +167,16 @@ seeks =
 
 -- ---- the open block
 
-abbrev is_fit : Hold → Bool
-is_fit Dead = true
-is_fit (Live h) = is_sound h.scan.quote
+abbrev is_fit : Option Held → Bool
+is_fit None = true
+is_fit (Some h) = is_sound h.scan.quote
 
-hold_keeps : (h : Hold) (b : ℕ) → is_fit h ≡ true → is_fit (hold_step h b) ≡ true
+hold_keeps : (h : Option Held) (b : ℕ) → is_fit h ≡ true → is_fit (hold_step h b) ≡ true
 unfolding held_step
-hold_keeps Dead b f = refl
-hold_keeps (Live h) b f = go (is_bare h.scan b 123) (is_bare h.scan b 125) h.inside
+hold_keeps None b f = refl
+hold_keeps (Some h) b f = go (is_bare h.scan b 123) (is_bare h.scan b 125) h.inside
   where
-    go : (x y i : Bool) → is_fit (cond x (cond i Dead (live h.scan true)) (cond y (cond i (live h.scan false) Dead) (live (passed ignored h.scan b) i))) ≡ true
+    go : (x y i : Bool) → is_fit (cond x (cond i None (live h.scan true)) (cond y (cond i (live h.scan false) None) (live (passed ignored h.scan b) i))) ≡ true
     go true y true = refl
     go true y false = f
     go false true true = f
@@ -190,14 +187,14 @@ high_held : (h : Held) (b : ℕ) → 128 ≤ b → held_step h b ≡ live (passe
 unfolding held_step
 high_held h b l = rw (high_bare b l h.scan 123 (omega arith), high_bare b l h.scan 125 (omega arith))
 
-hold_idle : (h : Hold) (b t : ℕ) → is_fit h ≡ true → 128 ≤ b → is_tail t ≡ true → hold_step (hold_step h b) t ≡ hold_step h b
-hold_idle Dead b t f l e = refl
-hold_idle (Live h) b t f l e =
+hold_idle : (h : Option Held) (b t : ℕ) → is_fit h ≡ true → 128 ≤ b → is_tail t ≡ true → hold_step (hold_step h b) t ≡ hold_step h b
+hold_idle None b t f l e = refl
+hold_idle (Some h) b t f l e =
     let p = high_held h b l in
     let j : Held = record { scan = passed ignored h.scan b; inside = h.inside } in
     ap (λ v. hold_step v t) p ∙ high_held j t (tail_high t e) ∙ ap (λ st. live st h.inside) (scan_idle ignored h.scan b t f l e) ∙ sym p
 
-unfoldable holds : Scanner Hold
+unfoldable holds : Scanner (Option Held)
 unfolding hold_from
 holds = record { step = hold_step; scan = hold_from; cons = λ h b s. refl; fit = is_fit; keeps = hold_keeps; idle = hold_idle }
 
@@ -207,11 +204,11 @@ module _ {ks : List (List ℕ)} {s : List ℕ} (o : Octets ks s) where
   unfolding open_quote_at_end scans
   open_chars = ap (λ st. st.quote) (by_chars (scans honoured) o fresh refl)
 
-  brace_chars : (q : Quote) (c : ℕ) → is_sound q ≡ true → last_open_brace q c s ≡ last_open_brace q c (leads ks)
+  brace_chars : (q : Option ℕ) (c : ℕ) → is_sound q ≡ true → last_open_brace q c s ≡ last_open_brace q c (leads ks)
   unfolding last_open_brace seeks
   brace_chars q c f = ap (λ k. k.found) (by_chars seeks o (seek_start q c) f)
 
-  hold_chars : (h : Hold) → is_fit h ≡ true → hold_from h s ≡ hold_from h (leads ks)
+  hold_chars : (h : Option Held) → is_fit h ≡ true → hold_from h s ≡ hold_from h (leads ks)
   unfolding holds
   hold_chars h f = by_chars holds o h f
 

@@ -1,5 +1,6 @@
 -- `ends_in_refused_brace_run` reports the sum of its runs' lookaheads, which is at most the text's length.
 -- Assumes nothing.
+use Rattle.std.specs.Prelude.{Err, Ok, Result}
 use mathlib.Core.Path.{◌≡◌, refl, ap, ◌∙◌}
 use mathlib.Core.Bool.{Bool, true, false, cond}
 use mathlib.Core.List.{List, [], ◌∷◌, map}
@@ -8,8 +9,6 @@ use native.Mathlib.Omega.{arith}
 use lib.Dec.{eqb}
 use lib.ListN.{length, take}
 use Rattle.base_lists.specs.Lists.{is_in, over}
-use Rattle.base_refusals.specs.declared.Outcome as outcomes
-use Rattle.base_refusals.specs.declared.Outcome.TheVariants as outcome
 use Rattle.text_checks.specs.Check.{check_of}
 use Rattle.text_checks.proofs.Texts.{text-passes}
 use Rattle.text_lines.specs.Lines.{lines}
@@ -17,25 +16,25 @@ use Rattle.run_lines.specs.Runs.{as_is, sizes}
 use Rattle.run_lines.proofs.Bounds.{sizes-lines}
 use Rattle.run_spots.specs.Spots.{closes_comment}
 use Rattle.run_refused.specs.declared.RunReply.{RunReply}
-use Rattle.run_refused.specs.declared.RunReply.TheVariants.{No, Lines, NoEnd, Refused}
+use Rattle.run_refused.specs.declared.RunReply.TheVariants.{No, Lines, NoEnd}
 use Rattle.run_refused.specs.Refused.{RunTold, refused_of}
-use Rattle.run_endings.specs.declared.Ends.TheVariants as end
 use Rattle.run_endings.specs.Endings.{Ended, settled, openings, last_of, tries, told_by, tried_in, ends_of, ends_by, ends_in}
 use Rattle.run_endings.specs.Inner.{Back, back_from, ended_by}
 use Rattle.run_endings.proofs.Openings.{ended_same}
 use Rattle.run_endings.proofs.Bounds.{Fair, fair, spent_le}
 use Rattle.proved_runs.specs.Lookaheads.{is_last_run, runs_made, lookaheads, RunsSum, SumBound}
+use Rattle.base_refusals.specs.declared.Refusal.{Refusal}
 
 -- ---- the sum
 
 -- what comes behind a run counts only where that run isn't the last one
-behind-ahead : (a : RunReply) (count : ℕ) (buf : List ℕ) (next : Ended) → (told_by a count buf next).lookahead ≡ cond (is_last_run a count) 0 next.lookahead
-behind-ahead (Refused r) count buf next = refl
-behind-ahead (No n) count buf next = refl
-behind-ahead NoEnd count buf next = refl
-behind-ahead (Lines n) count buf next = go (eqb n count)
+behind-ahead : (a : Result RunReply Refusal) (count : ℕ) (buf : List ℕ) (next : Ended) → (told_by a count buf next).lookahead ≡ cond (is_last_run a count) 0 next.lookahead
+behind-ahead (Err r) count buf next = refl
+behind-ahead (Ok (No n)) count buf next = refl
+behind-ahead (Ok NoEnd) count buf next = refl
+behind-ahead (Ok (Lines n)) count buf next = go (eqb n count)
   where
-    go : (b : Bool) → (cond b (settled end.Yes buf) next).lookahead ≡ cond b 0 next.lookahead
+    go : (b : Bool) → (cond b (settled (Ok true) buf) next).lookahead ≡ cond b 0 next.lookahead
     go true = refl
     go false = refl
 
@@ -76,6 +75,6 @@ sum_of_runs buf t = go (check_of t)
     searched true = rw (← ended_same c buf (lines t)) (omega (arith, ended_le (lines t) (back_from c buf (lines t)) (fair c buf (lines t)), sizes-lines t))
     searched false = zero-le
 
-    go : (x : outcomes.Outcome) → (ends_by buf t x).lookahead ≤ length t
-    go (outcome.Refused r) = zero-le
-    go outcome.Passed = searched (is_in (last_of (lines t)) 125)
+    go : (x : Result (Unit {0}) Refusal) → (ends_by buf t x).lookahead ≤ length t
+    go (Err r) = zero-le
+    go (Ok _) = searched (is_in (last_of (lines t)) 125)

@@ -1,5 +1,6 @@
 -- The text of a run is the trimmed lines joined by one space, and its lookahead the sum of their untrimmed lengths: as they stand, and from padded copies.
 -- Assumes nothing.
+use Rattle.std.specs.Prelude.{Err, None, Ok, Option, Result, Some}
 use mathlib.Core.Path.{◌≡◌, refl, sym, ◌∙◌, ap}
 use mathlib.Core.Bool.{Bool, true, false, cond}
 use mathlib.Core.List.{List, [], ◌∷◌, ◌++◌, map, append-nil, append_assoc}
@@ -11,15 +12,11 @@ use lib.Dec.{ltb}
 use lib.ListN.{length, take, drop}
 use lib.Seq.{drop-nil}
 use Rattle.base_bytes.specs.Bytes.{is_space}
-use Rattle.base_refusals.specs.declared.Outcome as outcomes
-use Rattle.base_refusals.specs.declared.Outcome.TheVariants as outcome
 use Rattle.base_refusals.specs.declared.Refusal.TheVariants.{NoReading, JoinFull}
 use Rattle.block_payloads.specs.Payloads.{opens}
 use Rattle.text_checks.specs.Check.{check_of}
 use Rattle.text_lines.specs.Trim.{trim, trim_start}
 use Rattle.text_lines.specs.Lines.{lines, line_from, line_of}
-use Rattle.text_lines.specs.declared.Line as places
-use Rattle.text_lines.specs.declared.Line.TheVariants as place
 use Rattle.text_lines.proofs.Lines.{to_from, to_next, line_at_lem, lines_end}
 use Rattle.text_tabs.specs.Columns.{indent_columns}
 use Rattle.run_lines.specs.Runs.{as_is, start, Run, ended, run_from, run_of, run_at, sizes, past_lines}
@@ -32,6 +29,8 @@ use Rattle.run_refused.specs.Refused.{Stretch, onto_stretch, walk_line, On, halt
 use Rattle.run_refused.specs.Inner.{lines_taken}
 use Rattle.proved_runs.specs.Lookaheads.{each_spaced, one_spaced, untrimmed, JoinedFirst, RunJoins, RefusedJoins, RefusedRunJoins}
 use Rattle.proved_runs.proofs.Texts.{line_start}
+use Rattle.base_refusals.specs.declared.Refusal.{Refusal}
+use Rattle.text_lines.specs.declared.Range.{Range}
 
 -- ---- a run over any lines
 
@@ -55,7 +54,7 @@ unfolding one_spaced each_spaced
 joined_none true = refl
 joined_none false = refl
 
-none : (x : outcomes.Outcome) (so : So) (ls : List Lined) → Took so ls (ended x so)
+none : (x : Result (Unit {0}) Refusal) (so : So) (ls : List Lined) → Took so ls (ended x so)
 unfolding sizes
 none x so ls =
     record {
@@ -89,7 +88,7 @@ took_more so l ls R w =
     }
 
 took : (cap : ℕ) (so : So) (ls : List Lined) → Took so ls (run_from cap so ls)
-took cap = run_by_lem cap Took (none (outcome.Refused NoReading)) (λ so l ls h. none (outcome.Refused JoinFull) so (l ∷ ls)) (none outcome.Passed) (λ so l ls R p h w. took_more so l ls R w)
+took cap = run_by_lem cap Took (none (Err NoReading)) (λ so l ls h. none (Err JoinFull) so (l ∷ ls)) (none (Ok tt)) (λ so l ls R p h w. took_more so l ls R w)
 
 -- ---- lines with pads that are copies of the first of some lines
 
@@ -224,7 +223,7 @@ refused_joins cap (l ∷ ls) = go (opens l) (opens_comment l)
     f : Stretch
     f = walk_from (indent_columns l) (on_first (indent_columns l)) (l ∷ ls)
 
-    go : (x y : Bool) → Told (l ∷ ls) (cond x (cond y (unjoined (comment_from (indent_columns l) 0 false (l ∷ ls))) (found_in cap f)) (unjoined (No 0)))
+    go : (x y : Bool) → Told (l ∷ ls) (cond x (cond y (unjoined (comment_from (indent_columns l) 0 false (l ∷ ls))) (found_in cap f)) (unjoined (Ok (No 0))))
     go false y = (0, nothing-joined (l ∷ ls))
     go true true = (0, nothing-joined (l ∷ ls))
     go true false = found-joined cap (l ∷ ls) f (walk_copies (indent_columns l) (on_first (indent_columns l)) (l ∷ ls))
@@ -245,9 +244,9 @@ pub refused_run_joins : RefusedRunJoins
 unfolding refused_run
 refused_run_joins cap t n = go (check_of t) (line_of n t) refl
   where
-    go : (c : outcomes.Outcome) (p : places.Line) → line_of n t ≡ p → Told (drop (n - 1) (lines t)) (refused_by cap t c p)
-    go (outcome.Refused r) p e = (0, nothing-joined (drop (n - 1) (lines t)))
-    go outcome.Passed place.Missing e = (0, nothing-joined (drop (n - 1) (lines t)))
-    go outcome.Passed (place.At r) e =
+    go : (c : Result (Unit {0}) Refusal) (p : Option Range) → line_of n t ≡ p → Told (drop (n - 1) (lines t)) (refused_by cap t c p)
+    go (Err r) p e = (0, nothing-joined (drop (n - 1) (lines t)))
+    go (Ok _) None e = (0, nothing-joined (drop (n - 1) (lines t)))
+    go (Ok tt) (Some r) e =
         let z : lines (drop r.from t) ≡ drop (n - 1) (lines t) = rw (line_start n t r e) (past_lines_lem (n - 1) t 0) in
         rw (← z) (refused_joins cap (lines (drop r.from t)))

@@ -1,5 +1,6 @@
 -- A line's pad stands for so many spaces before its bytes: a run over padded copies is the run over lines with pads.
 -- Assumes nothing.
+use Rattle.std.specs.Prelude.{Err, None, Ok}
 use mathlib.Core.Path.{◌≡◌, refl, ◌∙◌, ap}
 use mathlib.Core.Bool.{Bool, cond, not, ◌&&◌}
 use mathlib.Core.List.{List, [], ◌∷◌, map}
@@ -14,8 +15,6 @@ use Rattle.text_lines.specs.Trim.{trim, trim_start, is_blank_line}
 use Rattle.text_tabs.specs.Columns.{column_after, indent_from}
 use Rattle.block_grammar.specs.Close.{turned}
 use Rattle.run_scanners.specs.Scanners.{passed, seek_step, seek_from, last_open_brace, holds_open}
-use Rattle.block_grammar.specs.declared.Quote.TheVariants.{Out}
-use Rattle.base_refusals.specs.declared.Outcome.TheVariants.{Passed, Refused}
 use Rattle.base_refusals.specs.declared.Refusal.TheVariants.{NoReading, JoinFull}
 use Rattle.run_lines.specs.Runs.{Run, ended, run_from}
 use Rattle.run_joins.specs.Joins.{Lined, So, passes, may_join, after}
@@ -36,10 +35,10 @@ unfolding indent_from column_after is_indent is_tail is_in within
 pad_indent zero c l = rw zero-add
 pad_indent (suc n) c l = let z : n + suc c ≡ suc n + c = omega arith in pad_indent n (suc c) l ∙ ap (λ k. indent_from k l) z
 
-pad_brace : (n c : ℕ) (l : List ℕ) → last_open_brace Out c (spaces n l) ≡ last_open_brace Out (n + c) l
+pad_brace : (n c : ℕ) (l : List ℕ) → last_open_brace None c (spaces n l) ≡ last_open_brace None (n + c) l
 unfolding last_open_brace seek_from seek_step passed turned column_after is_tail is_quote is_in within
 pad_brace zero c l = rw zero-add
-pad_brace (suc n) c l = let z : n + suc c ≡ suc n + c = omega arith in pad_brace n (suc c) l ∙ ap (λ k. last_open_brace Out k l) z
+pad_brace (suc n) c l = let z : n + suc c ≡ suc n + c = omega arith in pad_brace n (suc c) l ∙ ap (λ k. last_open_brace None k l) z
 
 copied_joins : (so : So) (l : Lined) → may_join so (copied l) ≡ may_join so l
 unfolding passes is_blank_line
@@ -51,8 +50,8 @@ copied-after so l = rw (pad_trim l.pad l.line, pad_brace l.pad 0 l.line, add-zer
 -- the run by the line's tests, whether it holds a `}`, the run behind it, and what comes then
 abbrev chosen : ℕ → So → Bool → Bool → So → Run → Run
 chosen cap so x m a rest =
-    cond x (cond (ltb cap (length a.text)) (ended (Refused JoinFull) so) (cond (m && not (holds_open a.text)) (ended Passed a) rest))
-    (ended (Refused NoReading) so)
+    cond x (cond (ltb cap (length a.text)) (ended (Err JoinFull) so) (cond (m && not (holds_open a.text)) (ended (Ok tt) a) rest))
+    (ended (Err NoReading) so)
 
 pub padded : PadsAsNumbers
 unfolding run_from

@@ -1,5 +1,6 @@
 -- The joined text of UTF-8 lines is UTF-8 and holds no LF; and where the line of a number begins.
 -- Assumes nothing.
+use Rattle.std.specs.Prelude.{None, Option, Some}
 use mathlib.Core.Path.{◌≡◌, refl, sym, ◌∙◌, ap}
 use mathlib.Core.Bool.{Bool, true, false, cond, not}
 use mathlib.Core.List.{List, [], ◌∷◌, ◌++◌, map}
@@ -22,8 +23,6 @@ use Rattle.proved_texts.proofs.Utf8Boundaries.{parts, before_ascii, after_ascii}
 use Rattle.text_lines.specs.Trim.{trim, trim_start, trim_end}
 use Rattle.text_lines.specs.Lines.{onto, is_dropped, lines, eol, first_of, line_from, ranges_from, ranges, pick, line_of}
 use Rattle.text_lines.specs.declared.Range.{Range}
-use Rattle.text_lines.specs.declared.Line.{Line}
-use Rattle.text_lines.specs.declared.Line.TheVariants.{Missing, At}
 use Rattle.text_lines.proofs.Lines.{ranges_end, ranges_at, line_found, lines_end}
 use Rattle.text_lines.proofs.Trim.{trim_start_lem, trim_end-take}
 use Rattle.text_lines.proofs.First.{rest_of, first_le, first_take, first_whole, first_cut}
@@ -196,28 +195,28 @@ past_well (suc n) t at e = past_well n t (line_from t at).next (next_well t at e
 
 -- ---- a line by its number
 
-abbrev start_of : Line → ℕ
-start_of Missing = 0
-start_of (At r) = r.from
+abbrev start_of : Option Range → ℕ
+start_of None = 0
+start_of (Some r) = r.from
 
-some_left : (n : ℕ) (t : List ℕ) (at : ℕ) (r : Range) → pick (suc n) (ranges_from at false at (drop at t)) ≡ At r → at < length t
+some_left : (n : ℕ) (t : List ℕ) (at : ℕ) (r : Range) → pick (suc n) (ranges_from at false at (drop at t)) ≡ Some r → at < length t
 unfolding pick
 some_left n t at r q = go (leb (length t) at) refl
   where
     go : (x : Bool) → leb (length t) at ≡ x → at < length t
     go true e =
-        let m : Missing ≡ At r = rw (ranges_end t at (leb-true (length t) at e)) at q in
+        let m : None ≡ Some r = rw (ranges_end t at (leb-true (length t) at e)) at q in
         let z : ◌≡◌ {A = ℕ} 0 1 = cc in
         absurd (omega arith)
     go false e = leb-false (length t) at e
 
-line_behind : (n : ℕ) (t : List ℕ) (at : ℕ) (r : Range) → pick (suc n) (ranges_from at false at (drop at t)) ≡ At r → r.from ≡ past_lines n t at
+line_behind : (n : ℕ) (t : List ℕ) (at : ℕ) (r : Range) → pick (suc n) (ranges_from at false at (drop at t)) ≡ Some r → r.from ≡ past_lines n t at
 unfolding pick past_lines
 line_behind zero t at r q = ap start_of (sym (rw (ranges_at t at (some_left 0 t at r q)) at q))
 line_behind (suc n) t at r q = line_behind n t (line_from t at).next r (rw (ranges_at t at (some_left (suc n) t at r q), eqb-suc-zero n) at q)
 
 -- line n begins behind n - 1 lines
-pub line_start : (n : ℕ) (t : List ℕ) (r : Range) → line_of n t ≡ At r → r.from ≡ past_lines (n - 1) t 0
+pub line_start : (n : ℕ) (t : List ℕ) (r : Range) → line_of n t ≡ Some r → r.from ≡ past_lines (n - 1) t 0
 unfolding line_of ranges
 line_start n t r q =
     let m : suc (n - 1) ≡ n = omega (arith, (line_found n t r q).some) in

@@ -1,12 +1,11 @@
 -- The joined text: "a wrapped run's set is of the second, the joined text".
-use Rattle.std.specs.Prelude.{ℕ, ◌-◌, ◌≤◌, ◌≡◌, true, false, not, List, eqb, length, drop}
+use Rattle.std.specs.Prelude.{ℕ, ◌-◌, ◌≤◌, ◌≡◌, true, false, not, List, eqb, length, drop, Some}
 use Rattle.base_lists.specs.Lists.{all}
 use Rattle.base_bytes.specs.Bytes.{lf}
 use Rattle.base_refusals.specs.Numbers.{outcome_no}
 use Rattle.text_utf8.specs.Computed.{is_utf8}
 use Rattle.text_lines.specs.Lines.{line_of, line_at}
 use Rattle.text_lines.specs.declared.Range.{Range}
-use Rattle.text_lines.specs.declared.Line.TheVariants.{At}
 use Rattle.block_payloads.specs.Payloads.{opens}
 use Rattle.run_lines.specs.Runs.{run_at}
 use Rattle.run_refused.specs.Refused.{refused_run}
@@ -19,7 +18,7 @@ JoinedUtf8 = (cap base : ℕ) (t : List ℕ) (at : ℕ) → is_utf8 (drop at t) 
 
 -- as it is from each line of a UTF-8 text on
 abbrev pub LineUtf8 : Type 0
-LineUtf8 = (n : ℕ) (t : List ℕ) (r : Range) → is_utf8 t ≡ true → line_of n t ≡ At r → is_utf8 (drop r.from t) ≡ true
+LineUtf8 = (n : ℕ) (t : List ℕ) (r : Range) → is_utf8 t ≡ true → line_of n t ≡ Some r → is_utf8 (drop r.from t) ≡ true
 
 -- and from each line of one on that opens with a brace, wherever it begins
 abbrev pub OpenUtf8 : Type 0

@@ -1,5 +1,5 @@
 -- What a run joins, and the lookahead that is reported with it.
-use Rattle.std.specs.Prelude.{ℕ, ◌+◌, ◌-◌, ◌≤◌, ◌≡◌, Bool, true, false, cond, List, [], ◌∷◌, ◌++◌, eqb, length, take, drop}
+use Rattle.std.specs.Prelude.{ℕ, ◌+◌, ◌-◌, ◌≤◌, ◌≡◌, Bool, true, false, cond, List, [], ◌∷◌, ◌++◌, eqb, length, take, drop, Err, Ok, Result}
 use Rattle.base_lists.specs.Lists.{over}
 use Rattle.base_bytes.specs.Bytes.{space}
 use Rattle.text_checks.specs.Check.{is_text}
@@ -7,9 +7,10 @@ use Rattle.text_lines.specs.Trim.{trim}
 use Rattle.text_lines.specs.Lines.{lines}
 use Rattle.run_lines.specs.Runs.{run_at}
 use Rattle.run_refused.specs.declared.RunReply.{RunReply}
-use Rattle.run_refused.specs.declared.RunReply.TheVariants.{No, Lines, NoEnd, Refused}
+use Rattle.run_refused.specs.declared.RunReply.TheVariants.{No, Lines, NoEnd}
 use Rattle.run_refused.specs.Refused.{RunTold, refused_of, refused_run}
 use Rattle.run_endings.specs.Endings.{openings, last_of, tries, ends_in}
+use Rattle.base_refusals.specs.declared.Refusal.{Refusal}
 
 -- ---- "trimmed lines joined by one space"
 
@@ -58,11 +59,11 @@ RefusedLookahead = (cap : ℕ) (t : List ℕ) (n : ℕ) → (refused_run cap t n
 -- ---- "`ends_in_refused_brace_run` reports its runs' sum"
 
 -- a run that is refused, or takes all lines, so many, is the last one
-abbrev pub is_last_run : RunReply → ℕ → Bool
-is_last_run (Refused r) count = true
-is_last_run (Lines n) count = eqb n count
-is_last_run (No n) count = false
-is_last_run NoEnd count = false
+abbrev pub is_last_run : Result RunReply Refusal → ℕ → Bool
+is_last_run (Err r) count = true
+is_last_run (Ok (Lines n)) count = eqb n count
+is_last_run (Ok (No n)) count = false
+is_last_run (Ok NoEnd) count = false
 
 -- the runs that are made over the lines of each try, with the join buffer that the first one finds
 unfoldable pub runs_made : List ℕ → List (List (List ℕ)) → List RunTold

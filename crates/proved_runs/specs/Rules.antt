@@ -1,9 +1,7 @@
 -- The last open brace by rules, bytes that stand nowhere outside quotes, and texts by characters.
-use Rattle.std.specs.Prelude.{◌≡◌, Bool, true, cond, not, ◌&&◌, List, [], ◌∷◌, ◌++◌, ℕ, eqb}
+use Rattle.std.specs.Prelude.{◌≡◌, Bool, true, cond, not, ◌&&◌, List, [], ◌∷◌, ◌++◌, ℕ, eqb, None, Option, Some}
 use Rattle.base_bytes.specs.Bytes.{is_tail, open_brace, space, tab}
 use Rattle.text_tabs.specs.Columns.{columns_from}
-use Rattle.block_grammar.specs.declared.Quote.{Quote}
-use Rattle.block_grammar.specs.declared.Quote.TheVariants.{Out, In}
 use Rattle.block_grammar.specs.declared.Scan.{Scan}
 use Rattle.block_grammar.specs.Close.{fresh}
 use Rattle.run_scanners.specs.Scanners.{passed, scan_from, ignored, is_bare}
@@ -35,6 +33,6 @@ leads ([] ∷ ks) = leads ks
 leads ((b ∷ k) ∷ ks) = b ∷ leads ks
 
 -- the quote is no byte that goes on a character
-abbrev pub is_sound : Quote → Bool
-is_sound Out = true
-is_sound (In k) = not (is_tail k)
+abbrev pub is_sound : Option ℕ → Bool
+is_sound None = true
+is_sound (Some k) = not (is_tail k)

@@ -1,6 +1,7 @@
 -- Reading at a brace without sizes, limits and UTF-8, with which canonical text is read back; the table of refusals is proved_reading/specs/Table.
 -- `read_at` answers what the rules of `AtBrace` say and nothing else: 3, 4, 5 or what is listed, each given exactly when document 01 gives it.
 -- Assumes nothing.
+use Rattle.std.specs.Prelude.{None, Option, Some}
 use mathlib.Core.Path.{◌≡◌, refl, ap, sym}
 use mathlib.Core.Bool.{Bool, true, false, cond}
 use mathlib.Core.List.{List}
@@ -13,8 +14,6 @@ use Rattle.block_grammar.specs.Grammar.{Placed, Payload, Reading}
 use Rattle.block_grammar.specs.Computed.{read_payload}
 use Rattle.block_grammar.specs.Meaning.{Entry}
 use Rattle.proved_grammar.specs.Meaning.{listed}
-use Rattle.block_grammar.specs.declared.Place.{Place}
-use Rattle.block_grammar.specs.declared.Place.TheVariants.{Nothing, At}
 use Rattle.block_grammar.specs.Close.{Closes}
 use Rattle.block_grammar.specs.ComputedClose.{find_close}
 use Rattle.block_grammar.proofs.Payload.{sound, complete}
@@ -42,18 +41,18 @@ abbrev pub answer : Reading → ℕ → Answer
 answer Reading.refused next = Answer.refused 5
 answer (Reading.items is) next = Answer.read (listed is) next
 
-abbrev pub read_to : Mode → List ℕ → ℕ → Place → Answer
-read_to m s from Nothing = Answer.refused 4
-read_to m s from (At e) = answer (read_payload m from (take (e - from) (drop from s))) (suc e)
+abbrev pub read_to : Mode → List ℕ → ℕ → Option ℕ → Answer
+read_to m s from None = Answer.refused 4
+read_to m s from (Some e) = answer (read_payload m from (take (e - from) (drop from s))) (suc e)
 
 unfoldable pub read_at : Mode → List ℕ → ℕ → Answer
 read_at m s i = cond (eqb (get_or s i 0) 123) (read_to m s (suc i) (find_close s (suc i))) (Answer.refused 3)
 
-find_none : (s : List ℕ) (at : ℕ) → find_close s at ≡ Nothing → (e : ℕ) → Closes (drop at s) at e → ⊥
+find_none : (s : List ℕ) (at : ℕ) → find_close s at ≡ None → (e : ℕ) → Closes (drop at s) at e → ⊥
 unfolding find_close
 find_none s at h e c = no_close (drop at s) at h c
 
-find_some : (s : List ℕ) (at : ℕ) {e : ℕ} → Closes (drop at s) at e → find_close s at ≡ At e
+find_some : (s : List ℕ) (at : ℕ) {e : ℕ} → Closes (drop at s) at e → find_close s at ≡ Some e
 unfolding find_close
 find_some s at c = close_complete c
 
@@ -66,9 +65,9 @@ by_rules m s i = go (eqb (get_or s i 0) 123) refl
     payload b c Reading.refused q = AtBrace.unread b c (no_reading m (suc i) c.inside q)
     payload b c (Reading.items is) q = AtBrace.read b c (sound m (suc i) c.inside is q)
 
-    close : get_or s i 0 ≡ 123 → (p : Place) → find_close s (suc i) ≡ p → AtBrace m s i (read_to m s (suc i) p)
-    close b Nothing q = AtBrace.unclosed b (find_none s (suc i) q)
-    close b (At e) q = let f = found s (suc i) e q in payload b f.closes (read_payload m (suc i) (take (e - suc i) (drop (suc i) s))) (ap (λ l. read_payload m (suc i) l) (sym f.payload))
+    close : get_or s i 0 ≡ 123 → (p : Option ℕ) → find_close s (suc i) ≡ p → AtBrace m s i (read_to m s (suc i) p)
+    close b None q = AtBrace.unclosed b (find_none s (suc i) q)
+    close b (Some e) q = let f = found s (suc i) e q in payload b f.closes (read_payload m (suc i) (take (e - suc i) (drop (suc i) s))) (ap (λ l. read_payload m (suc i) l) (sym f.payload))
 
     go : (x : Bool) → eqb (get_or s i 0) 123 ≡ x → AtBrace m s i (cond x (read_to m s (suc i) (find_close s (suc i))) (Answer.refused 3))
     go true p = close (eqb-true (get_or s i 0) 123 p) (find_close s (suc i)) refl
@@ -80,9 +79,9 @@ unfolding read_at
 only {m} {s} {i} (AtBrace.none n) = rw (ne_eqb (get_or s i 0) 123 n)
 only {m} {s} {i} (AtBrace.unclosed b n) = rw (eq-eqb (get_or s i 0) 123 b) (go (find_close s (suc i)) refl)
   where
-    go : (r : Place) → find_close s (suc i) ≡ r → read_to m s (suc i) r ≡ Answer.refused 4
-    go Nothing q = refl
-    go (At e) q = absurd (n e (found s (suc i) e q).closes)
+    go : (r : Option ℕ) → find_close s (suc i) ≡ r → read_to m s (suc i) r ≡ Answer.refused 4
+    go None q = refl
+    go (Some e) q = absurd (n e (found s (suc i) e q).closes)
 only {m} {s} {i} (AtBrace.unread {e = e} b c n) = rw (eq-eqb (get_or s i 0) 123 b, find_some s (suc i) c, payload_is s (suc i) c) (go (read_payload m (suc i) c.inside) refl)
   where
     go : (r : Reading) → read_payload m (suc i) c.inside ≡ r → answer r (suc e) ≡ Answer.refused 5

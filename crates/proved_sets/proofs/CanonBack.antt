@@ -1,6 +1,7 @@
 -- The canonical text of a well-formed meaning, not empty, is read back to its last byte, and lists the same. So two such texts are equal only where the
 -- meanings are.
 -- Assumes nothing.
+use Rattle.std.specs.Prelude.{Some}
 use mathlib.Core.Path.{◌≡◌, refl, ap, sym, ◌∙◌}
 use mathlib.Core.Bool.{true, false}
 use mathlib.Core.List.{List, [], ◌∷◌, ◌++◌, flat_map}
@@ -18,7 +19,6 @@ use Rattle.block_grammar.specs.Grammar.{Item, Placed, IsToken}
 use Rattle.block_grammar.specs.Computed.{read_from, read_payload}
 use Rattle.block_grammar.specs.Meaning.{Entry, is_class}
 use Rattle.proved_grammar.specs.Meaning.{said, puts, entries_of, listed}
-use Rattle.block_grammar.specs.declared.Place.TheVariants.{At}
 use Rattle.block_grammar.specs.Close.{fresh, Covered, no_lf}
 use Rattle.block_grammar.specs.ComputedClose.{scan_step, close_from, find_close}
 use Rattle.block_grammar.proofs.Bytes.{key_parts}
@@ -120,7 +120,7 @@ unfolding more_text flat_map is_in
 passed_more Sures.none = passed_none
 passed_more (Sures.and h hs) = passed_byte 32 refl refl (passed-append (passed_pair h) (passed_more hs))
 
-closes : {s : List ℕ} → Passed s → (i : ℕ) → close_from (s ++ (125 ∷ [])) fresh i ≡ At (i + length s)
+closes : {s : List ℕ} → Passed s → (i : ℕ) → close_from (s ++ (125 ∷ [])) fresh i ≡ Some (i + length s)
 closes {s} p i = close_complete (record { inside = s; rest = []; whole = refl; place = refl; covered = p.covered; flat = p.flat })
 
 -- ======== the pairs of a well-formed meaning

@@ -1,5 +1,6 @@
 -- Number 8 was given by nothing: however a set is put together, it has a slot for the id, one for the classes and one for each key.
 -- Assumes nothing.
+use Rattle.std.specs.Prelude.{Err, Ok, Result}
 use mathlib.Core.Path.{◌≡◌, refl, sym, ◌∙◌}
 use mathlib.Core.Bool.{Bool, true, false, cond, ◌&&◌}
 use mathlib.Core.List.{List, [], ◌∷◌}
@@ -12,8 +13,6 @@ use borrow.Author.Tests.{ltb-false, le-ltb}
 use Rattle.base_lists.proofs.Scan.{both}
 use Rattle.base_refusals.specs.Numbers.{max_text, number_of, outcome_no}
 use Rattle.base_refusals.specs.declared.Refusal.TheVariants.{TextTooLong, TooManyClasses, TooManyKeys, NotWellFormed}
-use Rattle.base_refusals.specs.declared.Outcome.{Outcome}
-use Rattle.base_refusals.specs.declared.Outcome.TheVariants.{Passed, Refused}
 use Rattle.base_refusals.proofs.Numbers.{eight_unused}
 use Rattle.text_checks.specs.Check.{both_of}
 use Rattle.block_grammar.specs.Computed.{read_payload}
@@ -34,6 +33,7 @@ use Rattle.set_wellformed.proofs.Shape.{shaped}
 use Rattle.set_merge.specs.Merge.{puts_by, merged_by, merge_of}
 use Rattle.proved_sets.specs.HandedOut.{Throughout}
 use Rattle.proved_sets.specs.Eight.{first_no, FirstOrder, NeverEight, NeverGiven, SetsNeverGiven}
+use Rattle.base_refusals.specs.declared.Refusal.{Refusal}
 
 -- ---- the order with 8
 
@@ -42,7 +42,7 @@ unfolding limited number_of table_of
 first_order s = go (ltb max_classes (length s.classes)) (ltb max_keys (length s.keys))
   where
     R : Bool → Bool → Filled
-    R x y = cond x (refusing TooManyClasses) (cond y (refusing TooManyKeys) (record { outcome = Passed; set = table_of s }))
+    R x y = cond x (refusing TooManyClasses) (cond y (refusing TooManyKeys) (record { outcome = Ok tt; set = table_of s }))
 
     go : (x y : Bool) → first_no (outcome_no (R x y).outcome) (R x y).set ≡ cond x 6 (cond y 7 (cond (ltb max_slots (length s.order)) 8 0))
     go true y = refl
@@ -61,9 +61,9 @@ stays (suc n) a h = refl
 pub never_eight : (n : ℕ) (a : Attrs) → (n ≡ 8 → ⊥) → (n ≡ 0 → Few a) → NeverEight n a
 never_eight n a k h = let s = stays n a h in record { same = s; never = λ e. k (sym s ∙ e) }
 
-pub outcome_eight : (o : Outcome) → outcome_no o ≡ 8 → ⊥
-outcome_eight Passed e = absurd (omega arith)
-outcome_eight (Refused r) e = eight_unused r e
+pub outcome_eight : (o : Result (Unit {0}) Refusal) → outcome_no o ≡ 8 → ⊥
+outcome_eight (Ok _) e = absurd (omega arith)
+outcome_eight (Err r) e = eight_unused r e
 
 pub never_given : (f : Filled) → Few f.set → NeverGiven f
 never_given f h = never_eight (outcome_no f.outcome) f.set (outcome_eight f.outcome) (λ z. h)
@@ -80,7 +80,7 @@ limited_few : (s : Rows) → OneEach s → Few (limited s).set
 unfolding limited table_of
 limited_few s h = go (ltb max_classes (length s.classes)) (ltb max_keys (length s.keys)) refl
   where
-    go : (x y : Bool) → ltb max_keys (length s.keys) ≡ y → Few (cond x (refusing TooManyClasses) (cond y (refusing TooManyKeys) (record { outcome = Passed; set = table_of s }))).set
+    go : (x y : Bool) → ltb max_keys (length s.keys) ≡ y → Few (cond x (refusing TooManyClasses) (cond y (refusing TooManyKeys) (record { outcome = Ok tt; set = table_of s }))).set
     go true y k = omega arith
     go false true k = omega arith
     go false false k = slots h (ltb-false max_keys (length s.keys) k)
@@ -106,9 +106,9 @@ merge_few t a b = go (both_of t.first t.second)
     pair true e = limited_few S (each_puts t (puts_by (rows_in b)) (record { is = slots_length (shaped t a (both (table_ok t a) (table_ok t b) e).0) }))
     pair false e = omega arith
 
-    go : (c : Outcome) → Few (merged_by c t a b).set
-    go (Refused r) = omega arith
-    go Passed = pair (table_ok t a && table_ok t b) refl
+    go : (c : Result (Unit {0}) Refusal) → Few (merged_by c t a b).set
+    go (Err r) = omega arith
+    go (Ok _) = pair (table_ok t a && table_ok t b) refl
 
 pub few_slots : Throughout (λ f. Few f.set)
 unfolding fill_at filled_of chain_at

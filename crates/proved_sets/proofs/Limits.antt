@@ -1,5 +1,6 @@
 -- What the rules for texts and limits give is answered, and nothing else: of a text that is checked, and of rows within the limits or not.
 -- Assumes nothing.
+use Rattle.std.specs.Prelude.{Err, Ok, Result}
 use mathlib.Core.Path.{◌≡◌, refl, sym, ◌∙◌}
 use mathlib.Core.Bool.{Bool, true, false, cond}
 use mathlib.Core.List.{List, []}
@@ -12,8 +13,6 @@ use Rattle.base_lists.proofs.More.{contra}
 use Rattle.base_refusals.specs.Numbers.{max_text}
 use Rattle.base_refusals.specs.declared.Refusal.{Refusal}
 use Rattle.base_refusals.specs.declared.Refusal.TheVariants.{TextTooLong, NotUtf8}
-use Rattle.base_refusals.specs.declared.Outcome.{Outcome}
-use Rattle.base_refusals.specs.declared.Outcome.TheVariants.{Passed, Refused}
 use Rattle.text_utf8.specs.Computed.{is_utf8}
 use Rattle.proved_texts.specs.Utf8Rules.{WellFormed}
 use Rattle.text_checks.specs.Check.{check_of}
@@ -46,7 +45,7 @@ not_utf8 s n = go (is_utf8 s) refl
     go false e = refl
 
 -- ---- 1: f and g are what is answered once the length is known
-module _ (t : List ℕ) {G : Outcome → List Entry → Type 0} (f : Bool → Outcome) (g : Bool → List Entry) (e : (f true ≡ Refused TextTooLong) × (g true ≡ []))
+module _ (t : List ℕ) {G : Result (Unit {0}) Refusal → List Entry → Type 0} (f : Bool → Result (Unit {0}) Refusal) (g : Bool → List Entry) (e : (f true ≡ Err TextTooLong) × (g true ≡ []))
     (h : length t ≤ max_text → Exactly G (f false) (g false)) where
   size_only : Only (SizeGiven t G) (f (ltb max_text (length t))) (g (ltb max_text (length t)))
   size_only p u (SizeGiven.long l) = rw (lt-ltb max_text (length t) l) e
@@ -60,10 +59,10 @@ module _ (t : List ℕ) {G : Outcome → List Entry → Type 0} (f : Bool → Ou
       go false a = let l = ltb-false max_text (length t) a in exactly size_only (SizeGiven.short l (h l).given)
 
 -- ---- 1 and 2: f and g are what is answered once the text is checked
-module _ (t : List ℕ) {G : Outcome → List Entry → Type 0} (f : Outcome → Outcome) (g : Outcome → List Entry) (e : (r : Refusal) → (f (Refused r) ≡ Refused r) × (g (Refused r) ≡ []))
-    (h : length t ≤ max_text → WellFormed t → Exactly G (f Passed) (g Passed)) where
-  abbrev coded : Bool → Outcome
-  coded b = cond b Passed (Refused NotUtf8)
+module _ (t : List ℕ) {G : Result (Unit {0}) Refusal → List Entry → Type 0} (f : Result (Unit {0}) Refusal → Result (Unit {0}) Refusal) (g : Result (Unit {0}) Refusal → List Entry) (e : (r : Refusal) → (f (Err r) ≡ Err r) × (g (Err r) ≡ []))
+    (h : length t ≤ max_text → WellFormed t → Exactly G (f (Ok tt)) (g (Ok tt))) where
+  abbrev coded : Bool → Result (Unit {0}) Refusal
+  coded b = cond b (Ok tt) (Err NotUtf8)
 
   utf8_only : length t ≤ max_text → Only (Utf8Given t G) (f (coded (is_utf8 t))) (g (coded (is_utf8 t)))
   utf8_only l p u (Utf8Given.garbled n) = rw (not_utf8 t n) (e NotUtf8)
@@ -78,7 +77,7 @@ module _ (t : List ℕ) {G : Outcome → List Entry → Type 0} (f : Outcome →
 
   pub text_exactly : Exactly (SizeGiven t (Utf8Given t G)) (f (check_of t)) (g (check_of t))
   unfolding check_of
-  text_exactly = size_exactly t (λ b. f (cond b (Refused TextTooLong) (coded (is_utf8 t)))) (λ b. g (cond b (Refused TextTooLong) (coded (is_utf8 t)))) (e TextTooLong) utf8_exactly
+  text_exactly = size_exactly t (λ b. f (cond b (Err TextTooLong) (coded (is_utf8 t)))) (λ b. g (cond b (Err TextTooLong) (coded (is_utf8 t)))) (e TextTooLong) utf8_exactly
 
 -- ---- 6 and 7: rows that have as many classes and keys as es says
 module _ {t : Texts} {s : Rows} (h : Shaped t s) (es : List Entry) (c : length s.classes ≡ class_count es) (k : length s.keys ≡ key_count es) {m : List Entry} (e : classes_once (meant t s) ≡ m) where

@@ -1,5 +1,6 @@
 -- What the set of a payload means, and that of a line: the meanings of its blocks, merged left to right.
 -- Assumes nothing.
+use Rattle.std.specs.Prelude.{Ok}
 use mathlib.Core.Path.{◌≡◌, refl, ap, ◌∙◌}
 use mathlib.Core.Bool.{Bool, true, false, cond}
 use mathlib.Core.List.{List}
@@ -26,19 +27,18 @@ use Rattle.proved_sets.specs.Read.{FillLists, LineLists, FillMeans, LineMeans}
 use Rattle.proved_sets.proofs.TableWhole.{table_lists}
 use Rattle.set_table.specs.declared.Filled.{Filled}
 use Rattle.set_table.specs.Filled.{refusing, limited}
-use Rattle.base_refusals.specs.declared.Outcome.TheVariants.{Passed}
 use Rattle.set_fill.specs.Fill.{filled_by, filled_of, fill_at, chain_at}
 use Rattle.block_grammar.specs.Meaning.{classes_once}
 
 -- what is handed out is the table of the rows
-done : (s : Rows) → (limited s).outcome ≡ Passed → (limited s).set ≡ table_of s
+done : (s : Rows) → (limited s).outcome ≡ Ok tt → (limited s).set ≡ table_of s
 unfolding limited
 done s = go (ltb max_classes (length s.classes)) (ltb max_keys (length s.keys))
   where
     made : Filled
-    made = record { outcome = Passed; set = table_of s }
+    made = record { outcome = Ok tt; set = table_of s }
 
-    go : (x y : Bool) → (cond x (refusing TooManyClasses) (cond y (refusing TooManyKeys) made)).outcome ≡ Passed
+    go : (x y : Bool) → (cond x (refusing TooManyClasses) (cond y (refusing TooManyKeys) made)).outcome ≡ Ok tt
         → (cond x (refusing TooManyClasses) (cond y (refusing TooManyKeys) made)).set ≡ table_of s
     go true y e = contra true refl (cc)
     go false true e = contra true refl (cc)
@@ -46,13 +46,13 @@ done s = go (ltb max_classes (length s.classes)) (ltb max_keys (length s.keys))
 
 -- the set of a reading whose items stand in the text
 filled_lists : (t : List ℕ) (x : Bool) (r : Reading) {is : List Placed} → r ≡ Reading.items is → Standing t is
-    → (cond x (refusing TextTooLong) (filled_by (one t) r)).outcome ≡ Passed → listed_of (one t) (cond x (refusing TextTooLong) (filled_by (one t) r)).set ≡ listed is
+    → (cond x (refusing TextTooLong) (filled_by (one t) r)).outcome ≡ Ok tt → listed_of (one t) (cond x (refusing TextTooLong) (filled_by (one t) r)).set ≡ listed is
 filled_lists t x r {is} e h d = rw e (go x (rw e at d))
   where
     s : Rows
     s = with_puts (one t) no_rows (puts_in is)
 
-    go : (x : Bool) → (cond x (refusing TextTooLong) (limited s)).outcome ≡ Passed → listed_of (one t) (cond x (refusing TextTooLong) (limited s)).set ≡ listed is
+    go : (x : Bool) → (cond x (refusing TextTooLong) (limited s)).outcome ≡ Ok tt → listed_of (one t) (cond x (refusing TextTooLong) (limited s)).set ≡ listed is
     go true q = contra true refl (cc)
     go false q = ap (listed_of (one t)) (done s q) ∙ table_lists s (one t) ∙ rows_list h
 

@@ -1,6 +1,7 @@
 -- What a merge comes to: the set that it hands out lists the one put into the other, means that with each class once, and is well-formed; a set with nothing
 -- in it merges as nothing.
 -- Assumes nothing.
+use Rattle.std.specs.Prelude.{Err, Ok, Result}
 use mathlib.Core.Path.{◌≡◌, refl, ◌∙◌, ap, sym}
 use mathlib.Core.Bool.{Bool, true, false, cond}
 use mathlib.Core.List.{List, [], ◌∷◌, flat_map, ◌++◌}
@@ -11,11 +12,9 @@ use lib.ListN.{length, get_or}
 use borrow.Author.Tests.{ltb-false, le-ltb}
 use Rattle.base_lists.specs.Lists.{all, same}
 use Rattle.base_lists.proofs.Scan.{both}
+use Rattle.base_refusals.specs.Numbers.{passed}
 use Rattle.base_refusals.specs.declared.Refusal.{Refusal}
 use Rattle.text_checks.specs.Check.{both_of}
-use Rattle.base_refusals.specs.declared.Outcome.{Outcome}
-use Rattle.base_refusals.specs.declared.Outcome.TheVariants.{Passed, Refused}
-use Rattle.base_refusals.specs.declared.Outcome.TheVariants as outcome
 use Rattle.proved_sets.specs.Formed.{entry_ok, wf, HasNothing}
 use Rattle.block_grammar.specs.Meaning.{class_name, lookup, Entry, is_class, fresh_after, classes_once}
 use Rattle.proved_grammar.specs.Meaning.{puts, slot_names, distinct}
@@ -81,7 +80,7 @@ module _ (t : Texts) (a b : Attrs) where
 
   -- what a set handed out says of its making
   record Gave : Type 0 where
-    text : both_of t.first t.second ≡ Passed
+    text : both_of t.first t.second ≡ Ok tt
     first : table_ok t a ≡ true
     second : table_ok t b ≡ true
     classes : length whole.classes ≤ max_classes
@@ -107,9 +106,9 @@ module _ (t : Texts) (a b : Attrs) where
     whole_lists = puts-meant (shaped t a f) (puts_by (rows_in b)) allowed ∙ says (table_passed t b g) (meant t (rows_in a))
 
 abbrev Done : Filled → Type 0
-Done f = f.outcome ≡ outcome.Passed
+Done f = f.outcome ≡ Ok tt
 
-refuses : {A : Type 0} {r : Refusal} → outcome.Refused r ≡ outcome.Passed → A
+refuses : {A : Type 0} {r : Refusal} → Err r ≡ passed → A
 refuses e = let z : ◌≡◌ {A = ℕ} 0 1 = cc in absurd (omega arith)
 
 module _ (t : Texts) (a b : Attrs) where
@@ -117,14 +116,14 @@ module _ (t : Texts) (a b : Attrs) where
   unfolding merge_of limited
   gave = go (both_of t.first t.second) refl (table_ok t a) refl (table_ok t b) refl (ltb max_classes (length (whole t a b).classes)) refl (ltb max_keys (length (whole t a b).keys)) refl
     where
-      go : (c : Outcome) → both_of t.first t.second ≡ c → (x : Bool) → table_ok t a ≡ x → (y : Bool) → table_ok t b ≡ y
+      go : (c : Result (Unit {0}) Refusal) → both_of t.first t.second ≡ c → (x : Bool) → table_ok t a ≡ x → (y : Bool) → table_ok t b ≡ y
           → (p : Bool) → ltb max_classes (length (whole t a b).classes) ≡ p → (q : Bool) → ltb max_keys (length (whole t a b).keys) ≡ q → Done (merge_of t a b) → Gave t a b
-      go (Refused r) e x f y g p h q i d = refuses (rw e at d)
-      go Passed e false f y g p h q i d = refuses (rw (e, f) at d)
-      go Passed e true f false g p h q i d = refuses (rw (e, f, g) at d)
-      go Passed e true f true g true h q i d = refuses (rw (e, f, g, h) at d)
-      go Passed e true f true g false h true i d = refuses (rw (e, f, g, h, i) at d)
-      go Passed e true f true g false h false i d =
+      go (Err r) e x f y g p h q i d = refuses (rw e at d)
+      go (Ok _) e false f y g p h q i d = refuses (rw (e, f) at d)
+      go (Ok _) e true f false g p h q i d = refuses (rw (e, f, g) at d)
+      go (Ok _) e true f true g true h q i d = refuses (rw (e, f, g, h) at d)
+      go (Ok _) e true f true g false h true i d = refuses (rw (e, f, g, h, i) at d)
+      go (Ok tt) e true f true g false h false i d =
           let c = ltb-false max_classes (length (whole t a b).classes) h in
           let k = ltb-false max_keys (length (whole t a b).keys) i in
           record { text = e; first = f; second = g; classes = c; keys = k; is = rw (e, f, g, h, i) }
@@ -181,8 +180,8 @@ merge_gives t a b d =
     }
 
 -- ======== "An empty set is well-formed and merges as nothing."
-module _ (t : Texts) {e : Attrs} (n : HasNothing e) (a : Attrs) (p : both_of t.first t.second ≡ Passed) (h : table_ok t a ≡ true) where
-  merge_empty : merge_of t a e ≡ record { outcome = outcome.Passed; set = table_of (rows_in a) }
+module _ (t : Texts) {e : Attrs} (n : HasNothing e) (a : Attrs) (p : both_of t.first t.second ≡ Ok tt) (h : table_ok t a ≡ true) where
+  merge_empty : merge_of t a e ≡ record { outcome = Ok tt; set = table_of (rows_in a) }
   unfolding merge_of limited flat_map with_puts
   merge_empty =
       let s = rows_in a in

@@ -1,6 +1,7 @@
 -- A merge answers what the table's rules give, and nothing else: 1, 2, 11, 6 and 7 by the counts of what both list, or the one meaning put into the other,
 -- each class once.
 -- Assumes nothing.
+use Rattle.std.specs.Prelude.{Err, Ok}
 use mathlib.Core.Path.{◌≡◌, refl, sym, ◌∙◌, ap}
 use mathlib.Core.Bool.{Bool, true, false}
 use mathlib.Core.List.{List, [], ◌++◌}
@@ -8,8 +9,8 @@ use lib.ListN.{length}
 use Rattle.base_lists.specs.Lists.{all}
 use Rattle.base_lists.proofs.Scan.{both}
 use Rattle.base_lists.proofs.More.{contra}
+use Rattle.base_refusals.specs.Numbers.{refused}
 use Rattle.base_refusals.specs.declared.Refusal.{Refusal}
-use Rattle.base_refusals.specs.declared.Outcome.TheVariants.{Passed, Refused}
 use Rattle.text_checks.specs.Check.{check_of, is_text}
 use Rattle.text_checks.specs.Outcomes.{or_else}
 use Rattle.text_checks.proofs.CheckNumbers.{both_is}
@@ -60,25 +61,25 @@ module _ (t : Texts) (a b : Attrs) (x : is_text t.first ≡ true) (y : is_text t
   formed_is c = formed_whole t c x y
 
   merged_limits : (f : table_ok t a ≡ true) (g : table_ok t b ≡ true)
-      → Exactly (LimitGiven (listed_of t a ++ listed_of t b) (joined_meaning (meaning_of t a) (meaning_of t b))) (merged_by Passed t a b).outcome (meaning_of t (merged_by Passed t a b).set)
+      → Exactly (LimitGiven (listed_of t a ++ listed_of t b) (joined_meaning (meaning_of t a) (meaning_of t b))) (merged_by (Ok tt) t a b).outcome (meaning_of t (merged_by (Ok tt) t a b).set)
   unfolding meaning_of joined_meaning
   merged_limits f g =
       let m : classes_once (meant t (whole t a b)) ≡ _ = ap classes_once (whole_lists t a b f g) ∙ sym (puts_once (listed_of t a) (listed_of t b)) in
       rw (f, g) (limit_exactly (whole_shaped t a b f g) (listed_of t a ++ listed_of t b) (class_both t a b f g) (key_both t a b f g) m)
 
-  merged_only : Only (MergeGiven t a b) (merged_by Passed t a b).outcome (meaning_of t (merged_by Passed t a b).set)
+  merged_only : Only (MergeGiven t a b) (merged_by (Ok tt) t a b).outcome (meaning_of t (merged_by (Ok tt) t a b).set)
   merged_only p u (MergeGiven.malformed n) = go (table_ok t a) refl (table_ok t b) refl
     where
-      go : (v : Bool) → table_ok t a ≡ v → (w : Bool) → table_ok t b ≡ w → ((merged_by Passed t a b).outcome ≡ p) × (meaning_of t (merged_by Passed t a b).set ≡ u)
+      go : (v : Bool) → table_ok t a ≡ v → (w : Bool) → table_ok t b ≡ w → ((merged_by (Ok tt) t a b).outcome ≡ p) × (meaning_of t (merged_by (Ok tt) t a b).set ≡ u)
       go true f true g = absurd (n (formed_is a ∙ f) (formed_is b ∙ g))
       go true f false g = rw (f, g) (refl, empty_means t)
       go false f w g = rw f (refl, empty_means t)
   merged_only p u (MergeGiven.formed f g l) = (merged_limits (sym (formed_is a) ∙ f) (sym (formed_is b) ∙ g)).only p u l
 
-  merged_exactly : Exactly (MergeGiven t a b) (merged_by Passed t a b).outcome (meaning_of t (merged_by Passed t a b).set)
+  merged_exactly : Exactly (MergeGiven t a b) (merged_by (Ok tt) t a b).outcome (meaning_of t (merged_by (Ok tt) t a b).set)
   merged_exactly = go (table_ok t a) refl (table_ok t b) refl
     where
-      go : (v : Bool) → table_ok t a ≡ v → (w : Bool) → table_ok t b ≡ w → Exactly (MergeGiven t a b) (merged_by Passed t a b).outcome (meaning_of t (merged_by Passed t a b).set)
+      go : (v : Bool) → table_ok t a ≡ v → (w : Bool) → table_ok t b ≡ w → Exactly (MergeGiven t a b) (merged_by (Ok tt) t a b).outcome (meaning_of t (merged_by (Ok tt) t a b).set)
       go true f true g = exactly merged_only (MergeGiven.formed (formed_is a ∙ f) (formed_is b ∙ g) (merged_limits f g).given)
       go true f false g = exactly merged_only (MergeGiven.malformed (λ i j. contra (well_formed t b) j (formed_is b ∙ g)))
       go false f w g = exactly merged_only (MergeGiven.malformed (λ i j. contra (well_formed t a) i (formed_is a ∙ f)))
@@ -91,5 +92,5 @@ merge_by_rules t a b =
     (λ l w. text_exactly t.second (λ c. (merged_by c t a b).outcome) (λ c. meaning_of t (merged_by c t a b).set) none
     (λ k v. merged_exactly t a b (is_text_lem t.first l (utf8.complete w)) (is_text_lem t.second k (utf8.complete v)))))
   where
-    none : (r : Refusal) → (Refused r ≡ Refused r) × (meaning_of t empty_set ≡ [])
+    none : (r : Refusal) → (refused r ≡ Err r) × (meaning_of t empty_set ≡ [])
     none r = (refl, empty_means t)

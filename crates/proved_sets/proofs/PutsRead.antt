@@ -1,5 +1,6 @@
 -- What was read is good to put: of a payload that stands between boundaries, at a brace or in a block of a line.
 -- Assumes nothing.
+use Rattle.std.specs.Prelude.{Some}
 use mathlib.Core.Path.{◌≡◌}
 use mathlib.Core.Bool.{true}
 use mathlib.Core.List.{List, [], ◌∷◌, ◌++◌}
@@ -18,7 +19,6 @@ use Rattle.block_grammar.specs.Grammar.{Placed, Reading}
 use Rattle.block_grammar.specs.Computed.{read_payload}
 use Rattle.block_grammar.specs.Close.{no_lf}
 use Rattle.block_grammar.specs.ComputedClose.{find_close}
-use Rattle.block_grammar.specs.declared.Place.TheVariants.{At}
 use Rattle.block_grammar.proofs.Payload.{sound}
 use Rattle.block_grammar.proofs.Close.{found}
 use Rattle.set_table.specs.Types.{one}
@@ -34,14 +34,14 @@ module _ (w : List ℕ) where
 
   -- ---- where a block stands
   -- the payload between the brace at i and its close at e
-  pub brace_part : (i e : ℕ) → is_utf8 w ≡ true → i < length w → get_or w i 0 ≡ 123 → find_close w (suc i) ≡ At e → Part w (suc i) (slice (suc i) e w) (drop e w)
+  pub brace_part : (i e : ℕ) → is_utf8 w ≡ true → i < length w → get_or w i 0 ≡ 123 → find_close w (suc i) ≡ Some e → Part w (suc i) (slice (suc i) e w) (drop e w)
   brace_part i e u l b h =
       let z = found w (suc i) e h in
       let start : is_boundary w (suc i) ≡ true = rw add-one at (after_ascii w i l (omega arith) u) in
       let end : is_boundary w e ≡ true = before_ascii w e z.to (omega (arith, z.brace)) in
       cut_out w (suc i) e u z.from start end
 
-  pub brace_flat : (i e : ℕ) → find_close w (suc i) ≡ At e → no_lf (slice (suc i) e w) ≡ true
+  pub brace_flat : (i e : ℕ) → find_close w (suc i) ≡ Some e → no_lf (slice (suc i) e w) ≡ true
   brace_flat i e h = let z = found w (suc i) e h in rw (slice_part (suc i) e w, z.payload) z.closes.flat
 
   -- a block at `at`, with s behind it: its payload, and s

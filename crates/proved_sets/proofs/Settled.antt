@@ -1,5 +1,6 @@
 -- What `fill`, `fill_chain` and `merge_attrs` answer is a refusal with the empty set, or the table of the rows that were put together.
 -- Assumes nothing.
+use Rattle.std.specs.Prelude.{Err, Ok, Result}
 use mathlib.Core.Bool.{Bool, true, false, cond, ◌&&◌}
 use mathlib.Core.List.{List}
 use Prim.Native.Nat.{ℕ}
@@ -16,11 +17,9 @@ use Rattle.base_refusals.specs.declared.Refusal.TheVariants.{TextTooLong, NoRead
 use Rattle.set_table.specs.Types.{Texts, one, max_classes, max_keys}
 use Rattle.set_table.specs.Rows.{Rows, no_rows, with_puts, rows_in}
 use Rattle.set_table.specs.Puts.{puts_in}
-use Rattle.base_refusals.specs.declared.Outcome.TheVariants.{Passed, Refused}
 use Rattle.set_table.specs.declared.Filled.{Filled}
 use Rattle.set_table.specs.Filled.{refusing, limited}
 use Rattle.set_fill.specs.Fill.{filled_by, filled_of, fill_at, chain_at}
-use Rattle.base_refusals.specs.declared.Outcome.{Outcome}
 use Rattle.text_checks.specs.Check.{both_of}
 use Rattle.set_table.specs.declared.Attrs.{Attrs}
 use Rattle.set_wellformed.specs.WellFormed.{table_ok}
@@ -57,9 +56,9 @@ pub merge_settled : (t : Texts) (a b : Attrs) → Settled (merge_of t a b)
 unfolding merge_of
 merge_settled t a b = go (both_of t.first t.second)
   where
-    go : (c : Outcome) → Settled (merged_by c t a b)
-    go (Refused r) = Settled.refused r
-    go Passed = either (table_ok t a && table_ok t b) (limited-settled (with_puts t (rows_in a) (puts_by (rows_in b)))) (Settled.refused NotWellFormed)
+    go : (c : Result (Unit {0}) Refusal) → Settled (merged_by c t a b)
+    go (Err r) = Settled.refused r
+    go (Ok _) = either (table_ok t a && table_ok t b) (limited-settled (with_puts t (rows_in a) (puts_by (rows_in b)))) (Settled.refused NotWellFormed)
 
 pub refusals_empty : RefusalsEmpty
 refusals_empty = record { fill = fill_settled; chain = chain_settled; merge = merge_settled }

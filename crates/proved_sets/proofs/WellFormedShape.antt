@@ -1,5 +1,6 @@
 -- What `well_formed` decides: rows that pass its tests are shaped as those that are put together, and shaped rows pass the tests that aren't of one row alone.
 -- Assumes nothing.
+use Rattle.std.specs.Prelude.{Err, Ok, Result}
 use Prim.Native.Nat.{ℕ, zero, suc, ◌<◌}
 use mathlib.Core.Path.{◌≡◌, refl, sym, ◌∙◌}
 use mathlib.Core.Bool.{Bool, true, false, cond, ◌&&◌}
@@ -10,8 +11,6 @@ use lib.ListN.{length}
 use borrow.Author.Tests.{leb-true, eq-eqb}
 use Rattle.base_lists.proofs.Scan.{both}
 use Rattle.base_lists.proofs.More.{contra}
-use Rattle.base_refusals.specs.declared.Outcome.{Outcome}
-use Rattle.base_refusals.specs.declared.Outcome.TheVariants as outcome
 use Rattle.text_checks.specs.Check.{is_text, check_of, both_of}
 use Rattle.text_checks.specs.Outcomes.{or_else}
 use Rattle.text_checks.proofs.CheckNumbers.{both_is}
@@ -31,6 +30,7 @@ use Rattle.set_wellformed.specs.WellFormed.{counts_ok, keys_apart, is_once, keys
 use Rattle.set_wellformed.proofs.Decide.{differ_apart, counts}
 use Rattle.set_wellformed.proofs.Shape.{Keyed, Passed, passed_shaped, rows_passed}
 use Rattle.set_values.specs.Values.{class_ok, key_ok}
+use Rattle.base_refusals.specs.declared.Refusal.{Refusal}
 
 module _ (s : Rows) where
   once_keys : ((x : Slot) → is_once s x ≡ true) → (n : ℕ) → keys_once s n ≡ true
@@ -126,12 +126,12 @@ decides t a = (λ e. formed (formed_parts t a e), λ h. whole h)
 
 -- the check of both passes where each is a text
 module _ (t : Texts) where
-  pub both_pass : is_text t.first ≡ true → is_text t.second ≡ true → both_of t.first t.second ≡ outcome.Passed
+  pub both_pass : is_text t.first ≡ true → is_text t.second ≡ true → both_of t.first t.second ≡ Ok tt
   both_pass x y = sym (both_is t.first t.second) ∙ (rw (text-passes t.first x, text-passes t.second y))
 
-  pub both_texts : both_of t.first t.second ≡ outcome.Passed → (is_text t.first ≡ true) × (is_text t.second ≡ true)
+  pub both_texts : both_of t.first t.second ≡ Ok tt → (is_text t.first ≡ true) × (is_text t.second ≡ true)
   both_texts e = go (check_of t.first) refl (both_is t.first t.second ∙ e)
     where
-      go : (c : Outcome) → check_of t.first ≡ c → or_else c (check_of t.second) ≡ outcome.Passed → (is_text t.first ≡ true) × (is_text t.second ≡ true)
-      go outcome.Passed q e = (sym (passed t.first refl q), sym (passed t.second refl e))
-      go (outcome.Refused r) q e = contra true refl (cc)
+      go : (c : Result (Unit {0}) Refusal) → check_of t.first ≡ c → or_else c (check_of t.second) ≡ Ok tt → (is_text t.first ≡ true) × (is_text t.second ≡ true)
+      go (Ok _) q e = (sym (passed t.first refl q), sym (passed t.second refl e))
+      go (Err r) q e = contra true refl (cc)

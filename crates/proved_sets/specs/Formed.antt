@@ -1,7 +1,6 @@
 -- Which tables are well-formed, and what that says of their meaning.
-use Rattle.std.specs.Prelude.{◌≡◌, Bool, true, false, cond, not, ◌&&◌, List, [], ◌∷◌, ℕ, ◌≤◌, ◌<◌, length, get_or}
+use Rattle.std.specs.Prelude.{◌≡◌, Bool, true, false, cond, not, ◌&&◌, List, [], ◌∷◌, ℕ, ◌≤◌, ◌<◌, length, get_or, Ok}
 use Rattle.base_lists.specs.Lists.{all, is_some}
-use Rattle.base_refusals.specs.declared.Outcome.TheVariants.{Passed}
 use Rattle.text_utf8.specs.Computed.{is_utf8}
 use Rattle.text_checks.specs.Check.{check_of}
 use Rattle.text_names.specs.Names.{is_key}
@@ -20,8 +19,8 @@ use Rattle.set_wellformed.specs.WellFormed.{rows_ok, table_ok, well_formed}
 -- ---- what `well_formed` decides
 pub record Formed (t : Texts) (a : Attrs) : Type 0 where
   -- "Well-formed: the texts give neither 1 nor 2;" of either text: "merging, well-formedness and writing take both texts"
-  pub first : check_of t.first ≡ Passed
-  pub second : check_of t.second ≡ Passed
+  pub first : check_of t.first ≡ Ok tt
+  pub second : check_of t.second ≡ Ok tt
   -- "counts within the limits;"
   pub classes : a.nclass ≤ max_classes
   pub keys : a.nkey ≤ max_keys

@@ -1,8 +1,7 @@
 -- What holds of every set handed out by what fills a set or merges two, that of a refusal included.
-use Rattle.std.specs.Prelude.{◌≡◌, false, List, ℕ, ◌+◌, ◌≤◌, length, get_or}
+use Rattle.std.specs.Prelude.{◌≡◌, false, List, ℕ, ◌+◌, ◌≤◌, length, get_or, Err, Ok}
 use Rattle.base_bytes.specs.declared.Mode.{Mode}
 use Rattle.base_refusals.specs.declared.Refusal.{Refusal}
-use Rattle.base_refusals.specs.declared.Outcome.TheVariants.{Passed, Refused}
 use Rattle.set_table.specs.Types.{Texts, empty_set, zero_value, zero_row, zero_slot}
 use Rattle.set_table.specs.Rows.{Rows, table_of}
 use Rattle.set_table.specs.Shape.{Shaped}
@@ -19,8 +18,8 @@ pub record Throughout (P : Filled → Type 0) : Type 0 where
 
 -- "a refusal has its number, hands out no set" (demand 1): a refusal comes with the empty set, anything else with the table of some rows
 pub data Settled : Filled → Type 0 where
-  refused : (r : Refusal) → Settled (record { outcome = Refused r; set = empty_set })
-  done : (s : Rows) → Settled (record { outcome = Passed; set = table_of s })
+  refused : (r : Refusal) → Settled (record { outcome = Err r; set = empty_set })
+  done : (s : Rows) → Settled (record { outcome = Ok tt; set = table_of s })
 
 abbrev pub RefusalsEmpty : Type 0
 RefusalsEmpty = Throughout Settled

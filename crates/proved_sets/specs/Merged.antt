@@ -1,8 +1,6 @@
 -- What a merge of two sets comes to, over the two texts that their ranges are of.
-use Rattle.std.specs.Prelude.{◌≡◌, true, false, cond, List, [], ◌∷◌, ◌++◌, ℕ, ◌<◌, length, get_or}
+use Rattle.std.specs.Prelude.{◌≡◌, true, false, cond, List, [], ◌∷◌, ◌++◌, ℕ, ◌<◌, length, get_or, Err, Ok, Result}
 use Rattle.base_refusals.specs.declared.Refusal.TheVariants.{NotWellFormed}
-use Rattle.base_refusals.specs.declared.Outcome.{Outcome}
-use Rattle.base_refusals.specs.declared.Outcome.TheVariants.{Passed, Refused}
 use Rattle.block_grammar.specs.Meaning.{Entry, class_name, is_class, lookup, fresh_after}
 use Rattle.proved_grammar.specs.Meaning.{puts, slot_names, absent}
 use Rattle.proved_grammar.specs.Merged.{joined_meaning}
@@ -13,6 +11,7 @@ use Rattle.set_wellformed.specs.WellFormed.{well_formed}
 use Rattle.set_merge.specs.Merge.{merge_of}
 use Rattle.proved_sets.specs.Formed.{HasNothing}
 use Rattle.proved_sets.specs.Limits.{Exactly, TextsGiven, LimitGiven}
+use Rattle.base_refusals.specs.declared.Refusal.{Refusal}
 
 -- the names of the second meaning that the first hasn't, in their order
 unfoldable pub new_slots : List Entry → List Entry → List (List ℕ)
@@ -41,14 +40,14 @@ pub record MergedWell (t : Texts) (a b : Attrs) : Type 0 where
   pub formed : well_formed t (merge_of t a b).set ≡ true
 
 abbrev pub MergeGives : Type 0
-MergeGives = (t : Texts) (a b : Attrs) → (merge_of t a b).outcome ≡ Passed → MergedWell t a b
+MergeGives = (t : Texts) (a b : Attrs) → (merge_of t a b).outcome ≡ Ok tt → MergedWell t a b
 
 -- ---- "11 (either set, over both), 6, 7": where neither text gives 1 or 2
-pub data MergeGiven (t : Texts) (a b : Attrs) : Outcome → List Entry → Type 0 where
+pub data MergeGiven (t : Texts) (a b : Attrs) : Result (Unit {0}) Refusal → List Entry → Type 0 where
   -- 11: "table not well-formed over its texts"
-  malformed : (well_formed t a ≡ true → well_formed t b ≡ true → ⊥) → MergeGiven t a b (Refused NotWellFormed) []
+  malformed : (well_formed t a ≡ true → well_formed t b ≡ true → ⊥) → MergeGiven t a b (Err NotWellFormed) []
   -- 6 and 7, counted over what both list; else the one meaning put into the other
-  formed : {o : Outcome} {s : List Entry} → well_formed t a ≡ true → well_formed t b ≡ true
+  formed : {o : Result (Unit {0}) Refusal} {s : List Entry} → well_formed t a ≡ true → well_formed t b ≡ true
       → LimitGiven (listed_of t a ++ listed_of t b) (joined_meaning (meaning_of t a) (meaning_of t b)) o s → MergeGiven t a b o s
 
 abbrev pub MergeByRules : Type 0
@@ -57,9 +56,9 @@ MergeByRules = (t : Texts) (a b : Attrs) → Exactly (TextsGiven t (MergeGiven t
 -- ---- "An empty set is well-formed and merges as nothing."
 pub record AsNothing (t : Texts) (e a : Attrs) : Type 0 where
   -- merged into a set it leaves that as it is, but for rows past the counts, which are zero in what is handed out
-  pub behind : merge_of t a e ≡ record { outcome = Passed; set = table_of (rows_in a) }
+  pub behind : merge_of t a e ≡ record { outcome = Ok tt; set = table_of (rows_in a) }
   -- a set that is merged into it isn't refused, and keeps all that it lists
-  pub passes : (merge_of t e a).outcome ≡ Passed
+  pub passes : (merge_of t e a).outcome ≡ Ok tt
   pub keeps : listed_of t (merge_of t e a).set ≡ listed_of t a
 
 abbrev pub EmptyMerges : Type 0

@@ -1,10 +1,9 @@
 -- What a set lists and means that was filled from a payload or from a line of blocks.
-use Rattle.std.specs.Prelude.{◌≡◌, false, cond, List, [], ◌∷◌, ◌++◌, map, ℕ}
+use Rattle.std.specs.Prelude.{◌≡◌, false, cond, List, [], ◌∷◌, ◌++◌, map, ℕ, Ok}
 use Rattle.std.proofs.Math.Seq.{slice}
 use Rattle.block_grammar.specs.Meaning.{is_class, lookup, fresh_after}
 use Rattle.base_bytes.specs.declared.Mode.{Mode}
 use Rattle.base_lists.specs.Lists.{same}
-use Rattle.base_refusals.specs.declared.Outcome.TheVariants.{Passed}
 use Rattle.block_grammar.specs.Grammar.{Placed, Reading}
 use Rattle.block_grammar.specs.Computed.{read_payload}
 use Rattle.proved_grammar.specs.Meaning.{said, listed, meaning, absent, slot_names}
@@ -36,20 +35,20 @@ ReadLists = (m : Mode) (t : List ℕ) (at end : ℕ) (is : List Placed) → read
 
 -- So does the table that `fill` hands out, with its arrays and counts, ..
 abbrev pub FillLists : Type 0
-FillLists = (m : Mode) (t : List ℕ) (at end : ℕ) (is : List Placed) → (fill_at m t at end).outcome ≡ Passed → read_payload m at (slice at end t) ≡ Reading.items is
+FillLists = (m : Mode) (t : List ℕ) (at end : ℕ) (is : List Placed) → (fill_at m t at end).outcome ≡ Ok tt → read_payload m at (slice at end t) ≡ Reading.items is
     → listed_of (one t) (fill_at m t at end).set ≡ listed is
 
 -- .. and that which `fill_chain` hands out of blocks back to back.
 abbrev pub LineLists : Type 0
-LineLists = (m : Mode) (t : List ℕ) (from to : ℕ) (is : List Placed) → (chain_at m t from to).outcome ≡ Passed → Blocks m from (slice from to t) is
+LineLists = (m : Mode) (t : List ℕ) (from to : ℕ) (is : List Placed) → (chain_at m t from to).outcome ≡ Ok tt → Blocks m from (slice from to t) is
     → listed_of (one t) (chain_at m t from to).set ≡ listed is
 
 -- So what `fill` hands out means what the items mean.
 abbrev pub FillMeans : Type 0
-FillMeans = (m : Mode) (t : List ℕ) (at end : ℕ) (is : List Placed) → (fill_at m t at end).outcome ≡ Passed → read_payload m at (slice at end t) ≡ Reading.items is
+FillMeans = (m : Mode) (t : List ℕ) (at end : ℕ) (is : List Placed) → (fill_at m t at end).outcome ≡ Ok tt → read_payload m at (slice at end t) ≡ Reading.items is
     → meaning_of (one t) (fill_at m t at end).set ≡ meaning is
 
 -- "A line is trimmed, then blocks stand back to back to its end and are merged left to right.": what `fill_chain` hands out of the blocks from `from` up to `to`.
 abbrev pub LineMeans : Type 0
-LineMeans = (m : Mode) (t : List ℕ) (from to : ℕ) (is : List Placed) → (chain_at m t from to).outcome ≡ Passed → (p : Blocks m from (slice from to t) is)
+LineMeans = (m : Mode) (t : List ℕ) (from to : ℕ) (is : List Placed) → (chain_at m t from to).outcome ≡ Ok tt → (p : Blocks m from (slice from to t) is)
     → meaning_of (one t) (chain_at m t from to).set ≡ merged [] (map meaning (block_items p))

@@ -1,5 +1,6 @@
 -- A block of a sheet is read, or refused for a limit; and rows past the counts of the next block's set are zero.
 -- Assumes nothing.
+use Rattle.std.specs.Prelude.{Ok}
 use mathlib.Core.Path.{◌≡◌, refl}
 use mathlib.Core.Bool.{Bool, true, false, cond}
 use mathlib.Core.List.{List, [], ◌∷◌}
@@ -22,7 +23,6 @@ use Rattle.set_table.specs.Types.{one, max_classes, max_keys, empty_set}
 use Rattle.set_table.specs.Rows.{Rows, table_of}
 use Rattle.set_table.specs.Filled.{refusing}
 use Rattle.set_fill.specs.Fill as fill
-use Rattle.base_refusals.specs.declared.Outcome.TheVariants.{Passed}
 use Rattle.proved_sets.proofs.Zeroed.{empty_zeroed}
 use Rattle.proved_sets.specs.HandedOut.{Zeroed}
 use Rattle.run_lines.specs.Runs.{run_at}
@@ -38,7 +38,7 @@ limited : (s : Rows) → is_limited (filled.limited s).outcome ≡ true
 unfolding filled.limited is_in number_of
 limited s = go (ltb max_classes (length s.classes)) (ltb max_keys (length s.keys))
   where
-    go : (x y : Bool) → is_limited (cond x (refusing TooManyClasses) (cond y (refusing TooManyKeys) (record { outcome = Passed; set = table_of s }))).outcome ≡ true
+    go : (x y : Bool) → is_limited (cond x (refusing TooManyClasses) (cond y (refusing TooManyKeys) (record { outcome = Ok tt; set = table_of s }))).outcome ≡ true
     go true y = refl
     go false true = refl
     go false false = refl

@@ -1,5 +1,6 @@
 -- Call by call: what a refusal lays, the calls come to an end, and what they lay is the report, each byte once and nothing else.
 -- Assumes nothing.
+use Rattle.std.specs.Prelude.{Err, Ok, Result}
 use mathlib.Core.Path.{◌≡◌, refl, sym, ◌∙◌, ap}
 use mathlib.Core.Bool.{Bool, true, false, cond}
 use mathlib.Core.List.{List, [], ◌∷◌, ◌++◌, append_assoc, append-nil, flat_map}
@@ -15,8 +16,6 @@ use Rattle.base_refusals.specs.Numbers.{max_text}
 use Rattle.base_refusals.specs.declared.Refusal.TheVariants.{TextTooLong, NotUtf8, JoinFull, NothingThere, CanonTooLong}
 use Rattle.text_checks.specs.Check.{check_of, is_text}
 use Rattle.text_checks.proofs.Texts.{passed, refused}
-use Rattle.base_refusals.specs.declared.Outcome as outcomes
-use Rattle.base_refusals.specs.declared.Outcome.TheVariants as outcome
 use Rattle.text_lines.specs.Lines.{line_from}
 use Rattle.text_lines.proofs.Lines.{next_beyond}
 use Rattle.run_lines.specs.Runs.{past_lines}
@@ -25,7 +24,7 @@ use Rattle.read_lengths.specs.Lengths.{flush_left}
 use Rattle.sheet_blocks.specs.Sheets.{Try, tries_at, is_block, only_blocks}
 use Rattle.sheet_blocks.proofs.Tries.{some_lines, tries_end, try, tries_on, tries_past}
 use Rattle.sheet_blocks.proofs.Goes.{block_bytes}
-use Rattle.sheet_report.specs.declared.Told.TheVariants.{More, Done, Refused}
+use Rattle.sheet_report.specs.declared.Told.TheVariants.{More, Done}
 use Rattle.sheet_report.specs.declared.Part.{Part}
 use Rattle.sheet_report.specs.Report.{refused_line, block_line, report_of, report_by, report}
 use Rattle.sheet_report.specs.Parts.{part_of, max_line, Laid, laid_none, stopped, laid_behind, try_line, lay_from, begins_line, start_by, start_of, shown_part, may_begin}
@@ -67,7 +66,7 @@ lay_text t room (x ∷ xs) = go (ltb room max_line) (lay_text t (room - length (
     go false ih = rw ih (sym (report_first t x R.past))
 
 -- with room for the whole report and one line more, a call lays all of it
-one_call : (t : List ℕ) (room : ℕ) (xs : List Try) → length (report_of t (only_blocks xs)) + max_line ≤ room → ((lay_from t room xs).told ≡ Done) × ((lay_from t room xs).past ≡ xs)
+one_call : (t : List ℕ) (room : ℕ) (xs : List Try) → length (report_of t (only_blocks xs)) + max_line ≤ room → ((lay_from t room xs).told ≡ Ok Done) × ((lay_from t room xs).past ≡ xs)
 unfolding lay_from
 one_call t room [] h = (refl, refl)
 one_call t room (x ∷ xs) h =
@@ -80,8 +79,8 @@ one_call t room (x ∷ xs) h =
 
 -- all of it was laid, or the next call goes on at a line farther on, where a line begins that can have its number, and the tries from there on are those that are left
 data Led (t : List ℕ) (cap room n at : ℕ) (R : Laid) : Type 0 where
-  whole : R.told ≡ Done → R.past ≡ tries_at t cap n at → Led t cap room n at R
-  part : R.told ≡ More → n ≤ R.line → R.line ≤ R.at + 1 → R.at < length t → begins_line t R.at ≡ true → at ≤ R.at → (max_line ≤ room → at < R.at)
+  whole : R.told ≡ Ok Done → R.past ≡ tries_at t cap n at → Led t cap room n at R
+  part : R.told ≡ Ok More → n ≤ R.line → R.line ≤ R.at + 1 → R.at < length t → begins_line t R.at ≡ true → at ≤ R.at → (max_line ≤ room → at < R.at)
       → tries_at t cap n at ≡ R.past ++ tries_at t cap R.line R.at → Led t cap room n at R
 
 module _ (t : List ℕ) (cap : ℕ) where
@@ -150,40 +149,40 @@ part_goes t fits n at join out h b w i j s =
 
 -- ---- what a refusal lays
 
-never_refused : (t : List ℕ) (room : ℕ) (xs : List Try) (r : Refusal) → (lay_from t room xs).told ≡ Refused r → ⊥
+never_refused : (t : List ℕ) (room : ℕ) (xs : List Try) (r : Refusal) → (lay_from t room xs).told ≡ Err r → ⊥
 unfolding lay_from
 never_refused t room [] r e = let z : ◌≡◌ {A = ℕ} 0 1 = cc in absurd (omega arith)
 never_refused t room (x ∷ xs) r e = go (ltb room max_line) e (never_refused t (room - length (try_line t x)) xs r)
   where
-    go : (b : Bool) → (cond b (stopped x) (laid_behind (x ∷ []) (try_line t x) (lay_from t (room - length (try_line t x)) xs))).told ≡ Refused r
-        → ((lay_from t (room - length (try_line t x)) xs).told ≡ Refused r → ⊥) → ⊥
+    go : (b : Bool) → (cond b (stopped x) (laid_behind (x ∷ []) (try_line t x) (lay_from t (room - length (try_line t x)) xs))).told ≡ Err r
+        → ((lay_from t (room - length (try_line t x)) xs).told ≡ Err r → ⊥) → ⊥
     go true e ih = let z : ◌≡◌ {A = ℕ} 0 1 = cc in absurd (omega arith)
     go false e ih = ih e
 
-part_quiet : (t : List ℕ) (at n cap size : ℕ) (r : Refusal) → (part_of t at n cap size).told ≡ Refused r → (part_of t at n cap size).text ≡ []
+part_quiet : (t : List ℕ) (at n cap size : ℕ) (r : Refusal) → (part_of t at n cap size).told ≡ Err r → (part_of t at n cap size).text ≡ []
 unfolding part_of
 part_quiet t at n cap size r = go (ltb max_text (length t)) (ltb cap max_text) (may_begin t at n) (ltb size max_line)
   where
     R : Bool → Bool → Bool → Bool → Laid
     R x y z w =
-        cond x (laid_none (Refused TextTooLong))
-        (cond y (laid_none (Refused JoinFull))
-        (cond z (cond w (laid_none (Refused CanonTooLong)) (lay_from t size (tries_at t max_text n at))) (laid_none (Refused NothingThere))))
+        cond x (laid_none (Err TextTooLong))
+        (cond y (laid_none (Err JoinFull))
+        (cond z (cond w (laid_none (Err CanonTooLong)) (lay_from t size (tries_at t max_text n at))) (laid_none (Err NothingThere))))
 
-    go : (x y z w : Bool) → (R x y z w).told ≡ Refused r → (R x y z w).text ≡ []
+    go : (x y z w : Bool) → (R x y z w).told ≡ Err r → (R x y z w).text ≡ []
     go true y z w e = refl
     go false true z w e = refl
     go false false false w e = refl
     go false false true true e = refl
     go false false true false e = absurd (never_refused t size (tries_at t max_text n at) r e)
 
-start_lays : (t : List ℕ) (cap size : ℕ) (r : Refusal) → (start_of t cap size).told ≡ Refused r → (start_of t cap size).text ≡ refused_lays t size r
+start_lays : (t : List ℕ) (cap size : ℕ) (r : Refusal) → (start_of t cap size).told ≡ Err r → (start_of t cap size).text ≡ refused_lays t size r
 unfolding start_of
 start_lays t cap size r = go (check_of t) refl
   where
-    go : (c : outcomes.Outcome) → c ≡ check_of t → (start_by t cap size c).told ≡ Refused r → (start_by t cap size c).text ≡ refused_lays t size r
-    go (outcome.Refused q) e d = let k : q ≡ r = cc in rw (← (refused t e refl), k)
-    go outcome.Passed e d = rw (← (passed t e refl)) (part_quiet t 0 1 cap size r d)
+    go : (c : Result (Unit {0}) Refusal) → c ≡ check_of t → (start_by t cap size c).told ≡ Err r → (start_by t cap size c).text ≡ refused_lays t size r
+    go (Err q) e d = let k : q ≡ r = cc in rw (← (refused t e refl), k)
+    go (Ok _) e d = rw (← (passed t e refl)) (part_quiet t 0 1 cap size r d)
 
 pub refused_laid : RefusedLaid
 refused_laid t out at n cap r = (λ e. rw (part_quiet t at n cap (length out) r e), λ e. rw (start_lays t cap (length out) r e))
@@ -205,7 +204,7 @@ module _ (t : List ℕ) (lend : ℕ → Lent) where
       ap (λ (l : List ℕ). laid_in (lend k).out (call_at t lend k p) ++ l) (calls_lay c g.leaves) ∙ g.sum
 
   -- they come to an end, since each goes on farther on
-  calls_end : (fuel k : ℕ) (p : Part) {ys : List ℕ} → Leaves t p ys → (p.told ≡ More → length t ≤ p.at + fuel) → Calls t lend k p ys
+  calls_end : (fuel k : ℕ) (p : Part) {ys : List ℕ} → Leaves t p ys → (p.told ≡ Ok More → length t ≤ p.at + fuel) → Calls t lend k p ys
   calls_end zero k p (Leaves.nothing e) f = Calls.last e
   calls_end zero k p (Leaves.more e fits h b w i) f = absurd (omega (arith, f e))
   calls_end (suc fuel) k p (Leaves.nothing e) f = Calls.last e
@@ -215,17 +214,17 @@ module _ (t : List ℕ) (lend : ℕ → Lent) where
 
 -- ---- for any text
 
-check_fits : (t : List ℕ) → check_of t ≡ outcome.Passed → length t ≤ max_text
+check_fits : (t : List ℕ) → check_of t ≡ Ok tt → length t ≤ max_text
 unfolding check_of
 check_fits t e = go (ltb max_text (length t)) (is_utf8 t) refl e
   where
-    go : (x y : Bool) → ltb max_text (length t) ≡ x → cond x (outcome.Refused TextTooLong) (cond y outcome.Passed (outcome.Refused NotUtf8)) ≡ outcome.Passed → length t ≤ max_text
+    go : (x y : Bool) → ltb max_text (length t) ≡ x → cond {A = Result (Unit {0}) Refusal} x (Err TextTooLong) (cond y (Ok tt) (Err NotUtf8)) ≡ Ok tt → length t ≤ max_text
     go true y q e = let z : ◌≡◌ {A = ℕ} 0 1 = cc in absurd (omega arith)
     go false y q e = ltb-false max_text (length t) q
 
 -- the one line of a text that is refused
 abbrev laid_once : Refusal → Laid
-laid_once r = record { told = Refused r; text = refused_line 0 0 r; past = []; at = 0; line = 0 }
+laid_once r = record { told = Err r; text = refused_line 0 0 r; past = []; at = 0; line = 0 }
 
 first_goes : (t : List ℕ) (lend : ℕ → Lent) → Goes_on t 0 (lend 0).out (first_call t lend) (report t)
 unfolding start_of report
@@ -234,8 +233,8 @@ first_goes t lend = go (check_of t) refl
     size : ℕ
     size = length (lend 0).out
 
-    go : (c : outcomes.Outcome) → check_of t ≡ c → Goes_on t 0 (lend 0).out (start_by t (length (lend 0).join) size c) (report_by t c)
-    go (outcome.Refused r) e =
+    go : (c : Result (Unit {0}) Refusal) → check_of t ≡ c → Goes_on t 0 (lend 0).out (start_by t (length (lend 0).join) size c) (report_by t c)
+    go (Err r) e =
         rw (le-ltb size max_line (lend 0).lines)
         (record {
           rest = [];
@@ -243,7 +242,7 @@ first_goes t lend = go (check_of t) refl
           sum = append-nil (laid_in (lend 0).out (laid_once r)) ∙ laid_text (lend 0).out (laid_once r);
           farther = λ m. let z : ◌≡◌ {A = ℕ} 0 1 = cc in absurd (omega arith);
         })
-    go outcome.Passed e =
+    go (Ok tt) e =
         let k = check_fits t e in
         rw (blocks_are t max_text k k) (part_goes t k 1 0 (lend 0).join (lend 0).out (omega arith) (omega arith) (omega arith) refl (lend 0).joins (lend 0).lines)
 
@@ -262,13 +261,13 @@ at_once t lent h = let w = go (check_of t) refl h in record { last = w.0; text =
     size : ℕ
     size = length lent.out
 
-    R : outcomes.Outcome → Laid
+    R : Result (Unit {0}) Refusal → Laid
     R c = start_by t (length lent.join) size c
 
-    go : (c : outcomes.Outcome) → check_of t ≡ c → length (report_by t c) + max_line ≤ size → NoMore (R c).told × (((R c).text ≡ report_by t c) × (is_text t ≡ true → (R c).told ≡ Done))
-    go (outcome.Refused r) e h =
+    go : (c : Result (Unit {0}) Refusal) → check_of t ≡ c → length (report_by t c) + max_line ≤ size → NoMore (R c).told × (((R c).text ≡ report_by t c) × (is_text t ≡ true → (R c).told ≡ Ok Done))
+    go (Err r) e h =
         rw (le-ltb size max_line lent.lines) (λ m. let z : ◌≡◌ {A = ℕ} 0 1 = cc in absurd (omega arith), (refl, λ g. contra (is_text t) g (sym (refused t (sym e) refl))))
-    go outcome.Passed e h =
+    go (Ok tt) e h =
         let k = check_fits t e in
         let b = blocks_are t max_text k k in
         let w = one_call t size (tries_at t max_text 1 0) (rw b at h) in

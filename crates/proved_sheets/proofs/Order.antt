@@ -1,5 +1,6 @@
 -- Each try of a sheet is what `standalone_attrs_block_len` answers for its line, 9 never comes, and the blocks stand in order, none over another.
 -- Assumes nothing.
+use Rattle.std.specs.Prelude.{Ok, Some}
 use mathlib.Core.Path.{◌≡◌, refl}
 use mathlib.Core.List.{List, [], ◌∷◌}
 use Prim.Native.Nat.{ℕ, zero, suc, ◌+◌, ◌-◌, ◌≤◌}
@@ -8,10 +9,8 @@ use native.Mathlib.Omega.{arith}
 use lib.Dec.{eqb-suc-zero}
 use lib.ListN.{length}
 use Rattle.text_checks.specs.Check.{check_of}
-use Rattle.base_refusals.specs.declared.Outcome.TheVariants.{Passed}
 use Rattle.text_lines.specs.Lines.{ranges, pick, line_of}
 use Rattle.text_lines.specs.declared.Range.{Range}
-use Rattle.text_lines.specs.declared.Line.TheVariants.{At}
 use Rattle.run_lines.specs.Runs.{past_lines}
 use Rattle.read_blocks.proofs.Places.{past_in}
 use Rattle.read_blocks.specs.Blocks.{lines_of}
@@ -31,12 +30,12 @@ later : (t : List ℕ) (n : ℕ) (r : Range) (rs : List Range) → ((j : ℕ) �
 unfolding pick
 later t n r rs h j = let z : n + suc j ≡ suc n + j = omega arith in rw (z, eqb-suc-zero j) at (h (suc j))
 
-by_entry : (t : List ℕ) (cap n k : ℕ) (rs : List Range) → check_of t ≡ Passed → ((j : ℕ) → pick (n + j) (ranges t) ≡ pick (suc j) rs) → Each (ByEntry t cap) (tries_from t cap n k rs)
+by_entry : (t : List ℕ) (cap n k : ℕ) (rs : List Range) → check_of t ≡ Ok tt → ((j : ℕ) → pick (n + j) (ranges t) ≡ pick (suc j) rs) → Each (ByEntry t cap) (tries_from t cap n k rs)
 unfolding tries_from Each pick start_at standalone_found line_of
 by_entry t cap n k [] p h = refl
 by_entry t cap n (suc k) (r ∷ rs) p h = by_entry t cap (suc n) k rs p (later t n r rs h)
 by_entry t cap n zero (r ∷ rs) p h =
-    let z : pick n (ranges t) ≡ At r = rw (add-zero n) at (h 0) in
+    let z : pick n (ranges t) ≡ Some r = rw (add-zero n) at (h 0) in
     (rw (p, z) (refl, refl), by_entry t cap (suc n) (lines_of (flush_left t cap r.from) - 1) rs p (later t n r rs h))
 
 pub tries_by_entry : TriedByEntry

@@ -1,5 +1,6 @@
 -- What the lines of a report say, and that none is longer than `max_line`; and the only line for a text that is refused.
 -- Assumes nothing.
+use Rattle.std.specs.Prelude.{Err, Ok, Result}
 use mathlib.Core.Path.{◌≡◌, refl}
 use mathlib.Core.Bool.{Bool, true, false, cond}
 use mathlib.Core.List.{List, [], ◌∷◌}
@@ -14,8 +15,6 @@ use Rattle.text_utf8.specs.Computed.{is_utf8}
 use Rattle.base_refusals.specs.Numbers.{max_text, number_of}
 use Rattle.base_refusals.specs.declared.Refusal.TheVariants.{TextTooLong, NotUtf8, CanonTooLong}
 use Rattle.text_checks.specs.Check.{check_of}
-use Rattle.base_refusals.specs.declared.Outcome as outcomes
-use Rattle.base_refusals.specs.declared.Outcome.TheVariants as outcome
 use Rattle.set_canon.specs.Canon.{canon}
 use Rattle.set_table.specs.Types.{Texts}
 use Rattle.set_table.specs.Rows.{meaning_of}
@@ -31,6 +30,7 @@ use Rattle.block_grammar.specs.Meaning.{Entry}
 use Rattle.proved_sheets.specs.Order.{Each, Stands, InOrder}
 use Rattle.proved_sheets.specs.Blocks.{is_limited}
 use Rattle.proved_sheets.specs.Report.{Says, Good, LinesGood, TextRefused}
+use Rattle.base_refusals.specs.declared.Refusal.{Refusal}
 
 canon_says : (n k : ℕ) (m : List Entry) → Says n k m (canon_line n k (canon m))
 unfolding canon_line is_in number_of
@@ -40,10 +40,10 @@ canon_says n k m = go (ltb max_text (length (canon m))) refl
     go true e = Says.refused CanonTooLong refl
     go false e = Says.block (ltb-false max_text (length (canon m)) e)
 
-line_says : (n k : ℕ) (t : Texts) (a : Attrs) (o : outcomes.Outcome) → is_limited o ≡ true → Says n k (meaning_of t a) (line_by n k t a o)
+line_says : (n k : ℕ) (t : Texts) (a : Attrs) (o : Result (Unit {0}) Refusal) → is_limited o ≡ true → Says n k (meaning_of t a) (line_by n k t a o)
 unfolding all is_in
-line_says n k t a outcome.Passed e = canon_says n k (meaning_of t a)
-line_says n k t a (outcome.Refused r) e = Says.refused r (among (is_in (6 ∷ 7 ∷ 10 ∷ [])) (6 ∷ 7 ∷ []) (number_of r) refl e)
+line_says n k t a (Ok _) e = canon_says n k (meaning_of t a)
+line_says n k t a (Err r) e = Says.refused r (among (is_in (6 ∷ 7 ∷ 10 ∷ [])) (6 ∷ 7 ∷ []) (number_of r) refl e)
 
 module _ (t : List ℕ) (fits : length t ≤ max_text) where
   good : {n at : ℕ} {x : Try} → n ≤ at + 1 → Stands t max_text n at x → Good t x
@@ -69,7 +69,7 @@ pub text_refused : TextRefused
 unfolding report check_of is_in number_of
 text_refused t r e = (rw e, go (ltb max_text (length t)) (is_utf8 t) e)
   where
-    go : (x y : Bool) → cond x (outcome.Refused TextTooLong) (cond y outcome.Passed (outcome.Refused NotUtf8)) ≡ outcome.Refused r → is_in (1 ∷ 2 ∷ []) (number_of r) ≡ true
+    go : (x y : Bool) → cond {A = Result (Unit {0}) Refusal} x (Err TextTooLong) (cond y (Ok tt) (Err NotUtf8)) ≡ Err r → is_in (1 ∷ 2 ∷ []) (number_of r) ≡ true
     go true y e = let z : TextTooLong ≡ r = cc in rw (← z)
     go false true e = let z : ◌≡◌ {A = ℕ} 0 1 = cc in absurd (omega arith)
     go false false e = let z : NotUtf8 ≡ r = cc in rw (← z)

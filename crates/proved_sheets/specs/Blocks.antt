@@ -1,22 +1,21 @@
 -- What is read of a sheet's blocks: a set, or a refusal for a limit.
-use Rattle.std.specs.Prelude.{◌≡◌, Bool, true, List, [], ◌∷◌, ℕ, ◌≤◌, length}
+use Rattle.std.specs.Prelude.{◌≡◌, Bool, true, List, [], ◌∷◌, ℕ, ◌≤◌, length, Err, Ok, Result}
 use Rattle.base_lists.specs.Lists.{is_in}
 use Rattle.base_refusals.specs.Numbers.{max_text, number_of}
-use Rattle.base_refusals.specs.declared.Outcome.{Outcome}
-use Rattle.base_refusals.specs.declared.Outcome.TheVariants.{Passed, Refused}
 use Rattle.text_checks.specs.Check.{is_text}
 use Rattle.set_wellformed.specs.WellFormed.{well_formed}
 use Rattle.proved_sets.specs.HandedOut.{Zeroed}
 use Rattle.read_blocks.specs.Blocks.{texts_in, block_of}
 use Rattle.read_lengths.specs.Lengths.{flush_left}
 use Rattle.sheet_blocks.specs.Sheets.{is_block, next_of}
+use Rattle.base_refusals.specs.declared.Refusal.{Refusal}
 
 -- ---- "or for 6, 7 or 10 `refused`", where 10 is the writer's
 
 -- read, or refused 6 or 7
-abbrev pub is_limited : Outcome → Bool
-is_limited Passed = true
-is_limited (Refused r) = is_in (6 ∷ 7 ∷ []) (number_of r)
+abbrev pub is_limited : Result (Unit {0}) Refusal → Bool
+is_limited (Ok _) = true
+is_limited (Err r) = is_in (6 ∷ 7 ∷ []) (number_of r)
 
 -- so is each block of a text within the size
 abbrev pub BlockLimited : Type 0

@@ -1,12 +1,12 @@
 -- The report call by call: whatever memory is lent, the calls come to an end, and what they lay, one behind the other, is the report, all of it and nothing else.
-use Rattle.std.specs.Prelude.{◌≡◌, true, cond, ◌||◌, List, [], ◌++◌, ℕ, suc, ◌+◌, ◌≤◌, ◌<◌, ltb, length, take}
+use Rattle.std.specs.Prelude.{◌≡◌, true, cond, ◌||◌, List, [], ◌++◌, ℕ, suc, ◌+◌, ◌≤◌, ◌<◌, ltb, length, take, Err, Ok, Result}
 use Rattle.base_lists.specs.Lists.{over}
 use Rattle.base_refusals.specs.Numbers.{max_text}
 use Rattle.base_refusals.specs.declared.Refusal.{Refusal}
 use Rattle.text_checks.specs.Check.{is_text}
 use Rattle.sheet_blocks.specs.Sheets.{tries_at, only_blocks}
 use Rattle.sheet_report.specs.declared.Told.{Told}
-use Rattle.sheet_report.specs.declared.Told.TheVariants.{Refused, More, Done}
+use Rattle.sheet_report.specs.declared.Told.TheVariants.{More, Done}
 use Rattle.sheet_report.specs.declared.Part.{Part}
 use Rattle.sheet_report.specs.Report.{refused_line, report_of, report}
 use Rattle.sheet_report.specs.Parts.{max_line, Laid, begins_line, part_of, start_of, shown_part}
@@ -18,14 +18,14 @@ laid_in out r = take (shown_part r).len (over r.text out)
 -- ---- one call
 
 -- an answer that ends the calls: any but More
-abbrev pub NoMore : Told → Type 0
-NoMore a = a ≡ More → ⊥
+abbrev pub NoMore : Result Told Refusal → Type 0
+NoMore a = a ≡ Ok More → ⊥
 
 -- What an answer leaves of the report: nothing where it is the last; else the report from the line on where the next call goes on. A line begins there that
 -- can have its number.
 pub data Leaves (t : List ℕ) (p : Part) : List ℕ → Type 0 where
   nothing : NoMore p.told → Leaves t p []
-  more : p.told ≡ More → length t ≤ max_text → 1 ≤ p.line → p.line ≤ p.at + 1 → p.at < length t → begins_line t p.at ≡ true
+  more : p.told ≡ Ok More → length t ≤ max_text → 1 ≤ p.line → p.line ≤ p.at + 1 → p.at < length t → begins_line t p.at ≡ true
       → Leaves t p (report_of t (only_blocks (tries_at t max_text p.line p.at)))
 
 -- what a call lays and what it leaves is `all`; where there is more, the next call begins farther on than the place `at`
@@ -33,7 +33,7 @@ pub record Goes_on (t : List ℕ) (at : ℕ) (out : List ℕ) (R : Laid) (all : 
   pub rest : List ℕ
   pub leaves : Leaves t (shown_part R) rest
   pub sum : laid_in out R ++ rest ≡ all
-  pub farther : R.told ≡ More → at < R.at
+  pub farther : R.told ≡ Ok More → at < R.at
 
 -- a call that goes on at the line of number n, which begins at `at`: of the report from there on
 abbrev pub PartGoes : Type 0
@@ -48,8 +48,8 @@ refused_lays t size r = cond (is_text t || ltb size max_line) [] (refused_line 0
 
 abbrev pub RefusedLaid : Type 0
 RefusedLaid = (t out : List ℕ) (at n cap : ℕ) (r : Refusal)
-    → ((part_of t at n cap (length out)).told ≡ Refused r → over (part_of t at n cap (length out)).text out ≡ out)
-    × ((start_of t cap (length out)).told ≡ Refused r → over (start_of t cap (length out)).text out ≡ over (refused_lays t (length out) r) out)
+    → ((part_of t at n cap (length out)).told ≡ Err r → over (part_of t at n cap (length out)).text out ≡ out)
+    × ((start_of t cap (length out)).told ≡ Err r → over (start_of t cap (length out)).text out ≡ over (refused_lays t (length out) r) out)
 
 -- ---- the calls for a sheet
 
@@ -70,7 +70,7 @@ call_at t lend k p = part_of t p.at p.line (length (lend k).join) (length (lend 
 -- behind the answer p the calls from number k on, up to the last, lay xs in all
 pub data Calls (t : List ℕ) (lend : ℕ → Lent) : ℕ → Part → List ℕ → Type 0 where
   last : {k : ℕ} {p : Part} → NoMore p.told → Calls t lend k p []
-  next : {k : ℕ} {p : Part} {xs : List ℕ} → p.told ≡ More → Calls t lend (suc k) (shown_part (call_at t lend k p)) xs → Calls t lend k p (laid_in (lend k).out (call_at t lend k p) ++ xs)
+  next : {k : ℕ} {p : Part} {xs : List ℕ} → p.told ≡ Ok More → Calls t lend (suc k) (shown_part (call_at t lend k p)) xs → Calls t lend k p (laid_in (lend k).out (call_at t lend k p) ++ xs)
 
 -- they lay the report of the sheet, each byte once and nothing else
 abbrev pub AllLaid : Type 0
@@ -84,7 +84,7 @@ AllEnd = (t : List ℕ) (lend : ℕ → Lent) → (xs : List ℕ) × Calls t len
 pub record Whole (t : List ℕ) (R : Laid) : Type 0 where
   pub last : NoMore R.told
   pub text : R.text ≡ report t
-  pub done : is_text t ≡ true → R.told ≡ Done
+  pub done : is_text t ≡ true → R.told ≡ Ok Done
 
 abbrev pub AtOnce : Type 0
 AtOnce = (t : List ℕ) (lent : Lent) → length (report t) + max_line ≤ length lent.out → Whole t (start_of t (length lent.join) (length lent.out))

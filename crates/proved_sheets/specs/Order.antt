@@ -1,8 +1,7 @@
 -- "from line 1, it tries `standalone_attrs_block_len` at each line .. then it goes past the block, or with none on one line": where a sheet is tried, and how its
 -- blocks stand.
-use Rattle.std.specs.Prelude.{◌≡◌, true, false, List, [], ◌∷◌, ℕ, ◌+◌, ◌-◌, ◌<◌, ◌≤◌, eqb, length}
+use Rattle.std.specs.Prelude.{◌≡◌, true, false, List, [], ◌∷◌, ℕ, ◌+◌, ◌-◌, ◌<◌, ◌≤◌, eqb, length, Ok}
 use Rattle.base_refusals.specs.Numbers.{max_text}
-use Rattle.base_refusals.specs.declared.Outcome.TheVariants.{Passed}
 use Rattle.text_checks.specs.Check.{check_of}
 use Rattle.text_lines.specs.Lines.{ranges}
 use Rattle.text_line_start.specs.Starts.{place_of}
@@ -24,13 +23,13 @@ ByEntry t cap x = (x.at ≡ place_of t x.line) × (x.found ≡ standalone_found 
 
 -- so it is of each try of a sheet, with a join buffer of any length
 abbrev pub TriedByEntry : Type 0
-TriedByEntry = (t : List ℕ) (cap : ℕ) → check_of t ≡ Passed → Each (ByEntry t cap) (tries_from t cap 1 0 (ranges t))
+TriedByEntry = (t : List ℕ) (cap : ℕ) → check_of t ≡ Ok tt → Each (ByEntry t cap) (tries_from t cap 1 0 (ranges t))
 
 -- ---- "Its buffers for joining and canonical text hold 65,535 bytes each, so 9 can't arise"
 
 -- no try of a text that fits its join buffer is refused for 9
 abbrev pub NineNever : Type 0
-NineNever = (t : List ℕ) (cap : ℕ) → check_of t ≡ Passed → length t ≤ cap → Each (λ x. eqb (length_no (length_of x.found)) 9 ≡ false) (tries_from t cap 1 0 (ranges t))
+NineNever = (t : List ℕ) (cap : ℕ) → check_of t ≡ Ok tt → length t ≤ cap → Each (λ x. eqb (length_no (length_of x.found)) 9 ≡ false) (tries_from t cap 1 0 (ranges t))
 
 -- nor does the buffer's length count otherwise: the blocks of a sheet are those found from its first byte on in any buffer as long as the text
 abbrev pub RoomEnough : Type 0

@@ -1,11 +1,10 @@
 -- "On a block it writes `block`, first line, line count, canonical text, parted by tabs, or for 6, 7 or 10 `refused`, first line, line count, number": what the lines of a
 -- report say.
-use Rattle.std.specs.Prelude.{◌≡◌, true, List, [], ◌∷◌, ℕ, ◌≤◌, length}
+use Rattle.std.specs.Prelude.{◌≡◌, true, List, [], ◌∷◌, ℕ, ◌≤◌, length, Err}
 use Rattle.io.specs.Digits.{last_digits, IsDigitCount}
 use Rattle.base_lists.specs.Lists.{is_in}
 use Rattle.base_refusals.specs.Numbers.{max_text, number_of}
 use Rattle.base_refusals.specs.declared.Refusal.{Refusal}
-use Rattle.base_refusals.specs.declared.Outcome.TheVariants as outcome
 use Rattle.text_checks.specs.Check.{check_of}
 use Rattle.block_grammar.specs.Meaning.{Entry}
 use Rattle.set_canon.specs.Canon.{canon}
@@ -44,4 +43,4 @@ FewestDigits = (n : ℕ) → (k : ℕ) × ((decimal n ≡ last_digits 10 k n) ×
 -- ---- "For 1 or 2 the only output is `refused`, 0, 0, number."
 
 abbrev pub TextRefused : Type 0
-TextRefused = (t : List ℕ) (r : Refusal) → check_of t ≡ outcome.Refused r → (report t ≡ refused_line 0 0 r) × (is_in (1 ∷ 2 ∷ []) (number_of r) ≡ true)
+TextRefused = (t : List ℕ) (r : Refusal) → check_of t ≡ Err r → (report t ≡ refused_line 0 0 r) × (is_in (1 ∷ 2 ∷ []) (number_of r) ≡ true)

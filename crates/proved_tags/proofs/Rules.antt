@@ -1,5 +1,6 @@
 -- A strict reading gives what the rules say, and they give nothing else.
 -- Assumes nothing.
+use Rattle.std.specs.Prelude.{None, Option, Some, Result}
 use mathlib.Core.Path.{◌≡◌, refl, ◌∙◌, ap}
 use mathlib.Core.Bool.{Bool, true, false, cond}
 use mathlib.Core.List.{List}
@@ -17,15 +18,13 @@ use Rattle.block_grammar.specs.Grammar.{Placed, Reading}
 use Rattle.block_grammar.specs.Computed.{read_payload}
 use Rattle.block_grammar.specs.ComputedClose.{find_close}
 use Rattle.block_grammar.specs.Meaning.{Entry}
-use Rattle.block_grammar.specs.declared.Place.{Place}
-use Rattle.block_grammar.specs.declared.Place.TheVariants.{Nothing, At}
 use Rattle.block_grammar.proofs.Payload.{sound, complete}
 use Rattle.block_grammar.proofs.Close.{found}
 use Rattle.set_table.specs.Types.{one}
 use Rattle.set_table.specs.Rows.{meaning_of}
 use Rattle.proved_sets.proofs.TableWhole.{empty_means}
 use Rattle.proved_sets.proofs.Limits.{exactly}
-use Rattle.read_brace.specs.declared.Answer.{Answer}
+use Rattle.read_brace.specs.declared.NotRead.{NotRead}
 use Rattle.read_brace.specs.declared.Read.{Read}
 use Rattle.read_brace.specs.Brace.{refusing_read, brace_at, payload_of, at_brace, read_attrs_at}
 use Rattle.proved_reading.specs.Table.{BlockAt, Reads}
@@ -37,9 +36,9 @@ use Rattle.proved_tags.proofs.Langs.{passes_allowed, allowed_passes, fails_malfo
 
 -- ---- the reading of the payload at a brace, if there is one
 
-abbrev reading_to : Mode → List ℕ → ℕ → Place → Reading
-reading_to m t i Nothing = Reading.refused
-reading_to m t i (At e) = cond (is_utf8 (payload_of t i e)) (read_payload m (suc i) (payload_of t i e)) Reading.refused
+abbrev reading_to : Mode → List ℕ → ℕ → Option ℕ → Reading
+reading_to m t i None = Reading.refused
+reading_to m t i (Some e) = cond (is_utf8 (payload_of t i e)) (read_payload m (suc i) (payload_of t i e)) Reading.refused
 
 unfoldable reading_at : Mode → List ℕ → ℕ → Reading
 reading_at m t i = at_brace Reading.refused Reading.refused (reading_to m t i) t i
@@ -53,11 +52,11 @@ module _ (m : Mode) (t : List ℕ) (i : ℕ) where
       cut true r = refl
       cut false r = refl
 
-      closed : (p : Place) → tag_to m t i p ≡ passed_by (reading_to m t i p)
-      closed Nothing = refl
-      closed (At e) = cut (is_utf8 (payload_of t i e)) (read_payload m (suc i) (payload_of t i e))
+      closed : (p : Option ℕ) → tag_to m t i p ≡ passed_by (reading_to m t i p)
+      closed None = refl
+      closed (Some e) = cut (is_utf8 (payload_of t i e)) (read_payload m (suc i) (payload_of t i e))
 
-      go : (a b : Bool) (p : Place) → cond a true (cond b (tag_to m t i p) true) ≡ passed_by (cond a Reading.refused (cond b (reading_to m t i p) Reading.refused))
+      go : (a b : Bool) (p : Option ℕ) → cond a true (cond b (tag_to m t i p) true) ≡ passed_by (cond a Reading.refused (cond b (reading_to m t i p) Reading.refused))
       go true b p = refl
       go false true p = closed p
       go false false p = refl
@@ -81,12 +80,12 @@ module _ (m : Mode) (t : List ℕ) (i : ℕ) where
           record { close = e; reads = record { block = b; utf8 = utf8.sound b.closes.inside (rw w at u); payload = sound m (suc i) b.closes.inside is (rw w at r) } }
       cut e b false u r = contra true refl (cc)
 
-      go : (x : Bool) → ltb max_text (length t) ≡ x → (y : Bool) → brace_at t i ≡ y → (p : Place) → find_close t (suc i) ≡ p
+      go : (x : Bool) → ltb max_text (length t) ≡ x → (y : Bool) → brace_at t i ≡ y → (p : Option ℕ) → find_close t (suc i) ≡ p
           → cond x Reading.refused (cond y (reading_to m t i p) Reading.refused) ≡ Reading.items is → ReadSo is
       go true a y b p c r = contra true refl (cc)
       go false a false b p c r = contra true refl (cc)
-      go false a true b Nothing c r = contra true refl (cc)
-      go false a true b (At e) c r =
+      go false a true b None c r = contra true refl (cc)
+      go false a true b (Some e) c r =
           cut e (record { short = ltb-false max_text (length t) a; opens = opens t i b; closes = (found t (suc i) e c).closes }) (is_utf8 (payload_of t i e)) refl r
 
   -- ---- by whether it passes
@@ -119,7 +118,7 @@ module _ (m : Mode) (t : List ℕ) (i : ℕ) where
       go (Reading.items is) q = items (at_reads q) (tag_passes is) refl
 
   -- ---- and the rules give nothing else
-  abbrev Answers : Answer → List Entry → Read → Type 0
+  abbrev Answers : Result ℕ NotRead → List Entry → Read → Type 0
   Answers a s r = (r.answer ≡ a) × (meaning_of (one t) r.set ≡ s)
 
   pub unread_tag : ((e : ℕ) (is : List Placed) → Reads m t i e is → ⊥) → tag_at m t i ≡ true
@@ -129,7 +128,7 @@ module _ (m : Mode) (t : List ℕ) (i : ℕ) where
       go Reading.refused q = tag_reading ∙ ap passed_by q
       go (Reading.items is) q = let h = at_reads q in absurd (n h.close is h.reads)
 
-  only_strictly : (a : Answer) (s : List Entry) → StrictGiven m t i a s → Answers a s (read_tagged WellFormed m t i)
+  only_strictly : (a : Result ℕ NotRead) (s : List Entry) → StrictGiven m t i a s → Answers a s (read_tagged WellFormed m t i)
   only_strictly a s (StrictGiven.unread n g) = let z = only g in rw (strict_passes (unread_tag n)) (z.answer, z.means)
   only_strictly _ _ (StrictGiven.malformed {is = is} {v = v} h e n) = rw (strict_fails (reads_tag h ∙ malformed_fails is v e n)) (refl, empty_means (one t))
   only_strictly a s (StrictGiven.passed {is = is} h l g) = let z = only g in rw (strict_passes (reads_tag h ∙ allowed_passes is l)) (z.answer, z.means)

@@ -1,5 +1,6 @@
 -- Strictly read sets.
 -- Assumes nothing.
+use Rattle.std.specs.Prelude.{Err, Ok}
 use mathlib.Core.Path.{◌≡◌, refl, sym, ◌∙◌, ap, subst}
 use mathlib.Core.Bool.{Bool, true, false, cond}
 use mathlib.Core.List.{List, []}
@@ -10,7 +11,6 @@ use Rattle.base_bytes.specs.declared.Mode.{Mode}
 use Rattle.base_bytes.specs.declared.Mode.TheVariants.{Strict}
 use Rattle.base_refusals.specs.Numbers.{number_of}
 use Rattle.base_refusals.specs.declared.Refusal.TheVariants.{NoReading, BadTag}
-use Rattle.base_refusals.specs.declared.Outcome.TheVariants as outcome
 use Rattle.base_lists.specs.Lists.{same}
 use Rattle.text_langtags.specs.Grammar.{Allowed}
 use Rattle.block_grammar.specs.Meaning.{lang_name, is_class, lookup}
@@ -19,7 +19,7 @@ use Rattle.set_table.specs.Types.{one, empty_set}
 use Rattle.set_table.specs.Rows.{meaning_of}
 use Rattle.set_wellformed.specs.WellFormed.{well_formed}
 use Rattle.read_brace.specs.Brace.{brace_paper, refusing_read, read_attrs_at}
-use Rattle.read_brace.specs.declared.Answer.TheVariants.{Refused, Unread, Next}
+use Rattle.read_brace.specs.declared.NotRead.TheVariants.{Refused, Unread}
 use Rattle.proved_sets.specs.Merged.{merge_meaning}
 use Rattle.proved_sets.proofs.MergeMeans.{merge_gives}
 use Rattle.proved_reading.proofs.Meaning.{read_means, none_reads, refused_empty, five_has_place}
@@ -43,7 +43,7 @@ set-passes : (m : Mode) (t : List ℕ) (i n : ℕ) → ReadStrictly m t i n → 
 unfolding read_tagged
 set-passes m t i n = go (tag_at m t i)
   where
-    go : (b : Bool) → (cond b (read_attrs_at m t i) (refusing_read BadTag)).answer ≡ Next n → b ≡ true
+    go : (b : Bool) → (cond b (read_attrs_at m t i) (refusing_read BadTag)).answer ≡ Ok n → b ≡ true
     go true e = refl
     go false e = contra true refl (cc)
 
@@ -74,11 +74,11 @@ strict_places m t i =
       place = λ n. (was (tag_at m t i), λ e. ap (λ r. r.answer) (strict_passes m t i (unread_tag m t i (λ k is. none_reads e))) ∙ e);
     }
   where
-    bare : (b : Bool) → (cond b (read_attrs_at m t i) (refusing_read BadTag)).answer ≡ Refused NoReading → ⊥
+    bare : (b : Bool) → (cond b (read_attrs_at m t i) (refusing_read BadTag)).answer ≡ Err (Refused NoReading) → ⊥
     bare true e = five_has_place m t i e
     bare false e = absurd (omega (arith, ap (λ a. (brace_paper a).number) e))
 
-    was : (b : Bool) {n : ℕ} → (cond b (read_attrs_at m t i) (refusing_read BadTag)).answer ≡ Unread n → (read_attrs_at m t i).answer ≡ Unread n
+    was : (b : Bool) {n : ℕ} → (cond b (read_attrs_at m t i) (refusing_read BadTag)).answer ≡ Err (Unread n) → (read_attrs_at m t i).answer ≡ Err (Unread n)
     was true e = e
     was false e = contra true refl (cc)
 
@@ -98,7 +98,7 @@ pub strict_reads_back : StrictReadsBack
 strict_reads_back m t i = reads_back (one t) (strict_set m t i)
 
 -- an ordinary reading whose `lang` would pass is the strict one
-ordinary_strict : (m : Mode) (t : List ℕ) (i n : ℕ) → (read_attrs_at m t i).answer ≡ Next n → LangAllowed (meaning_of (one t) (read_attrs_at m t i).set) → read_tagged WellFormed m t i ≡ read_attrs_at m t i
+ordinary_strict : (m : Mode) (t : List ℕ) (i n : ℕ) → (read_attrs_at m t i).answer ≡ Ok n → LangAllowed (meaning_of (one t) (read_attrs_at m t i).set) → read_tagged WellFormed m t i ≡ read_attrs_at m t i
 ordinary_strict m t i n e a =
     let r = read_means e in
     strict_passes m t i (reads_tag m t i r.reads ∙ allowed_passes r.items (subst LangAllowed r.meant a))

@@ -1,10 +1,9 @@
 -- Strictly read sets: which they are, and what holds of them.
-use Rattle.std.specs.Prelude.{◌≡◌, true, List, ℕ, ◌<◌, ◌≤◌, length}
+use Rattle.std.specs.Prelude.{◌≡◌, true, List, ℕ, ◌<◌, ◌≤◌, length, Ok, Err}
 use Rattle.base_bytes.specs.declared.Mode.{Mode}
 use Rattle.base_bytes.specs.declared.Mode.TheVariants.{Strict}
 use Rattle.base_refusals.specs.Numbers.{max_text}
 use Rattle.base_refusals.specs.declared.Refusal.TheVariants.{NoReading}
-use Rattle.base_refusals.specs.declared.Outcome.TheVariants as outcome
 use Rattle.text_checks.specs.Check.{is_text}
 use Rattle.block_grammar.specs.Meaning.{Entry}
 use Rattle.set_table.specs.Types.{Texts, one, empty_set}
@@ -12,7 +11,7 @@ use Rattle.set_table.specs.Rows.{meaning_of}
 use Rattle.set_table.specs.declared.Attrs.{Attrs}
 use Rattle.set_merge.specs.Merge.{merge_of}
 use Rattle.read_brace.specs.Brace.{brace_paper, read_attrs_at}
-use Rattle.read_brace.specs.declared.Answer.TheVariants.{Refused, Unread, Next}
+use Rattle.read_brace.specs.declared.NotRead.TheVariants.{Refused, Unread}
 use Rattle.proved_sets.specs.Merged.{merge_meaning}
 use Rattle.proved_demands.specs.Demands.{Iff, canon_of, CanonFits, ReadsBack}
 use Rattle.read_tags.specs.Tagged.{read_tagged}
@@ -26,7 +25,7 @@ strict_set m t i = (read_tagged WellFormed m t i).set
 
 -- a set is read strictly at a place, and n is behind its block
 abbrev pub ReadStrictly : Mode → List ℕ → ℕ → ℕ → Type 0
-ReadStrictly m t i n = (read_tagged WellFormed m t i).answer ≡ Next n
+ReadStrictly m t i n = (read_tagged WellFormed m t i).answer ≡ Ok n
 
 -- "Ordinary reading doesn't change, so demand 2 holds as it is."
 abbrev pub AnyIsOrdinary : Type 0
@@ -46,8 +45,8 @@ StrictRefused = (g : Tags) (m : Mode) (t : List ℕ) (i : ℕ) → 0 < (brace_pa
 
 -- "Refusal 5 at a brace shall carry a place": none is given strictly without one, and 13 comes "after 5", so it is given exactly where the ordinary reading gives it
 pub record StrictPlaces (m : Mode) (t : List ℕ) (i : ℕ) : Type 0 where
-  pub always : (read_tagged WellFormed m t i).answer ≡ Refused NoReading → ⊥
-  pub place : (n : ℕ) → Iff ((read_tagged WellFormed m t i).answer ≡ Unread n) ((read_attrs_at m t i).answer ≡ Unread n)
+  pub always : (read_tagged WellFormed m t i).answer ≡ Err (Refused NoReading) → ⊥
+  pub place : (n : ℕ) → Iff ((read_tagged WellFormed m t i).answer ≡ Err (Unread n)) ((read_attrs_at m t i).answer ≡ Err (Unread n))
 
 -- "Demand 3 covers strictly read sets too, if the whole text gives neither 1 nor 2, being over well-formed ones.": such a set is of those that demand 3
 -- speaks of, if its canonical text fits
@@ -78,9 +77,9 @@ StrictBackStrictly = (m : Mode) (t : List ℕ) (i n : ℕ) → is_text t ≡ tru
 
 -- two sets whose `lang` would pass merge to one whose `lang` would pass,
 abbrev pub MergePasses : Type 0
-MergePasses = (t : Texts) (a b : Attrs) → (merge_of t a b).outcome ≡ outcome.Passed → LangAllowed (meaning_of t a) → LangAllowed (meaning_of t b) → LangAllowed (merge_meaning t a b)
+MergePasses = (t : Texts) (a b : Attrs) → (merge_of t a b).outcome ≡ Ok tt → LangAllowed (meaning_of t a) → LangAllowed (meaning_of t b) → LangAllowed (merge_meaning t a b)
 
 -- so two that were read strictly
 abbrev pub StrictMergePasses : Type 0
 StrictMergePasses = (m k : Mode) (t : List ℕ) (i j n p : ℕ) → ReadStrictly m t i n → ReadStrictly k t j p
-    → (merge_of (one t) (strict_set m t i) (strict_set k t j)).outcome ≡ outcome.Passed → LangAllowed (merge_meaning (one t) (strict_set m t i) (strict_set k t j))
+    → (merge_of (one t) (strict_set m t i) (strict_set k t j)).outcome ≡ Ok tt → LangAllowed (merge_meaning (one t) (strict_set m t i) (strict_set k t j))

@@ -1,5 +1,6 @@
 -- The verdict on a block against the line that the sheet program writes for it, in both directions.
 -- Assumes nothing.
+use Rattle.std.specs.Prelude.{Err, Ok, Result}
 use mathlib.Core.Path.{◌≡◌, refl, sym, ◌∙◌, ap}
 use mathlib.Core.Bool.{Bool, true, false, cond}
 use mathlib.Core.List.{List, [], ◌∷◌, ◌++◌}
@@ -12,8 +13,6 @@ use Rattle.base_bytes.specs.Bytes.{lf, tab}
 use Rattle.base_refusals.specs.Numbers.{max_text, number_of}
 use Rattle.base_refusals.specs.declared.Refusal.{Refusal}
 use Rattle.base_refusals.specs.declared.Refusal.TheVariants.{CanonTooLong}
-use Rattle.base_refusals.specs.declared.Outcome.{Outcome}
-use Rattle.base_refusals.specs.declared.Outcome.TheVariants.{Passed, Refused}
 use Rattle.base_refusals.proofs.Numbers.{number_own}
 use Rattle.text_digits.specs.Decimal.{decimal}
 use Rattle.set_canon.specs.Canon.{canon}
@@ -49,26 +48,26 @@ words_apart n k x y e = let z : ◌≡◌ {A = ℕ} 114 98 = ap (λ (l : List �
 -- ---- the line by the verdict
 
 module _ (n k : ℕ) (y : List ℕ) where
-  abbrev told : Outcome → List ℕ
-  told Passed = report_line block_word n k y
-  told (Refused r) = refused_line n k r
+  abbrev told : Result (Unit {0}) Refusal → List ℕ
+  told (Ok _) = report_line block_word n k y
+  told (Err r) = refused_line n k r
 
-  told_printed : (v : Outcome) (z : List ℕ) → told v ≡ report_line block_word n k z → v ≡ Passed
+  told_printed : (v : Result (Unit {0}) Refusal) (z : List ℕ) → told v ≡ report_line block_word n k z → v ≡ Ok tt
   unfolding refused_line
-  told_printed Passed z e = refl
-  told_printed (Refused r) z e = absurd (words_apart n k (decimal (number_of r)) z e)
+  told_printed (Ok _) z e = refl
+  told_printed (Err r) z e = absurd (words_apart n k (decimal (number_of r)) z e)
 
-  told_refused : (v : Outcome) (r : Refusal) → told v ≡ refused_line n k r → v ≡ Refused r
+  told_refused : (v : Result (Unit {0}) Refusal) (r : Refusal) → told v ≡ refused_line n k r → v ≡ Err r
   unfolding refused_line
-  told_refused Passed r e = absurd (words_apart n k (decimal (number_of r)) y (sym e))
-  told_refused (Refused q) r e = ap Refused (number_own q r (decimal_apart (number_of q) (number_of r) (last_same refused_word n k (decimal (number_of q)) (decimal (number_of r)) e)))
+  told_refused (Ok _) r e = absurd (words_apart n k (decimal (number_of r)) y (sym e))
+  told_refused (Err q) r e = ap (λ z. Err z) (number_own q r (decimal_apart (number_of q) (number_of r) (last_same refused_word n k (decimal (number_of q)) (decimal (number_of r)) e)))
 
-told_by : (n k : ℕ) (t : Texts) (a : Attrs) (o : Outcome) → line_by n k t a o ≡ told n k (canon (meaning_of t a)) (block_verdict t a o)
+told_by : (n k : ℕ) (t : Texts) (a : Attrs) (o : Result (Unit {0}) Refusal) → line_by n k t a o ≡ told n k (canon (meaning_of t a)) (block_verdict t a o)
 unfolding block_verdict printable canon_line
-told_by n k t a (Refused r) = refl
-told_by n k t a Passed = go (ltb max_text (length (canon (meaning_of t a))))
+told_by n k t a (Err r) = refl
+told_by n k t a (Ok _) = go (ltb max_text (length (canon (meaning_of t a))))
   where
-    go : (b : Bool) → cond b (refused_line n k CanonTooLong) (report_line block_word n k (canon (meaning_of t a))) ≡ told n k (canon (meaning_of t a)) (cond b (Refused CanonTooLong) Passed)
+    go : (b : Bool) → cond b (refused_line n k CanonTooLong) (report_line block_word n k (canon (meaning_of t a))) ≡ told n k (canon (meaning_of t a)) (cond b (Err CanonTooLong) (Ok tt))
     go true = refl
     go false = refl
 

@@ -1,5 +1,6 @@
 -- The counts of a block's set are those of what it lists.
 -- Assumes nothing.
+use Rattle.std.specs.Prelude.{Err, Ok, Result}
 use mathlib.Core.Path.{◌≡◌, refl, sym, ◌∙◌}
 use mathlib.Core.Bool.{Bool, true, false, cond, ◌&&◌}
 use mathlib.Core.List.{List, [], ◌∷◌, map}
@@ -12,8 +13,6 @@ use Rattle.base_lists.specs.Lists.{all}
 use Rattle.base_bytes.specs.declared.Mode.TheVariants.{Loose}
 use Rattle.base_refusals.specs.Numbers.{max_text}
 use Rattle.base_refusals.specs.declared.Refusal.TheVariants.{NothingThere}
-use Rattle.base_refusals.specs.declared.Outcome.{Outcome}
-use Rattle.base_refusals.specs.declared.Outcome.TheVariants.{Passed, Refused}
 use Rattle.text_checks.specs.Check.{check_of, is_text}
 use Rattle.text_checks.proofs.Texts.{passed}
 use Rattle.text_lines.specs.Lines.{line_at, ranges}
@@ -43,6 +42,7 @@ use Rattle.proved_reading.proofs.BlockSets.{found_ok_lem, none_ok}
 use Rattle.proved_sheets.specs.Order.{Each}
 use Rattle.proved_tally.specs.Listed.{AsListed, CountsListed}
 use Rattle.proved_tally.proofs.Sheets.{tries-found}
+use Rattle.base_refusals.specs.declared.Refusal.{Refusal}
 
 -- ---- a set has its rows
 
@@ -120,6 +120,6 @@ pub counts_listed : CountsListed
 unfolding tries_in Each
 counts_listed t = go (check_of t) refl
   where
-    go : (o : Outcome) → check_of t ≡ o → Each (AsListed t) (tries_by t o)
-    go (Refused r) e = refl
-    go Passed e = each_listed t (sym (passed t refl e)) (tries_from t max_text 1 0 (ranges t)) (tries-found t max_text 1 0 (ranges t))
+    go : (o : Result (Unit {0}) Refusal) → check_of t ≡ o → Each (AsListed t) (tries_by t o)
+    go (Err r) e = refl
+    go (Ok _) e = each_listed t (sym (passed t refl e)) (tries_from t max_text 1 0 (ranges t)) (tries-found t max_text 1 0 (ranges t))

@@ -1,5 +1,6 @@
 -- The measuring runs of a sheet don't overlap, so they join no line twice.
 -- Assumes nothing.
+use Rattle.std.specs.Prelude.{Err, Ok, Result}
 use mathlib.Core.Path.{◌≡◌, refl, ◌∙◌, ap}
 use mathlib.Core.Bool.{Bool, true, false, cond, not, ◌&&◌, ◌||◌}
 use mathlib.Core.List.{List, [], ◌∷◌, map}
@@ -15,8 +16,6 @@ use Rattle.base_lists.proofs.Scan.{both}
 use Rattle.base_bytes.specs.Bytes.{is_indent}
 use Rattle.base_refusals.specs.Numbers.{max_text}
 use Rattle.base_refusals.specs.declared.Refusal.TheVariants.{NothingThere, NoReading, JoinFull}
-use Rattle.base_refusals.specs.declared.Outcome.{Outcome}
-use Rattle.base_refusals.specs.declared.Outcome.TheVariants.{Passed, Refused}
 use Rattle.text_checks.specs.Check.{check_of}
 use Rattle.text_lines.specs.Lines.{lines, line_from, line_at, ranges}
 use Rattle.text_lines.specs.Trim.{trim, is_blank_line}
@@ -37,6 +36,7 @@ use Rattle.sheet_tally.specs.Lists.{total}
 use Rattle.sheet_tally.specs.Counts.{tries_by, tries_in, joined_at}
 use Rattle.proved_runs.proofs.Joined.{past_lines_lem}
 use Rattle.proved_tally.specs.Runs.{LookaheadLe, JoinedLe}
+use Rattle.base_refusals.specs.declared.Refusal.{Refusal}
 
 -- ---- the later lines of a run are indented
 
@@ -114,12 +114,12 @@ behind_join so l ls R w z p k q =
 abbrev Both : So → List Lined → Run → Type 0
 Both so ls R = Later so ls R × Behind so ls R
 
-both_none : (x : Outcome) (so : So) (ls : List Lined) → Both so ls (ended x so)
+both_none : (x : Result (Unit {0}) Refusal) (so : So) (ls : List Lined) → Both so ls (ended x so)
 both_none x so ls = (later_none so ls (ended x so) refl, behind_none so ls (ended x so) refl)
 
 both_run : (cap : ℕ) (so : So) (ls : List Lined) → Both so ls (run_from cap so ls)
 both_run cap =
-    run_by_lem cap Both (both_none (Refused NoReading)) (λ so l ls f. both_none (Refused JoinFull) so (l ∷ ls)) (both_none Passed)
+    run_by_lem cap Both (both_none (Err NoReading)) (λ so l ls f. both_none (Err JoinFull) so (l ∷ ls)) (both_none (Ok tt))
     (λ so l ls R p f ih. (later_join so l ls R p ih.0, behind_join so l ls R ih.0))
 
 module _ (cap : ℕ) (t : List ℕ) (at : ℕ) where
@@ -300,9 +300,9 @@ by_check : (t : List ℕ) (P : List Try → Type 0) → P [] → P (tries_at t m
 unfolding tries_in tries_at ranges
 by_check t P n y = go (check_of t)
   where
-    go : (o : Outcome) → P (tries_by t o)
-    go (Refused r) = n
-    go Passed = y
+    go : (o : Result (Unit {0}) Refusal) → P (tries_by t o)
+    go (Err r) = n
+    go (Ok _) = y
 
 none_total : {A : Type 0} (f : A → ℕ) (k : ℕ) → total f [] ≤ k
 unfolding total

@@ -1,5 +1,6 @@
 -- Every block is printed or refused by 6, 7 or 10; wrapped ones are among the printed; and the longest is 0 exactly where none is printed.
 -- Assumes nothing.
+use Rattle.std.specs.Prelude.{Err, Ok, Result}
 use mathlib.Core.Path.{◌≡◌, refl, sym, ◌∙◌, ap}
 use mathlib.Core.Bool.{Bool, true, false, cond, ◌||◌}
 use mathlib.Core.List.{List, [], ◌∷◌}
@@ -12,8 +13,6 @@ use Rattle.base_lists.specs.Lists.{is_in}
 use Rattle.base_lists.proofs.More.{contra}
 use Rattle.base_refusals.specs.Numbers.{max_text, number_of, outcome_no}
 use Rattle.base_refusals.specs.declared.Refusal.TheVariants.{CanonTooLong}
-use Rattle.base_refusals.specs.declared.Outcome.{Outcome}
-use Rattle.base_refusals.specs.declared.Outcome.TheVariants.{Passed, Refused}
 use Rattle.text_checks.specs.Check.{check_of}
 use Rattle.text_checks.proofs.Texts.{text_short, passed}
 use Rattle.text_lines.specs.Lines.{ranges}
@@ -34,6 +33,7 @@ use Rattle.proved_sheets.specs.Order.{Each}
 use Rattle.proved_sheets.specs.Blocks.{is_limited}
 use Rattle.proved_sheets.proofs.Answers.{block_limited}
 use Rattle.proved_tally.specs.Sheets.{MayOpenTells, AllBlocks, WrappedPrinted, LongestSome}
+use Rattle.base_refusals.specs.declared.Refusal.{Refusal}
 
 -- ---- what is kept of a list
 
@@ -80,14 +80,14 @@ said_limit n e = go (eqb n 6) refl (eqb n 7) refl e
     go false p true q z = rw (eqb-true n 7 q) Said.seven
     go false p false q z = contra false z refl
 
-said_by_lem : (t : Texts) (a : Attrs) (o : Outcome) → is_limited o ≡ true → Said (outcome_no (block_verdict t a o))
+said_by_lem : (t : Texts) (a : Attrs) (o : Result (Unit {0}) Refusal) → is_limited o ≡ true → Said (outcome_no (block_verdict t a o))
 unfolding block_verdict printable number_of
-said_by_lem t a Passed e = go (ltb max_text (length (canon (meaning_of t a))))
+said_by_lem t a (Ok _) e = go (ltb max_text (length (canon (meaning_of t a))))
   where
-    go : (b : Bool) → Said (outcome_no (cond b (Refused CanonTooLong) Passed))
+    go : (b : Bool) → Said (outcome_no (cond b (Err CanonTooLong) (Ok tt)))
     go true = Said.ten
     go false = Said.nought
-said_by_lem t a (Refused r) e = said_limit (number_of r) e
+said_by_lem t a (Err r) e = said_limit (number_of r) e
 
 -- what is known of a block: one of the four is said of it, and it has a line
 record Known (t : List ℕ) (x : Try) : Type 0 where
@@ -122,9 +122,9 @@ sheet_known : (t : List ℕ) → Each (Known t) (only_blocks (tries_in t))
 unfolding tries_in only_blocks Each
 sheet_known t = go (check_of t) refl
   where
-    go : (o : Outcome) → check_of t ≡ o → Each (Known t) (only_blocks (tries_by t o))
-    go (Refused r) e = refl
-    go Passed e = blocks_known t (tries_from t max_text 1 0 (ranges t)) (text_short t (sym (passed t refl e))) (tries-found t max_text 1 0 (ranges t))
+    go : (o : Result (Unit {0}) Refusal) → check_of t ≡ o → Each (Known t) (only_blocks (tries_by t o))
+    go (Err r) e = refl
+    go (Ok _) e = blocks_known t (tries_from t max_text 1 0 (ranges t)) (text_short t (sym (passed t refl e))) (tries-found t max_text 1 0 (ranges t))
 
 -- ======== the laws
 
@@ -155,7 +155,7 @@ four t (x ∷ xs) (h, k) =
     one Said.seven = refl
     one Said.ten = refl
 
-passed_blocks : (t : List ℕ) → check_of t ≡ Passed → only_blocks (tries_in t) ≡ blocks_of t
+passed_blocks : (t : List ℕ) → check_of t ≡ Ok tt → only_blocks (tries_in t) ≡ blocks_of t
 unfolding tries_in blocks_of
 passed_blocks t e = rw e
 

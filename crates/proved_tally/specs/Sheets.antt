@@ -1,7 +1,6 @@
 -- Laws that keep the numbers of a sheet honest.
-use Rattle.std.specs.Prelude.{◌≡◌, List, true, false, ℕ, ◌+◌, ◌≤◌, ◌<◌, length, drop}
+use Rattle.std.specs.Prelude.{◌≡◌, List, true, false, ℕ, ◌+◌, ◌≤◌, ◌<◌, length, drop, Ok}
 use Rattle.base_refusals.specs.declared.Refusal.TheVariants.{NothingThere}
-use Rattle.base_refusals.specs.declared.Outcome.TheVariants.{Passed}
 use Rattle.text_checks.specs.Check.{check_of}
 use Rattle.read_blocks.specs.Blocks.{lines_of, nothing, found}
 use Rattle.read_lengths.specs.Lengths.{flush_left}
@@ -20,7 +19,7 @@ MayOpenTells = (t : List ℕ) (at cap : ℕ) → at < length t → OpensTells t 
 
 -- every block of a sheet is printed, or refused by 6, 7 or 10, and by one of them alone
 abbrev pub AllBlocks : Type 0
-AllBlocks = (t : List ℕ) → check_of t ≡ Passed
+AllBlocks = (t : List ℕ) → check_of t ≡ Ok tt
     → length (printed t (tries_in t)) + length (blocks_by 6 t (tries_in t)) + (length (blocks_by 7 t (tries_in t)) + length (blocks_by 10 t (tries_in t))) ≡ length (blocks_of t)
 
 -- "`wrapped` ones" are printed ones

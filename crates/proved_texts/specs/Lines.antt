@@ -1,10 +1,9 @@
 -- "Lines end at LF; a CR just before that LF is dropped. Text after the last LF is a line if it isn't empty. A line number counts from 1."
 -- That is `lines` (text_lines/specs/Lines); here the same by places and by number.
-use Rattle.std.specs.Prelude.{◌≡◌, true, not, List, [], map, ◌⊎◌, ℕ, ◌-◌, ◌<◌, ◌≤◌, eqb, length, get_or}
+use Rattle.std.specs.Prelude.{◌≡◌, true, not, List, [], map, ◌⊎◌, ℕ, ◌-◌, ◌<◌, ◌≤◌, eqb, length, get_or, Some}
 use Rattle.base_lists.specs.Lists.{all}
 use Rattle.base_bytes.specs.Bytes.{lf}
 use Rattle.text_lines.specs.declared.Range.{Range}
-use Rattle.text_lines.specs.declared.Line.TheVariants.{At}
 use Rattle.text_lines.specs.Lines.{lines, ranges, bytes_of, line_of, line_paper}
 use Rattle.text_checks.specs.Check.{is_text}
 use Rattle.text_line_start.specs.Starts.{start_at, start_paper}
@@ -25,7 +24,7 @@ pub record NthLine (n : ℕ) (t : List ℕ) (r : Range) : Type 0 where
 
 -- the line of a number is found there
 abbrev pub LineOfNumber : Type 0
-LineOfNumber = (n : ℕ) (t : List ℕ) (r : Range) → line_of n t ≡ At r → NthLine n t r
+LineOfNumber = (n : ℕ) (t : List ℕ) (r : Range) → line_of n t ≡ Some r → NthLine n t r
 
 -- "no such line": number 0, or one past the last
 abbrev pub NoSuchLine : ℕ → List ℕ → Type 0

@@ -1,5 +1,6 @@
 -- The longest block of a sheet has few lines, so `longest` always fits; and where a sheet that is fed is refused by 17, one of the twelve sums is too large.
 -- Assumes nothing.
+use Rattle.std.specs.Prelude.{Err, Ok, Result}
 use mathlib.Core.Path.{◌≡◌, refl, sym}
 use mathlib.Core.Bool.{Bool, true, false, cond, ◌||◌}
 use mathlib.Core.List.{List, [], ◌∷◌, map}
@@ -10,8 +11,6 @@ use lib.Dec.{eqb, ltb}
 use lib.ListN.{length, get_or, drop, length-map, length-drop}
 use Rattle.base_lists.proofs.More.{contra}
 use Rattle.base_refusals.specs.Numbers.{max_text, outcome_no}
-use Rattle.base_refusals.specs.declared.Outcome.{Outcome}
-use Rattle.base_refusals.specs.declared.Outcome.TheVariants.{Passed, Refused}
 use Rattle.text_checks.specs.Check.{check_of}
 use Rattle.text_checks.proofs.Texts.{text_short, passed}
 use Rattle.text_lines.specs.Lines.{lines, ranges}
@@ -29,6 +28,7 @@ use Rattle.sheet_totals.proofs.Sums.{added_at_lem, added_long, split_or}
 use Rattle.sheet_tally.specs.Lists.{greatest_of, keep}
 use Rattle.sheet_tally.specs.Counts.{tries_by, tries_in, blocks_by, longest_block}
 use Rattle.sheet_tally.proofs.Counting.{lines_few}
+use Rattle.base_refusals.specs.declared.Refusal.{Refusal}
 
 -- ---- a block has at most a line for each byte, and one more
 
@@ -88,9 +88,9 @@ within_sheet t = go (check_of t) refl
     wider n [] h l = tt
     wider n (x ∷ xs) (h, k) l = (omega arith, wider n xs k l)
 
-    go : (o : Outcome) → check_of t ≡ o → Within (suc max_text) (tries_by t o)
-    go (Refused r) e = tt
-    go Passed e = wider (length t) (tries_from t max_text 1 0 (ranges t)) (within-tries t max_text 1 0 (ranges t)) (text_short t (sym (passed t refl e)))
+    go : (o : Result (Unit {0}) Refusal) → check_of t ≡ o → Within (suc max_text) (tries_by t o)
+    go (Err r) e = tt
+    go (Ok _) e = wider (length t) (tries_from t max_text 1 0 (ranges t)) (within-tries t max_text 1 0 (ranges t)) (text_short t (sym (passed t refl e)))
 
 is_printed : List ℕ → Try → Bool
 is_printed t x = eqb (outcome_no (verdict_at t x)) 0

@@ -1,5 +1,6 @@
 -- Reports over two lists of sheets add up to the report over both; and sheets fed one after the other give the report over all.
 -- Assumes nothing.
+use Rattle.std.specs.Prelude.{Err, Ok, Result}
 use mathlib.Core.Path.{◌≡◌, refl, sym, ◌∙◌, ap}
 use mathlib.Core.Bool.{Bool, true, false, ◌&&◌}
 use mathlib.Core.List.{List, [], ◌∷◌}
@@ -8,11 +9,9 @@ use borrow.Author.Tests.{le-ltb}
 use lib.Dec.{eqb, ltb}
 use lib.ListN.{length, get_or, length-append}
 use Rattle.base_lists.proofs.More.{contra}
-use Rattle.base_refusals.specs.Numbers.{max_text, number_of}
+use Rattle.base_refusals.specs.Numbers.{max_text, number_of, refused}
 use Rattle.base_refusals.specs.declared.Refusal.{Refusal}
 use Rattle.base_refusals.specs.declared.Refusal.TheVariants.{JoinFull, TotalTooLarge}
-use Rattle.base_refusals.specs.declared.Outcome.{Outcome}
-use Rattle.base_refusals.specs.declared.Outcome.TheVariants.{Passed, Refused}
 use Rattle.text_checks.specs.Check.{is_text}
 use Rattle.sheet_totals.specs.Totals.{total_places, longest_place, max_total, added_at, added_from, numbers_added, overflows, empty_totals, add_totals, IsReport, TooLarge}
 use Rattle.sheet_totals.specs.declared.Totals.{Totals}
@@ -40,7 +39,7 @@ unfolding numbers_of
 numbers_long ts = refl
 
 abbrev whole : List ℕ → Added
-whole l = record { outcome = Passed; totals = record { numbers = l } }
+whole l = record { outcome = Ok tt; totals = record { numbers = l } }
 
 pub reports_add_up : ReportsAddUp
 reports_add_up xs ys =
@@ -56,7 +55,7 @@ more : (a : List ℕ) (t : List ℕ) (ts : List (List ℕ)) → numbers_added (n
 more a t ts = added_assoc a (numbers_of (t ∷ [])) (numbers_of ts) ∙ ap (numbers_added a) (sym (lists_add_up (t ∷ []) ts))
 
 -- one sheet: 9, else 17, else it is added
-feed_lacks : (a : Totals) (t : List ℕ) (cap : ℕ) → lacks_join t cap ≡ true → feed_of a t cap ≡ record { outcome = Refused JoinFull; totals = a }
+feed_lacks : (a : Totals) (t : List ℕ) (cap : ℕ) → lacks_join t cap ≡ true → feed_of a t cap ≡ record { outcome = Err JoinFull; totals = a }
 unfolding feed_of
 feed_lacks a t cap e = rw e
 
@@ -65,7 +64,7 @@ unfolding feed_of
 feed_adds a t cap e = rw e
 
 module _ (a : Totals) (t : List ℕ) (cap : ℕ) (l : lacks_join t cap ≡ false) where
-  feed_full : overflows (numbers_added a.numbers (numbers_of (t ∷ []))) ≡ true → feed_of a t cap ≡ record { outcome = Refused TotalTooLarge; totals = a }
+  feed_full : overflows (numbers_added a.numbers (numbers_of (t ∷ []))) ≡ true → feed_of a t cap ≡ record { outcome = Err TotalTooLarge; totals = a }
   feed_full e = feed_adds a t cap l ∙ add_full a (totals_of (t ∷ [])) e
 
   feed_fits : overflows (numbers_added a.numbers (numbers_of (t ∷ []))) ≡ false → feed_of a t cap ≡ whole (numbers_added a.numbers (numbers_of (t ∷ [])))
@@ -102,7 +101,7 @@ module _ (cap : ℕ) where
   all_none a r = let e = ap (numbers_added a.numbers) numbers_none ∙ added_empty a.numbers r.long in record { is = ap whole (sym e); fits = ap overflows e ∙ r.fits }
 
   -- a sheet that is refused ends it
-  not_on : (a : Totals) (t : List ℕ) (ts : List (List ℕ)) {w : Refusal} → feed_of a t cap ≡ record { outcome = Refused w; totals = a } → (fed_from a cap (t ∷ ts)).outcome ≡ Passed → ⊥
+  not_on : (a : Totals) (t : List ℕ) (ts : List (List ℕ)) {w : Refusal} → feed_of a t cap ≡ record { outcome = Err w; totals = a } → (fed_from a cap (t ∷ ts)).outcome ≡ Ok tt → ⊥
   unfolding fed_from
   not_on a t ts e p = full_fits (rw e at p)
 
@@ -110,14 +109,14 @@ module _ (cap : ℕ) where
   report_on a t r e = record { long = added_long a.numbers (numbers_of (t ∷ [])) r.long (numbers_long (t ∷ [])); fits = e }
 
   -- where none is refused
-  fed_is : (a : Totals) (ts : List (List ℕ)) → IsReport a.numbers → (fed_from a cap ts).outcome ≡ Passed → AllFed a cap ts
+  fed_is : (a : Totals) (ts : List (List ℕ)) → IsReport a.numbers → (fed_from a cap ts).outcome ≡ Ok tt → AllFed a cap ts
   fed_is a [] r p = all_none a r
   fed_is a (t ∷ ts) r p = go (lacks_join t cap) refl (overflows n) refl (fed_is (record { numbers = n }) ts)
     where
       n : List ℕ
       n = numbers_added a.numbers (numbers_of (t ∷ []))
 
-      go : (x : Bool) → lacks_join t cap ≡ x → (y : Bool) → overflows n ≡ y → (IsReport n → (fed_from (record { numbers = n }) cap ts).outcome ≡ Passed → AllFed (record { numbers = n }) cap ts) → AllFed a cap (t ∷ ts)
+      go : (x : Bool) → lacks_join t cap ≡ x → (y : Bool) → overflows n ≡ y → (IsReport n → (fed_from (record { numbers = n }) cap ts).outcome ≡ Ok tt → AllFed (record { numbers = n }) cap ts) → AllFed a cap (t ∷ ts)
       go true l y o ih = absurd (not_on a t ts (feed_lacks a t cap l) p)
       go false l true o ih = absurd (not_on a t ts (feed_full a t cap l o) p)
       go false l false o ih = let e = feed_fits a t cap l o in all_more a t ts e (ih (report_on a t r o) (ap (λ (r : Added). r.outcome) (sym (fed_more a t ts e)) ∙ p))
@@ -150,11 +149,11 @@ fed_fits_exactly ts cap h =
 
 -- ---- one sheet
 
-nine : Outcome → Bool
-nine Passed = false
-nine (Refused r) = eqb (number_of r) 9
+nine : Result (Unit {0}) Refusal → Bool
+nine (Ok _) = false
+nine (Err r) = eqb (number_of r) 9
 
-nine_full : Refused JoinFull ≡ Refused TotalTooLarge → ⊥
+nine_full : refused JoinFull ≡ Err TotalTooLarge → ⊥
 unfolding nine number_of
 nine_full e = contra true refl (ap nine e)
 
@@ -164,7 +163,7 @@ unfolding numbers_of
 last_fits t = longest_fits t
 
 module _ (a : Totals) (t : List ℕ) (cap : ℕ) (r : IsReport a.numbers) where
-  too_large_is : (feed_of a t cap).outcome ≡ Refused TotalTooLarge → (lacks_join t cap ≡ false) × TooLarge a.numbers (numbers_of (t ∷ []))
+  too_large_is : (feed_of a t cap).outcome ≡ Err TotalTooLarge → (lacks_join t cap ≡ false) × TooLarge a.numbers (numbers_of (t ∷ []))
   too_large_is p = go (lacks_join t cap) refl
     where
       go : (x : Bool) → lacks_join t cap ≡ x → (x ≡ false) × TooLarge a.numbers (numbers_of (t ∷ []))
@@ -175,7 +174,7 @@ module _ (a : Totals) (t : List ℕ) (cap : ℕ) (r : IsReport a.numbers) where
             (full_is a (totals_of (t ∷ [])) (ap (λ (s : Added). s.outcome) (sym (feed_adds a t cap l)) ∙ p)),
       )
 
-  is_too_large : lacks_join t cap ≡ false → TooLarge a.numbers (numbers_of (t ∷ [])) → feed_of a t cap ≡ record { outcome = Refused TotalTooLarge; totals = a }
+  is_too_large : lacks_join t cap ≡ false → TooLarge a.numbers (numbers_of (t ∷ [])) → feed_of a t cap ≡ record { outcome = Err TotalTooLarge; totals = a }
   is_too_large l z = feed_full a t cap l (too_large_over a.numbers (numbers_of (t ∷ [])) r.long (numbers_long (t ∷ [])) z)
 
 pub fed_too_large_exactly : FedTooLargeExactly

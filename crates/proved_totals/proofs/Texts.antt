@@ -1,5 +1,6 @@
 -- What is read is exactly what is written.
 -- Assumes nothing.
+use Rattle.std.specs.Prelude.{None, Option, Some}
 use mathlib.Core.Path.{◌≡◌, refl, sym, ◌∙◌, ap}
 use mathlib.Core.Bool.{Bool, true, false, cond}
 use mathlib.Core.List.{List, [], ◌∷◌, ◌++◌, append_assoc, append-nil}
@@ -13,8 +14,6 @@ use Rattle.base_lists.proofs.More.{contra}
 use Rattle.base_bytes.specs.Bytes.{tab, lf}
 use Rattle.text_digits.specs.Decimal.{decimal}
 use Rattle.text_digits.specs.Digits.{number_in}
-use Rattle.text_digits.specs.declared.Decimal as decimals
-use Rattle.text_digits.specs.declared.Decimal.TheVariants.{None, Is}
 use Rattle.text_digits.proofs.Decimals.{decimal_le}
 use Rattle.proved_valves.specs.Numbers.{IsNumber}
 use Rattle.text_numbers.proofs.Numbers.{decimal-one, decimal_more}
@@ -74,7 +73,7 @@ end_append n s = ap (λ (l : List ℕ). tab ∷ l) (append_assoc (decimal n) (lf
 along_number : (w : List ℕ) (n : ℕ) (s : List ℕ) → n ≤ max_total → numbers_along (tab ∷ w) (tab ∷ (decimal n ++ (lf ∷ s))) ≡ number_before n (numbers_along w s)
 unfolding numbers_along
 along_number w n s h =
-    let i : number_in max_total (decimal n) ≡ Is n = is_read (record { written = refl; within = h }) in
+    let i : number_in max_total (decimal n) ≡ Some n = is_read (record { written = refl; within = h }) in
     rw (number_part n s, i)
 
 tab_read : (w : List ℕ) (n : ℕ) (s : List ℕ) → n ≤ max_total → numbers_along (tab ∷ w) (number_end n ++ s) ≡ number_before n (numbers_along w s)
@@ -172,12 +171,12 @@ read_written [] s ns e = along_none s ns e
 read_written (c ∷ w) [] ns e = not_bad e
 read_written (c ∷ w) (b ∷ s) ns e = first (eqb b c) refl (eqb c tab) refl (read_written w) e
   where
-    number : (f r : List ℕ) (d : decimals.Decimal) → number_in max_total f ≡ d → (x : Numbers) → numbers_along w r ≡ x
+    number : (f r : List ℕ) (d : Option ℕ) → number_in max_total f ≡ d → (x : Numbers) → numbers_along w r ≡ x
         → ((q ms : List ℕ) → numbers_along w q ≡ Numbers.are ms → Along w q ms)
         → on_number d x ≡ Numbers.are ns → Along (tab ∷ w) (tab ∷ (f ++ (lf ∷ r))) ns
     number f r None g x h ih e = not_bad e
-    number f r (Is n) g Numbers.bad h ih e = not_bad e
-    number f r (Is n) g (Numbers.are ms) h ih e =
+    number f r (Some n) g Numbers.bad h ih e = not_bad e
+    number f r (Some n) g (Numbers.are ms) h ih e =
         let m : n ∷ ms ≡ ns = ap the_numbers e in
         rw (← m) (along_field w f r n ms (read_is g) (ih r ms h))
 

@@ -1,5 +1,6 @@
 -- What a table of settings holds: each cell the valve of the last setting for it, and a setting for one variant changes no other row.
 -- Assumes nothing.
+use Rattle.std.specs.Prelude.{None, Some}
 use mathlib.Core.Path.{◌≡◌, refl, sym, ◌∙◌, ap}
 use mathlib.Core.Bool.{Bool, true, false, cond}
 use mathlib.Core.List.{List, [], ◌∷◌, ◌++◌, foldl, foldl-append}
@@ -12,7 +13,6 @@ use lib.Seq.{get_or-set_same, get_or-set_other}
 use Rattle.base_lists.proofs.More.{contra}
 use Rattle.base_lists.proofs.Scan.{both}
 use Rattle.sheet_valves.specs.Tables.{cell_count, unfilled, empty_table, IsPlace, is_place, cell_place, valve_at, with_setting, filled_with}
-use Rattle.sheet_valves.specs.declared.Valve.TheVariants.{Unfilled, Fitted}
 use Rattle.sheet_valves.specs.declared.Cell.{Cell}
 use Rattle.sheet_valves.specs.declared.Table.{Table}
 use Rattle.sheet_valves.specs.declared.Setting.{Setting}
@@ -24,7 +24,7 @@ step_long : (t : Table) (s : Setting) → length (with_setting t s).cells ≡ le
 unfolding with_setting
 step_long t s = go (is_place s.variant s.wheel)
   where
-    go : (b : Bool) → length (cond b (record { cells = set t.cells (cell_place s.variant s.wheel) (record { valve = Fitted s.valve }) }) t).cells ≡ length t.cells
+    go : (b : Bool) → length (cond b (record { cells = set t.cells (cell_place s.variant s.wheel) (record { valve = Some s.valve }) }) t).cells ≡ length t.cells
     go true = length-set t.cells (cell_place s.variant s.wheel) _
     go false = refl
 
@@ -53,12 +53,12 @@ module _ {v w : ℕ} (p : IsPlace v w) where
   inside = omega arith
 
   -- the cell of the setting
-  step_same : (t : Table) (s : Setting) → length t.cells ≡ cell_count → is_for v w s ≡ true → valve_at (with_setting t s) v w ≡ Fitted s.valve
+  step_same : (t : Table) (s : Setting) → length t.cells ≡ cell_count → is_for v w s ≡ true → valve_at (with_setting t s) v w ≡ Some s.valve
   unfolding valve_at with_setting
   step_same t s l e =
       let z = for_both v w s e in
       rw (z.0, z.1, place_yes p)
-      (ap (λ (c : Cell). c.valve) (get_or-set_same t.cells (cell_place v w) (record { valve = Fitted s.valve }) unfilled (omega (arith, inside))))
+      (ap (λ (c : Cell). c.valve) (get_or-set_same t.cells (cell_place v w) (record { valve = Some s.valve }) unfilled (omega (arith, inside))))
 
   -- any other cell
   step_other : (t : Table) (s : Setting) → is_for v w s ≡ false → valve_at (with_setting t s) v w ≡ valve_at t v w
@@ -66,7 +66,7 @@ module _ {v w : ℕ} (p : IsPlace v w) where
   step_other t s e = go (is_place s.variant s.wheel) refl
     where
       go : (b : Bool) → is_place s.variant s.wheel ≡ b
-          → (get_or (cond b (record { cells = set t.cells (cell_place s.variant s.wheel) (record { valve = Fitted s.valve }) }) t).cells (cell_place v w) unfilled).valve
+          → (get_or (cond b (record { cells = set t.cells (cell_place s.variant s.wheel) (record { valve = Some s.valve }) }) t).cells (cell_place v w) unfilled).valve
           ≡ (get_or t.cells (cell_place v w) unfilled).valve
       go true q =
           let z = yes_place s.variant s.wheel q in
@@ -101,7 +101,7 @@ module _ {v w : ℕ} (p : IsPlace v w) where
   -- ---- "Later blocks override earlier ones of the same variant and wheel."
 
   -- the cell has the valve of the last setting for it
-  pub cell_last : {x : ℕ} {ss : List Setting} → LastFor v w x ss → valve_at (filled_with ss) v w ≡ Fitted x
+  pub cell_last : {x : ℕ} {ss : List Setting} → LastFor v w x ss → valve_at (filled_with ss) v w ≡ Some x
   unfolding filled_with
   cell_last {x} l =
       let s : Setting = record { variant = v; wheel = w; valve = x } in
@@ -110,7 +110,7 @@ module _ {v w : ℕ} (p : IsPlace v w) where
       (fold_none (with_setting t s) l.behind l.none ∙ step_same t s (fold_long empty_table l.before ∙ length-replicate cell_count unfilled) (for_it v w x))
 
   -- and is unfilled where there is none
-  pub cell_none : (ss : List Setting) → any_for v w ss ≡ false → valve_at (filled_with ss) v w ≡ Unfilled
+  pub cell_none : (ss : List Setting) → any_for v w ss ≡ false → valve_at (filled_with ss) v w ≡ None
   unfolding filled_with valve_at
   cell_none ss e = fold_none empty_table ss e ∙ ap (λ (c : Cell). c.valve) (get_or-replicate cell_count (cell_place v w) unfilled unfilled inside)
 
@@ -133,22 +133,22 @@ module _ {v w : ℕ} (p : IsPlace v w) where
           is false r f = contra _ f q
 
   -- so what the cell has says which setting was the last for it
-  pub last_cell : {x : ℕ} (ss : List Setting) → valve_at (filled_with ss) v w ≡ Fitted x → LastFor v w x ss
+  pub last_cell : {x : ℕ} (ss : List Setting) → valve_at (filled_with ss) v w ≡ Some x → LastFor v w x ss
   last_cell {x} ss e = go (any_for v w ss) refl
     where
       go : (b : Bool) → any_for v w ss ≡ b → LastFor v w x ss
       go true q =
           let z = last_split ss q in
-          let f : Fitted z.0 ≡ Fitted x = sym (cell_last z.1) ∙ e in
+          let f : Some z.0 ≡ Some x = sym (cell_last z.1) ∙ e in
           let g : z.0 ≡ x = cc in
           rw g at z.1
-      go false q = let f : Unfilled ≡ Fitted x = sym (cell_none ss q) ∙ e in let g : ◌≡◌ {A = ℕ} 0 1 = cc in absurd (omega arith)
+      go false q = let f : None ≡ Some x = sym (cell_none ss q) ∙ e in let g : ◌≡◌ {A = ℕ} 0 1 = cc in absurd (omega arith)
 
-  pub none_cell : (ss : List Setting) → valve_at (filled_with ss) v w ≡ Unfilled → any_for v w ss ≡ false
+  pub none_cell : (ss : List Setting) → valve_at (filled_with ss) v w ≡ None → any_for v w ss ≡ false
   none_cell ss e = go (any_for v w ss) refl
     where
       go : (b : Bool) → any_for v w ss ≡ b → any_for v w ss ≡ false
-      go true q = let z = last_split ss q in let f : Fitted z.0 ≡ Unfilled = sym (cell_last z.1) ∙ e in let g : ◌≡◌ {A = ℕ} 0 1 = cc in absurd (omega arith)
+      go true q = let z = last_split ss q in let f : Some z.0 ≡ None = sym (cell_last z.1) ∙ e in let g : ◌≡◌ {A = ℕ} 0 1 = cc in absurd (omega arith)
       go false q = q
 
   -- ---- "a block for one variant changes no other row"

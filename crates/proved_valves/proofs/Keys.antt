@@ -1,5 +1,6 @@
 -- The value of a key, by its rule.
 -- Assumes nothing.
+use Rattle.std.specs.Prelude.{None, Option, Some}
 use mathlib.Core.Path.{◌≡◌, refl, sym, ◌∙◌, ap}
 use mathlib.Core.Bool.{Bool, true, false, cond, not, ◌&&◌}
 use mathlib.Core.List.{List, [], ◌∷◌, ◌++◌, append-nil}
@@ -15,25 +16,24 @@ use Rattle.set_table.specs.declared.Row.{Row}
 use Rattle.set_table.specs.declared.Slot.{Slot}
 use Rattle.set_table.specs.declared.Slot.TheVariants.{Id, Class, Key}
 use Rattle.set_keyed.specs.Keyed.{slot_found, or_keyed, first_by, key_in, key_found}
-use Rattle.set_keyed.specs.declared.Keyed as keyed
-use Rattle.set_keyed.specs.declared.Keyed.TheVariants.{Missing, Given}
 use Rattle.proved_valves.specs.Keys.{slot_has, none_has, KeyedIn, KeyByRule}
+use Rattle.set_table.specs.declared.Value.{Value}
 
 module _ (t : Texts) (rs : List Row) (n : List ℕ) where
   -- a slot that isn't the key gives nothing
-  not_it : (s : Slot) → slot_has t rs n s ≡ false → slot_found t rs n s ≡ Missing
+  not_it : (s : Slot) → slot_has t rs n s ≡ false → slot_found t rs n s ≡ None
   unfolding slot_has slot_found
   not_it Id e = refl
   not_it Class e = refl
   not_it (Key k) e = rw e
 
-  it : (k : ℕ) → slot_has t rs n (Key k) ≡ true → slot_found t rs n (Key k) ≡ Given (get_or rs k zero_row).value
+  it : (k : ℕ) → slot_has t rs n (Key k) ≡ true → slot_found t rs n (Key k) ≡ Some (get_or rs k zero_row).value
   unfolding slot_has slot_found
   it k e = rw e
 
   -- ---- what is found
 
-  further : (s : Slot) (o : List Slot) {r : keyed.Keyed} → slot_has t rs n s ≡ false → KeyedIn t rs n o r → KeyedIn t rs n (s ∷ o) r
+  further : (s : Slot) (o : List Slot) {r : Option Value} → slot_has t rs n s ≡ false → KeyedIn t rs n o r → KeyedIn t rs n (s ∷ o) r
   unfolding none_has all
   further s o e (KeyedIn.missing h) = KeyedIn.missing (rw e h)
   further s o e (KeyedIn.given b k c p h q) = KeyedIn.given (s ∷ b) k c (ap (λ (l : List Slot). s ∷ l) p) (rw e h) q
@@ -56,7 +56,7 @@ module _ (t : Texts) (rs : List Row) (n : List ℕ) where
   passed [] o e = refl
   passed (s ∷ b) o e = let z = both (not (slot_has t rs n s)) (none_has t rs n b) e in rw (not_it s (not-true (slot_has t rs n s) z.0)) (passed b o z.1)
 
-  by_value : (o : List Slot) {r : keyed.Keyed} → KeyedIn t rs n o r → r ≡ first_by (slot_found t rs n) o
+  by_value : (o : List Slot) {r : Option Value} → KeyedIn t rs n o r → r ≡ first_by (slot_found t rs n) o
   unfolding first_by
   by_value o (KeyedIn.missing h) = sym (rw (append-nil o) at (passed o [] h))
   by_value o (KeyedIn.given b k c p h q) = sym (rw p (passed b (Key k ∷ c) h ∙ rw (it k q)))

@@ -1,5 +1,6 @@
 -- A number is read exactly from the digits that it is written with.
 -- Assumes nothing.
+use Rattle.std.specs.Prelude.{Some}
 use mathlib.Core.Path.{◌≡◌, refl, sym, ◌∙◌, ap}
 use mathlib.Core.Bool.{Bool, true, false, cond}
 use mathlib.Core.List.{List, [], ◌∷◌, ◌++◌, append_assoc, append-nil}
@@ -13,7 +14,6 @@ use Rattle.text_digits.specs.Decimal.{decimal}
 use Rattle.text_digits.specs.Digits.{bounded, first_digit, grown, digits_step, digits_from, digits_of, read_out, number_in}
 use Rattle.text_digits.specs.declared.Digits as state
 use Rattle.text_digits.specs.declared.Digits.TheVariants.{NoDigit, Zero, Number, Bad}
-use Rattle.text_digits.specs.declared.Decimal.TheVariants.{Is}
 use Rattle.text_digits.proofs.Steps.{digit_range}
 use Rattle.text_numbers.proofs.Numbers.{decimal-one, decimal_more, number_read}
 use Rattle.proved_valves.specs.Numbers.{IsNumber, ReadExactly}
@@ -72,24 +72,24 @@ fold_keeps most s d (b ∷ t) e = rw append_assoc at (fold_keeps most (s ++ (b �
 
 -- ---- what is read is the rule's number, and each of the rule's numbers is read
 
-pub read_is : {most n : ℕ} {s : List ℕ} → number_in most s ≡ Is n → IsNumber most s n
+pub read_is : {most n : ℕ} {s : List ℕ} → number_in most s ≡ Some n → IsNumber most s n
 unfolding number_in digits_of Means
 read_is {most} {n} {s} e = go (digits_from most NoDigit s) (fold_keeps most [] NoDigit s refl) e
   where
-    go : (d : state.Digits) → Means most s d → read_out d ≡ Is n → IsNumber most s n
+    go : (d : state.Digits) → Means most s d → read_out d ≡ Some n → IsNumber most s n
     go NoDigit m f = let g : ◌≡◌ {A = ℕ} 0 1 = cc in absurd (omega arith)
     go Zero m f = let g : 0 ≡ n = cc in record { written = m ∙ ap decimal g; within = omega arith }
     go (Number k) m f = let g : k ≡ n = cc in record { written = m.0 ∙ ap decimal g; within = omega (arith, m.1.1) }
     go Bad m f = let g : ◌≡◌ {A = ℕ} 0 1 = cc in absurd (omega arith)
 
-pub is_read : {most n : ℕ} {s : List ℕ} → IsNumber most s n → number_in most s ≡ Is n
+pub is_read : {most n : ℕ} {s : List ℕ} → IsNumber most s n → number_in most s ≡ Some n
 is_read {most} {n} h = rw h.written (number_read most n h.within)
 
 -- so no two numbers are written alike
 pub decimal_apart : (m n : ℕ) → decimal m ≡ decimal n → m ≡ n
 decimal_apart m n e =
-    let p : number_in (m + n) (decimal m) ≡ Is m = is_read (record { written = refl; within = omega arith }) in
-    let q : number_in (m + n) (decimal m) ≡ Is n = is_read (record { written = e; within = omega arith }) in
+    let p : number_in (m + n) (decimal m) ≡ Some m = is_read (record { written = refl; within = omega arith }) in
+    let q : number_in (m + n) (decimal m) ≡ Some n = is_read (record { written = e; within = omega arith }) in
     cc
 
 pub read_exactly : ReadExactly

@@ -1,5 +1,6 @@
 -- A pair is found exactly where there is one.
 -- Assumes nothing.
+use Rattle.std.specs.Prelude.{None, Option, Some}
 use mathlib.Core.Path.{◌≡◌, refl, sym, ◌∙◌, ap}
 use mathlib.Core.Bool.{Bool, true, false, cond, ◌||◌}
 use mathlib.Core.List.{List, [], ◌∷◌}
@@ -11,40 +12,38 @@ use lib.ListN.{length, get_or}
 use Rattle.base_lists.proofs.More.{contra, or_left, or_right}
 use Rattle.sheet_valves.specs.Tables.{variant_count, wheels, valve_at}
 use Rattle.sheet_valves.specs.Pairs.{one_valve, among, repeats, row_of, pair_from, first_pair}
-use Rattle.sheet_valves.specs.declared.Valve.{Valve}
-use Rattle.sheet_valves.specs.declared.Valve.TheVariants.{Unfilled, Fitted}
 use Rattle.sheet_valves.specs.declared.Table.{Table}
 use Rattle.proved_valves.specs.Pairs.{TwoWheels, FirstIs, FirstFound, PairFoundExactly}
 
 -- ---- one of the valves of a list has that of a later one
 
-record Twice (xs : List Valve) : Type 0 where
+record Twice (xs : List (Option ℕ)) : Type 0 where
   one : ℕ
   two : ℕ
   valve : ℕ
   before : one < two
   within : two < length xs
-  at_one : get_or xs one Unfilled ≡ Fitted valve
-  at_two : get_or xs two Unfilled ≡ Fitted valve
+  at_one : get_or xs one None ≡ Some valve
+  at_two : get_or xs two None ≡ Some valve
 
-record Later (x : Valve) (ys : List Valve) : Type 0 where
+record Later (x : Option ℕ) (ys : List (Option ℕ)) : Type 0 where
   two : ℕ
   valve : ℕ
   within : two < length ys
-  is : x ≡ Fitted valve
-  at_two : get_or ys two Unfilled ≡ Fitted valve
+  is : x ≡ Some valve
+  at_two : get_or ys two None ≡ Some valve
 
-one_both : (x y : Valve) → one_valve x y ≡ true → (n : ℕ) × ((x ≡ Fitted n) × (y ≡ Fitted n))
+one_both : (x y : Option ℕ) → one_valve x y ≡ true → (n : ℕ) × ((x ≡ Some n) × (y ≡ Some n))
 unfolding one_valve
-one_both Unfilled y e = contra false e refl
-one_both (Fitted a) Unfilled e = contra false e refl
-one_both (Fitted a) (Fitted b) e = (a, (refl, ap Fitted (sym (eqb-true a b e))))
+one_both None y e = contra false e refl
+one_both (Some a) None e = contra false e refl
+one_both (Some a) (Some b) e = (a, (refl, ap (λ z. Some z) (sym (eqb-true a b e))))
 
-one_of : (n : ℕ) → one_valve (Fitted n) (Fitted n) ≡ true
+one_of : (n : ℕ) → one_valve (Some n) (Some n) ≡ true
 unfolding one_valve
 one_of n = eq-eqb n n refl
 
-later : (x : Valve) (ys : List Valve) → among x ys ≡ true → Later x ys
+later : (x : Option ℕ) (ys : List (Option ℕ)) → among x ys ≡ true → Later x ys
 unfolding among
 later x [] e = contra false e refl
 later x (y ∷ ys) e = go (one_valve x y) refl e (later x ys)
@@ -53,13 +52,13 @@ later x (y ∷ ys) e = go (one_valve x y) refl e (later x ys)
     go true q f ih = let z = one_both x y q in record { two = 0; valve = z.0; within = omega arith; is = z.1.0; at_two = z.1.1 }
     go false q f ih = let z = ih f in record { two = suc z.two; valve = z.valve; within = omega (arith, z.within); is = z.is; at_two = z.at_two }
 
-found : (n : ℕ) (ys : List Valve) (j : ℕ) → j < length ys → get_or ys j Unfilled ≡ Fitted n → among (Fitted n) ys ≡ true
+found : (n : ℕ) (ys : List (Option ℕ)) (j : ℕ) → j < length ys → get_or ys j None ≡ Some n → among (Some n) ys ≡ true
 unfolding among
 found n [] j h e = absurd (omega arith)
-found n (y ∷ ys) zero h e = or_left _ _ (ap (one_valve (Fitted n)) e ∙ one_of n)
-found n (y ∷ ys) (suc j) h e = or_right (one_valve (Fitted n) y) (among (Fitted n) ys) (found n ys j (omega arith) e)
+found n (y ∷ ys) zero h e = or_left _ _ (ap (one_valve (Some n)) e ∙ one_of n)
+found n (y ∷ ys) (suc j) h e = or_right (one_valve (Some n) y) (among (Some n) ys) (found n ys j (omega arith) e)
 
-repeats_twice : (xs : List Valve) → repeats xs ≡ true → Twice xs
+repeats_twice : (xs : List (Option ℕ)) → repeats xs ≡ true → Twice xs
 unfolding repeats
 repeats_twice [] e = contra false e refl
 repeats_twice (x ∷ xs) e = go (among x xs) refl e (repeats_twice xs)
@@ -72,7 +71,7 @@ repeats_twice (x ∷ xs) e = go (among x xs) refl e (repeats_twice xs)
         let z = ih f in
         record { one = suc z.one; two = suc z.two; valve = z.valve; before = omega (arith, z.before); within = omega (arith, z.within); at_one = z.at_one; at_two = z.at_two }
 
-twice_repeats : (n : ℕ) (xs : List Valve) (i j : ℕ) → (i ≡ j → ⊥) → i < length xs → j < length xs → get_or xs i Unfilled ≡ Fitted n → get_or xs j Unfilled ≡ Fitted n → repeats xs ≡ true
+twice_repeats : (n : ℕ) (xs : List (Option ℕ)) (i j : ℕ) → (i ≡ j → ⊥) → i < length xs → j < length xs → get_or xs i None ≡ Some n → get_or xs j None ≡ Some n → repeats xs ≡ true
 unfolding repeats
 twice_repeats n [] i j d h k e f = absurd (omega arith)
 twice_repeats n (x ∷ xs) zero zero d h k e f = absurd (d refl)
@@ -82,7 +81,7 @@ twice_repeats n (x ∷ xs) (suc i) (suc j) d h k e f = or_right (among x xs) (re
 
 -- ---- a row
 
-row_at : (t : Table) (v w : ℕ) → w < wheels → get_or (row_of t v) w Unfilled ≡ valve_at t v w
+row_at : (t : Table) (v w : ℕ) → w < wheels → get_or (row_of t v) w None ≡ valve_at t v w
 unfolding row_of
 row_at t v zero h = refl
 row_at t v (suc zero) h = refl

@@ -1,5 +1,6 @@
 -- A block's setting is read exactly by the rule.
 -- Assumes nothing.
+use Rattle.std.specs.Prelude.{None, Option, Some, Err, Ok, Result}
 use mathlib.Core.Path.{◌≡◌, refl, sym, ◌∙◌, ap}
 use mathlib.Core.Bool.{Bool, true, false, cond, ◌&&◌}
 use mathlib.Core.List.{List, [], ◌∷◌}
@@ -22,22 +23,18 @@ use Rattle.proved_sets.specs.Formed.{entry_ok, wf}
 use Rattle.proved_sets.proofs.WellFormedMeans.{means_wf}
 use Rattle.text_digits.specs.Decimal.{decimal}
 use Rattle.text_digits.specs.Digits.{number_in}
-use Rattle.text_digits.specs.declared.Decimal as decimals
-use Rattle.text_digits.specs.declared.Decimal.TheVariants.{None, Is}
 use Rattle.set_keyed.specs.Keyed.{values_by, key_found}
-use Rattle.set_keyed.specs.declared.Keyed as keys
-use Rattle.set_keyed.specs.declared.Keyed.TheVariants.{Missing, Given}
 use Rattle.set_keyed.proofs.Means.{key_means}
 use Rattle.sheet_valves.specs.Tables.{variant_count, wheels, max_valve, IsPlace, is_place}
 use Rattle.sheet_valves.specs.Settings.{variant_name, wheel_name, valve_name, front_left, front_right, rear_left, rear_right, wheel_of, setting_from, settled_by, read_setting, setting_by, setting_of}
 use Rattle.sheet_valves.specs.declared.Setting.{Setting}
-use Rattle.sheet_valves.specs.declared.Heard as heards
-use Rattle.sheet_valves.specs.declared.Heard.TheVariants.{NoKey, Refused, Set}
 use Rattle.sheet_valves.proofs.Cells.{yes_place}
 use Rattle.sheet_valves.proofs.Settings.{settled_in, only_bad}
 use Rattle.sheet_valves.proofs.Settings as settings
 use Rattle.proved_valves.specs.Settings.{wheel_names, Counts, Silent, CountsExactly, PassedOver, RefusedElse, NameOnce}
 use Rattle.proved_valves.proofs.Numbers.{read_is, is_read}
+use Rattle.set_table.specs.declared.Value.{Value}
+use Rattle.base_refusals.specs.declared.Refusal.{Refusal}
 
 -- ---- the wheel's name
 
@@ -64,7 +61,7 @@ name_wheel (suc (suc (suc (suc w)))) h = absurd (omega arith)
 -- ---- the setting
 
 -- what counts is read
-pub counts_set : {m : List Entry} {s : Setting} → Counts m s → setting_of m ≡ Set s
+pub counts_set : {m : List Entry} {s : Setting} → Counts m s → setting_of m ≡ Ok (Some s)
 unfolding setting_of setting_by read_setting
 counts_set {m} {s} p =
     rw (p.variant_key, p.wheel_key, p.valve_key, name_wheel s.wheel p.place.wheel, is_read {most = variant_count} {n = s.variant} (record { written = refl; within = p.place.last }), is_read {most = max_valve} {n = s.valve} (record { written = refl; within = p.valve_range }))
@@ -78,31 +75,31 @@ record Three (v w x : List ℕ) (s : Setting) : Type 0 where
   wheel_is : w ≡ get_or wheel_names s.wheel []
   valve_is : x ≡ decimal s.valve
 
-read_three : (v w x : List ℕ) (s : Setting) → read_setting v w x ≡ Set s → Three v w x s
+read_three : (v w x : List ℕ) (s : Setting) → read_setting v w x ≡ Ok (Some s) → Three v w x s
 unfolding read_setting setting_from
 read_three v w x s e = go (number_in variant_count v) refl (number_in max_valve x) refl e
   where
-    here : (k n : ℕ) → number_in variant_count v ≡ Is k → number_in max_valve x ≡ Is n → (b : Bool) → is_place k (wheel_of w) ≡ b → cond b (Set (record { variant = k; wheel = wheel_of w; valve = n })) (Refused BadSetting) ≡ Set s → Three v w x s
+    here : (k n : ℕ) → number_in variant_count v ≡ Some k → number_in max_valve x ≡ Some n → (b : Bool) → is_place k (wheel_of w) ≡ b → cond b (Ok (Some (record { variant = k; wheel = wheel_of w; valve = n }))) (Err BadSetting) ≡ Ok (Some s) → Three v w x s
     here k n p q true y f =
         let z : record { variant = k; wheel = wheel_of w; valve = n } ≡ s = cc in
         let i = yes_place k (wheel_of w) y in
         rw (← z) (record { place = i; range = (read_is q).within; variant_is = (read_is p).written; wheel_is = wheel_name_lem w i.wheel; valve_is = (read_is q).written })
     here k n p q false y f = let z : ◌≡◌ {A = ℕ} 0 1 = cc in absurd (omega arith)
 
-    go : (a : decimals.Decimal) → number_in variant_count v ≡ a → (c : decimals.Decimal) → number_in max_valve x ≡ c → settled_by a (wheel_of w) c ≡ Set s → Three v w x s
+    go : (a : Option ℕ) → number_in variant_count v ≡ a → (c : Option ℕ) → number_in max_valve x ≡ c → settled_by a (wheel_of w) c ≡ Ok (Some s) → Three v w x s
     go None p c q f = let z : ◌≡◌ {A = ℕ} 0 1 = cc in absurd (omega arith)
-    go (Is k) p None q f = let z : ◌≡◌ {A = ℕ} 0 1 = cc in absurd (omega arith)
-    go (Is k) p (Is n) q f = here k n p q (is_place k (wheel_of w)) refl f
+    go (Some k) p None q f = let z : ◌≡◌ {A = ℕ} 0 1 = cc in absurd (omega arith)
+    go (Some k) p (Some n) q f = here k n p q (is_place k (wheel_of w)) refl f
 
-by_three : (t : Texts) (m : List Entry) (s : Setting) (a b c : keys.Keyed) → values_by t a ≡ lookup variant_name m → values_by t b ≡ lookup wheel_name m → values_by t c ≡ lookup valve_name m
-    → setting_by (values_by t a) (values_by t b) (values_by t c) ≡ Set s → Counts m s
+by_three : (t : Texts) (m : List Entry) (s : Setting) (a b c : Option Value) → values_by t a ≡ lookup variant_name m → values_by t b ≡ lookup wheel_name m → values_by t c ≡ lookup valve_name m
+    → setting_by (values_by t a) (values_by t b) (values_by t c) ≡ Ok (Some s) → Counts m s
 unfolding setting_by
-by_three t m s Missing Missing Missing p q r e = let z : ◌≡◌ {A = ℕ} 0 1 = cc in absurd (omega arith)
-by_three t m s Missing Missing (Given x) p q r e = let z : ◌≡◌ {A = ℕ} 0 1 = cc in absurd (omega arith)
-by_three t m s Missing (Given w) c p q r e = let z : ◌≡◌ {A = ℕ} 0 1 = cc in absurd (omega arith)
-by_three t m s (Given v) Missing c p q r e = let z : ◌≡◌ {A = ℕ} 0 1 = cc in absurd (omega arith)
-by_three t m s (Given v) (Given w) Missing p q r e = let z : ◌≡◌ {A = ℕ} 0 1 = cc in absurd (omega arith)
-by_three t m s (Given v) (Given w) (Given x) p q r e =
+by_three t m s None None None p q r e = let z : ◌≡◌ {A = ℕ} 0 1 = cc in absurd (omega arith)
+by_three t m s None None (Some x) p q r e = let z : ◌≡◌ {A = ℕ} 0 1 = cc in absurd (omega arith)
+by_three t m s None (Some w) c p q r e = let z : ◌≡◌ {A = ℕ} 0 1 = cc in absurd (omega arith)
+by_three t m s (Some v) None c p q r e = let z : ◌≡◌ {A = ℕ} 0 1 = cc in absurd (omega arith)
+by_three t m s (Some v) (Some w) None p q r e = let z : ◌≡◌ {A = ℕ} 0 1 = cc in absurd (omega arith)
+by_three t m s (Some v) (Some w) (Some x) p q r e =
     let z = read_three (value_bytes t v) (value_bytes t w) (value_bytes t x) s e in
     record {
       place = z.place;
@@ -112,30 +109,30 @@ by_three t m s (Given v) (Given w) (Given x) p q r e =
       valve_key = sym r ∙ ap (λ (l : List ℕ). l ∷ []) z.valve_is;
     }
 
-pub set_counts : (t : Texts) (a : Attrs) {s : Setting} → setting_of (meaning_of t a) ≡ Set s → Counts (meaning_of t a) s
+pub set_counts : (t : Texts) (a : Attrs) {s : Setting} → setting_of (meaning_of t a) ≡ Ok (Some s) → Counts (meaning_of t a) s
 unfolding is_free same
 set_counts t a {s} e =
     by_three t (meaning_of t a) s (key_found t a variant_name) (key_found t a wheel_name) (key_found t a valve_name) (key_means t a variant_name refl) (key_means t a wheel_name refl) (key_means t a valve_name refl) (settings.found t a ∙ e)
 
 -- a block is passed over exactly if it has none of the three keys
-pub silent_nothing : {m : List Entry} → Silent m → setting_of m ≡ NoKey
+pub silent_nothing : {m : List Entry} → Silent m → setting_of m ≡ Ok None
 unfolding setting_of setting_by
 silent_nothing p = rw (p.no_variant, p.no_wheel, p.no_valve)
 
-pub nothing_silent : (m : List Entry) → setting_of m ≡ NoKey → Silent m
+pub nothing_silent : (m : List Entry) → setting_of m ≡ Ok None → Silent m
 unfolding setting_of setting_by read_setting setting_from
 nothing_silent m e = go (lookup variant_name m) refl (lookup wheel_name m) refl (lookup valve_name m) refl e
   where
-    no : (b : Bool) (s : Setting) → cond b (Set s) (Refused BadSetting) ≡ NoKey → Silent m
+    no : (b : Bool) (s : Setting) → cond b (Ok (Some s)) (Err BadSetting) ≡ Ok None → Silent m
     no true s f = let z : ◌≡◌ {A = ℕ} 0 1 = cc in absurd (omega arith)
     no false s f = let z : ◌≡◌ {A = ℕ} 0 1 = cc in absurd (omega arith)
 
-    never : (a : decimals.Decimal) (w : ℕ) (c : decimals.Decimal) → settled_by a w c ≡ NoKey → Silent m
+    never : (a : Option ℕ) (w : ℕ) (c : Option ℕ) → settled_by a w c ≡ Ok None → Silent m
     never None w c f = let z : ◌≡◌ {A = ℕ} 0 1 = cc in absurd (omega arith)
-    never (Is v) w None f = let z : ◌≡◌ {A = ℕ} 0 1 = cc in absurd (omega arith)
-    never (Is v) w (Is x) f = no (is_place v w) (record { variant = v; wheel = w; valve = x }) f
+    never (Some v) w None f = let z : ◌≡◌ {A = ℕ} 0 1 = cc in absurd (omega arith)
+    never (Some v) w (Some x) f = no (is_place v w) (record { variant = v; wheel = w; valve = x }) f
 
-    go : (a : List (List ℕ)) → lookup variant_name m ≡ a → (b : List (List ℕ)) → lookup wheel_name m ≡ b → (c : List (List ℕ)) → lookup valve_name m ≡ c → setting_by a b c ≡ NoKey → Silent m
+    go : (a : List (List ℕ)) → lookup variant_name m ≡ a → (b : List (List ℕ)) → lookup wheel_name m ≡ b → (c : List (List ℕ)) → lookup valve_name m ≡ c → setting_by a b c ≡ Ok None → Silent m
     go [] p [] q [] r f = record { no_variant = p; no_wheel = q; no_valve = r }
     go [] p [] q (x ∷ xs) r f = let z : ◌≡◌ {A = ℕ} 0 1 = cc in absurd (omega arith)
     go [] p (w ∷ ws) q c r f = let z : ◌≡◌ {A = ℕ} 0 1 = cc in absurd (omega arith)
@@ -154,10 +151,10 @@ passed_over m = (nothing_silent m, silent_nothing)
 pub refused_else : RefusedElse
 refused_else t a n c = go (setting_of (meaning_of t a)) refl
   where
-    go : (h : heards.Heard) → setting_of (meaning_of t a) ≡ h → setting_of (meaning_of t a) ≡ Refused BadSetting
-    go NoKey e = absurd (n (nothing_silent (meaning_of t a) e))
-    go (Refused r) e = e ∙ ap Refused (only_bad (meaning_of t a) e)
-    go (Set s) e = absurd (c s (set_counts t a e))
+    go : (h : Result (Option Setting) Refusal) → setting_of (meaning_of t a) ≡ h → setting_of (meaning_of t a) ≡ Err BadSetting
+    go (Ok None) e = absurd (n (nothing_silent (meaning_of t a) e))
+    go (Err r) e = e ∙ ap (λ z. Err z) (only_bad (meaning_of t a) e)
+    go (Ok (Some s)) e = absurd (c s (set_counts t a e))
 
 pub name_once : NameOnce
 unfolding well_formed wf

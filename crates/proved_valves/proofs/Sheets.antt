@@ -1,5 +1,6 @@
 -- The whole sheet: its table is that of its settings, 21 is told exactly where a pair is in it, and a block for one variant changes no other row.
 -- Assumes nothing.
+use Rattle.std.specs.Prelude.{Err, None, Ok, Result, Some, Option}
 use mathlib.Core.Path.{◌≡◌, refl, sym, ◌∙◌, ap}
 use mathlib.Core.Bool.{Bool, true, false, cond, not, ◌&&◌}
 use mathlib.Core.List.{List, [], ◌∷◌, ◌++◌, map, foldl, flat_map}
@@ -12,12 +13,10 @@ use Rattle.base_lists.specs.Lists.{all, is_in}
 use Rattle.base_lists.proofs.Flat.{flat_append}
 use Rattle.base_lists.proofs.More.{contra, all_parts}
 use Rattle.base_lists.proofs.Scan.{both, all_append}
-use Rattle.base_refusals.specs.Numbers.{max_text, too_long, number_of}
+use Rattle.base_refusals.specs.Numbers.{max_text, too_long, number_of, refused}
 use Rattle.base_refusals.specs.Orders.{in_order}
 use Rattle.base_refusals.specs.declared.Refusal.{Refusal}
 use Rattle.base_refusals.specs.declared.Refusal.TheVariants.{TextTooLong, NotUtf8, JoinFull, BadSetting, SharedValve}
-use Rattle.base_refusals.specs.declared.Outcome as outcomes
-use Rattle.base_refusals.specs.declared.Outcome.TheVariants.{Passed, Refused}
 use Rattle.text_utf8.specs.Computed.{is_utf8}
 use Rattle.text_checks.specs.Check.{check_of}
 use Rattle.text_checks.proofs.Texts.{text_short, passed}
@@ -31,10 +30,7 @@ use Rattle.sheet_valves.specs.Tables.{max_valve, empty_table, valve_at, with_set
 use Rattle.sheet_valves.specs.Settings.{setting_of}
 use Rattle.sheet_valves.specs.Pairs.{first_pair}
 use Rattle.sheet_valves.specs.declared.Table.{Table}
-use Rattle.sheet_valves.specs.declared.Valve.TheVariants.{Unfilled, Fitted}
 use Rattle.sheet_valves.specs.declared.Setting.{Setting}
-use Rattle.sheet_valves.specs.declared.Heard as heards
-use Rattle.sheet_valves.specs.declared.Heard.TheVariants as hear
 use Rattle.sheet_valves.proofs.Settings.{only_bad}
 use Rattle.sheet_variants.specs.Variants.{heard_by, heard, whole_by, whole_table, heard_then, variants_from, is_stop, variants_in, variants_by, variants_of, setting_in, settings_of, sheet_table}
 use Rattle.proved_sheets.specs.Order.{InOrder}
@@ -54,12 +50,12 @@ unfolding variants_from settings_of flat_map all
 from t [] u e = refl
 from t (x ∷ xs) u e = go (heard t x) e (from t xs)
   where
-    go : (h : heards.Heard) → (not (is_stop h) && all (λ x. not (is_stop (heard t x))) xs) ≡ true
+    go : (h : Result (Option Setting) Refusal) → (not (is_stop h) && all (λ x. not (is_stop (heard t x))) xs) ≡ true
         → ((y : Table) → all (λ x. not (is_stop (heard t x))) xs ≡ true → variants_from t y xs ≡ whole_table (foldl with_setting y (settings_of t xs)))
         → heard_then x h u (λ y. variants_from t y xs) ≡ whole_table (foldl with_setting u (setting_in h ++ settings_of t xs))
-    go (hear.Refused r) f ih = contra false f refl
-    go hear.NoKey f ih = ih u f
-    go (hear.Set s) f ih = ih (with_setting u s) f
+    go (Err r) f ih = contra false f refl
+    go (Ok None) f ih = ih u f
+    go (Ok (Some s)) f ih = ih (with_setting u s) f
 
 whole : {t : List ℕ} {cap : ℕ} → NothingElse t cap → variants_of t cap ≡ whole_table (sheet_table t)
 unfolding variants_of variants_in sheet_table filled_with
@@ -67,11 +63,11 @@ whole {t} {cap} n = rw (n.text, le-ltb cap max_text n.join) (from t (blocks_of t
 
 -- ---- what is told at the end
 
-pair_told : (u : Table) (v : ℕ) → (whole_by u v).outcome ≡ Refused SharedValve → v ≡ 0 → ⊥
+pair_told : (u : Table) (v : ℕ) → (whole_by u v).outcome ≡ Err SharedValve → v ≡ 0 → ⊥
 pair_told u zero e z = let y : ◌≡◌ {A = ℕ} 0 1 = cc in omega arith
 pair_told u (suc v) e z = omega arith
 
-told_pair : (u : Table) (v : ℕ) → (v ≡ 0 → ⊥) → (whole_by u v).outcome ≡ Refused SharedValve
+told_pair : (u : Table) (v : ℕ) → (v ≡ 0 → ⊥) → (whole_by u v).outcome ≡ Err SharedValve
 told_pair u zero n = absurd (n refl)
 told_pair u (suc v) n = refl
 
@@ -85,7 +81,7 @@ first_named t cap n = let u : Table = sheet_table t in rw (ap (λ r. r.variant) 
 
 -- ---- 21 is told of no block: a block is refused by 6, 7 or 20
 
-limited_not : is_limited (Refused SharedValve) ≡ false
+limited_not : is_limited (Err SharedValve) ≡ false
 unfolding is_in number_of
 limited_not = refl
 
@@ -94,7 +90,7 @@ module _ (t : List ℕ) (k : length t ≤ max_text) where
   unfolding block_of
   limited_at x f b = ap (λ g. is_limited (filled_found t x.at g).outcome) f ∙ block_limited t max_text x.at k (ap is_block (sym f) ∙ b)
 
-  not_shared : (x : Try) → x.found ≡ flush_left t max_text x.at → is_block x.found ≡ true → heard t x ≡ hear.Refused SharedValve → ⊥
+  not_shared : (x : Try) → x.found ≡ flush_left t max_text x.at → is_block x.found ≡ true → heard t x ≡ Err SharedValve → ⊥
   unfolding heard
   not_shared x f b = by_outcome (filled_found t x.at x.found).outcome refl
     where
@@ -104,57 +100,57 @@ module _ (t : List ℕ) (k : length t ≤ max_text) where
       a : Attrs
       a = (filled_found t x.at x.found).set
 
-      by_outcome : (o : outcomes.Outcome) → (filled_found t x.at x.found).outcome ≡ o → heard_by T a o ≡ hear.Refused SharedValve → ⊥
-      by_outcome (Refused r) q e = let z : r ≡ SharedValve = cc in contra (is_limited (filled_found t x.at x.found).outcome) (limited_at x f b) (ap is_limited (q ∙ ap Refused z) ∙ limited_not)
-      by_outcome Passed q e = let y : SharedValve ≡ BadSetting = only_bad (meaning_of T a) e in let z : ◌≡◌ {A = ℕ} 0 1 = cc in omega arith
+      by_outcome : (o : Result (Unit {0}) Refusal) → (filled_found t x.at x.found).outcome ≡ o → heard_by T a o ≡ Err SharedValve → ⊥
+      by_outcome (Err r) q e = let z : r ≡ SharedValve = cc in contra (is_limited (filled_found t x.at x.found).outcome) (limited_at x f b) (ap is_limited (q ∙ ap (λ z. Err z) z) ∙ limited_not)
+      by_outcome (Ok _) q e = let y : SharedValve ≡ BadSetting = only_bad (meaning_of T a) e in let z : ◌≡◌ {A = ℕ} 0 1 = cc in omega arith
 
-  from_shared : (xs : List Try) (n at : ℕ) → InOrder t max_text n at xs → (u : Table) → (variants_from t u xs).outcome ≡ Refused SharedValve → all (λ x. not (is_stop (heard t x))) xs ≡ true
+  from_shared : (xs : List Try) (n at : ℕ) → InOrder t max_text n at xs → (u : Table) → (variants_from t u xs).outcome ≡ Err SharedValve → all (λ x. not (is_stop (heard t x))) xs ≡ true
   unfolding variants_from all InOrder
   from_shared [] n at i u e = refl
   from_shared (x ∷ xs) n at i u e = go (heard t x) refl e (from_shared xs _ _ i.1)
     where
-      go : (h : heards.Heard) → heard t x ≡ h → (heard_then x h u (λ y. variants_from t y xs)).outcome ≡ Refused SharedValve
-          → ((y : Table) → (variants_from t y xs).outcome ≡ Refused SharedValve → all (λ x. not (is_stop (heard t x))) xs ≡ true)
+      go : (h : Result (Option Setting) Refusal) → heard t x ≡ h → (heard_then x h u (λ y. variants_from t y xs)).outcome ≡ Err SharedValve
+          → ((y : Table) → (variants_from t y xs).outcome ≡ Err SharedValve → all (λ x. not (is_stop (heard t x))) xs ≡ true)
           → (not (is_stop h) && all (λ x. not (is_stop (heard t x))) xs) ≡ true
-      go (hear.Refused r) q f ih = let z : r ≡ SharedValve = cc in absurd (not_shared x i.0.found i.0.is (q ∙ ap hear.Refused z))
-      go hear.NoKey q f ih = ih u f
-      go (hear.Set s) q f ih = ih (with_setting u s) f
+      go (Err r) q f ih = let z : r ≡ SharedValve = cc in absurd (not_shared x i.0.found i.0.is (q ∙ ap (λ z. Err z) z))
+      go (Ok None) q f ih = ih u f
+      go (Ok (Some s)) q f ih = ih (with_setting u s) f
 
 -- ---- nothing else is refused where a table is handed out, or 21 is told
 
-from_passed : (t : List ℕ) (xs : List Try) (u : Table) → (variants_from t u xs).outcome ≡ Passed → all (λ x. not (is_stop (heard t x))) xs ≡ true
+from_passed : (t : List ℕ) (xs : List Try) (u : Table) → (variants_from t u xs).outcome ≡ Ok tt → all (λ x. not (is_stop (heard t x))) xs ≡ true
 unfolding variants_from all
 from_passed t [] u e = refl
 from_passed t (x ∷ xs) u e = go (heard t x) e (from_passed t xs)
   where
-    go : (h : heards.Heard) → (heard_then x h u (λ y. variants_from t y xs)).outcome ≡ Passed → ((y : Table) → (variants_from t y xs).outcome ≡ Passed → all (λ x. not (is_stop (heard t x))) xs ≡ true)
+    go : (h : Result (Option Setting) Refusal) → (heard_then x h u (λ y. variants_from t y xs)).outcome ≡ Ok tt → ((y : Table) → (variants_from t y xs).outcome ≡ Ok tt → all (λ x. not (is_stop (heard t x))) xs ≡ true)
         → (not (is_stop h) && all (λ x. not (is_stop (heard t x))) xs) ≡ true
-    go (hear.Refused r) f ih = let z : ◌≡◌ {A = ℕ} 0 1 = cc in absurd (omega arith)
-    go hear.NoKey f ih = ih u f
-    go (hear.Set s) f ih = ih (with_setting u s) f
+    go (Err r) f ih = let z : ◌≡◌ {A = ℕ} 0 1 = cc in absurd (omega arith)
+    go (Ok None) f ih = ih u f
+    go (Ok (Some s)) f ih = ih (with_setting u s) f
 
-nothing_else : (t : List ℕ) (cap : ℕ) (o : outcomes.Outcome) → (o ≡ Refused JoinFull → ⊥) → ((r : Refusal) → check_of t ≡ Refused r → o ≡ Refused r → ⊥)
+nothing_else : (t : List ℕ) (cap : ℕ) (o : Result (Unit {0}) Refusal) → (o ≡ Err JoinFull → ⊥) → ((r : Refusal) → check_of t ≡ Err r → o ≡ Err r → ⊥)
     → (length t ≤ max_text → (variants_from t empty_table (blocks_of t)).outcome ≡ o → all (λ x. not (is_stop (heard t x))) (blocks_of t) ≡ true) → (variants_of t cap).outcome ≡ o → NothingElse t cap
 unfolding variants_of variants_in
 nothing_else t cap o j c w e = go (check_of t) refl (ltb cap max_text) refl e
   where
-    go : (d : outcomes.Outcome) → check_of t ≡ d → (b : Bool) → ltb cap max_text ≡ b → (variants_by t cap d).outcome ≡ o → NothingElse t cap
-    go (Refused r) p b q f = absurd (c r p (sym f))
-    go Passed p true q f = absurd (j (sym (rw q at f)))
-    go Passed p false q f = record { text = p; join = ltb-false cap max_text q; blocks = w (text_short t (sym (passed t (sym p) refl))) (rw q at f) }
+    go : (d : Result (Unit {0}) Refusal) → check_of t ≡ d → (b : Bool) → ltb cap max_text ≡ b → (variants_by t cap d).outcome ≡ o → NothingElse t cap
+    go (Err r) p b q f = absurd (c r p (sym f))
+    go (Ok _) p true q f = absurd (j (sym (rw q at f)))
+    go (Ok _) p false q f = record { text = p; join = ltb-false cap max_text q; blocks = w (text_short t (sym (passed t (sym p) refl))) (rw q at f) }
 
-check_shared : (t : List ℕ) (r : Refusal) → check_of t ≡ Refused r → Refused SharedValve ≡ Refused r → ⊥
+check_shared : (t : List ℕ) (r : Refusal) → check_of t ≡ Err r → refused SharedValve ≡ Err r → ⊥
 unfolding check_of in_order
 check_shared t r e f = go (too_long t) (is_utf8 t) (e ∙ sym f)
   where
-    go : (x y : Bool) → cond x (Refused TextTooLong) (cond y Passed (Refused NotUtf8)) ≡ Refused SharedValve → ⊥
+    go : (x y : Bool) → cond {A = Result (Unit {0}) Refusal} x (Err TextTooLong) (cond y (Ok tt) (Err NotUtf8)) ≡ Err SharedValve → ⊥
     go true y e = let z : ◌≡◌ {A = ℕ} 0 1 = cc in omega arith
     go false true e = let z : ◌≡◌ {A = ℕ} 0 1 = cc in omega arith
     go false false e = let z : ◌≡◌ {A = ℕ} 0 1 = cc in omega arith
 
-shared_else : (t : List ℕ) (cap : ℕ) → (variants_of t cap).outcome ≡ Refused SharedValve → NothingElse t cap
+shared_else : (t : List ℕ) (cap : ℕ) → (variants_of t cap).outcome ≡ Err SharedValve → NothingElse t cap
 shared_else t cap =
-    nothing_else t cap (Refused SharedValve) (λ f. let z : ◌≡◌ {A = ℕ} 0 1 = cc in omega arith) (λ r. check_shared t r)
+    nothing_else t cap (Err SharedValve) (λ f. let z : ◌≡◌ {A = ℕ} 0 1 = cc in omega arith) (λ r. check_shared t r)
     (λ k. from_shared t k (blocks_of t) 1 0 (sheet_in_order t k) empty_table)
 
 pub pair_exactly : PairExactly
@@ -165,11 +161,11 @@ pair_exactly t cap =
       λ n p. ap (λ r. r.outcome) (whole n) ∙ told_pair u (first_pair u) ((pair_found_exactly u).0 p),
     )
 
-passed_told : (u : Table) (v : ℕ) → (whole_by u v).outcome ≡ Passed → (v ≡ 0) × ((whole_by u v).table ≡ u)
+passed_told : (u : Table) (v : ℕ) → (whole_by u v).outcome ≡ Ok tt → (v ≡ 0) × ((whole_by u v).table ≡ u)
 passed_told u zero e = (refl, refl)
 passed_told u (suc v) e = let z : ◌≡◌ {A = ℕ} 0 1 = cc in absurd (omega arith)
 
-told_passed : (u : Table) (v : ℕ) → ((v ≡ 0 → ⊥) → ⊥) → (whole_by u v).outcome ≡ Passed
+told_passed : (u : Table) (v : ℕ) → ((v ≡ 0 → ⊥) → ⊥) → (whole_by u v).outcome ≡ Ok tt
 told_passed u zero n = refl
 told_passed u (suc v) n = absurd (n (λ z. omega arith))
 
@@ -177,37 +173,37 @@ pub handed_whole : HandedWhole
 unfolding whole_table
 handed_whole t cap =
     let u : Table = sheet_table t in (
-      λ e. let n = nothing_else t cap Passed (λ f. let z : ◌≡◌ {A = ℕ} 0 1 = cc in omega arith) (λ r f g. let z : ◌≡◌ {A = ℕ} 0 1 = cc in omega arith) (λ k. from_passed t (blocks_of t) empty_table) e in let z = passed_told u (first_pair u) (ap (λ r. r.outcome) (sym (whole n)) ∙ e) in
+      λ e. let n = nothing_else t cap (Ok tt) (λ f. let z : ◌≡◌ {A = ℕ} 0 1 = cc in omega arith) (λ r f g. let z : ◌≡◌ {A = ℕ} 0 1 = cc in omega arith) (λ k. from_passed t (blocks_of t) empty_table) e in let z = passed_told u (first_pair u) (ap (λ r. r.outcome) (sym (whole n)) ∙ e) in
           record { else = n; is = ap (λ r. r.table) (whole n) ∙ z.1; none = λ p. (pair_found_exactly u).0 p z.0 },
       λ n h. ap (λ r. r.outcome) (whole n) ∙ told_passed u (first_pair u) (λ f. h ((pair_found_exactly u).1 f)),
     )
 
 -- ---- "A refusal hands out no table."
 
-from_none : (t : List ℕ) (xs : List Try) (u : Table) (r : Refusal) → (variants_from t u xs).outcome ≡ Refused r → (variants_from t u xs).table ≡ empty_table
+from_none : (t : List ℕ) (xs : List Try) (u : Table) (r : Refusal) → (variants_from t u xs).outcome ≡ Err r → (variants_from t u xs).table ≡ empty_table
 unfolding variants_from whole_table
 from_none t [] u r e = go (first_pair u) e
   where
-    go : (v : ℕ) → (whole_by u v).outcome ≡ Refused r → (whole_by u v).table ≡ empty_table
+    go : (v : ℕ) → (whole_by u v).outcome ≡ Err r → (whole_by u v).table ≡ empty_table
     go zero f = let z : ◌≡◌ {A = ℕ} 0 1 = cc in absurd (omega arith)
     go (suc v) f = refl
 from_none t (x ∷ xs) u r e = go (heard t x) e (from_none t xs)
   where
-    go : (h : heards.Heard) → (heard_then x h u (λ y. variants_from t y xs)).outcome ≡ Refused r
-        → ((y : Table) (q : Refusal) → (variants_from t y xs).outcome ≡ Refused q → (variants_from t y xs).table ≡ empty_table)
+    go : (h : Result (Option Setting) Refusal) → (heard_then x h u (λ y. variants_from t y xs)).outcome ≡ Err r
+        → ((y : Table) (q : Refusal) → (variants_from t y xs).outcome ≡ Err q → (variants_from t y xs).table ≡ empty_table)
         → (heard_then x h u (λ y. variants_from t y xs)).table ≡ empty_table
-    go (hear.Refused q) f ih = refl
-    go hear.NoKey f ih = ih u r f
-    go (hear.Set s) f ih = ih (with_setting u s) r f
+    go (Err q) f ih = refl
+    go (Ok None) f ih = ih u r f
+    go (Ok (Some s)) f ih = ih (with_setting u s) r f
 
 pub none_refused : NoneRefused
 unfolding variants_of variants_in
 none_refused t cap r e = go (check_of t) (ltb cap max_text) refl e
   where
-    go : (c : outcomes.Outcome) (b : Bool) → ltb cap max_text ≡ b → (variants_by t cap c).outcome ≡ Refused r → (variants_by t cap c).table ≡ empty_table
-    go (Refused q) b p f = refl
-    go Passed true p f = rw p
-    go Passed false p f = rw p (from_none t (blocks_of t) empty_table r (rw p at f))
+    go : (c : Result (Unit {0}) Refusal) (b : Bool) → ltb cap max_text ≡ b → (variants_by t cap c).outcome ≡ Err r → (variants_by t cap c).table ≡ empty_table
+    go (Err q) b p f = refl
+    go (Ok _) true p f = rw p
+    go (Ok _) false p f = rw p (from_none t (blocks_of t) empty_table r (rw p at f))
 
 -- ---- the last block counts
 
@@ -231,10 +227,10 @@ module _ (t : List ℕ) (v w : ℕ) where
       is s true r f q = let z = for_both v w s r in rw (← z.0, ← z.1)
       is s false r f q = contra _ f q
 
-      here : (h : heards.Heard) → heard t y ≡ h → any_for v w (setting_in h ++ settings_of t ys) ≡ true → any_for v w (settings_of t ys) ≡ false → (x : ℕ) × LastBlock t (y ∷ ys) v w x
-      here (hear.Refused r) k f q = contra _ f q
-      here hear.NoKey k f q = contra _ f q
-      here (hear.Set s) k f q = (s.valve, record { before = []; block = y; behind = ys; split = refl; says = k ∙ ap hear.Set (is s (is_for v w s) refl f q); none = q })
+      here : (h : Result (Option Setting) Refusal) → heard t y ≡ h → any_for v w (setting_in h ++ settings_of t ys) ≡ true → any_for v w (settings_of t ys) ≡ false → (x : ℕ) × LastBlock t (y ∷ ys) v w x
+      here (Err r) k f q = contra _ f q
+      here (Ok None) k f q = contra _ f q
+      here (Ok (Some s)) k f q = (s.valve, record { before = []; block = y; behind = ys; split = refl; says = k ∙ ap (λ z. Ok (Some z)) (is s (is_for v w s) refl f q); none = q })
 
       go : (b : Bool) → any_for v w (settings_of t ys) ≡ b → (any_for v w (settings_of t ys) ≡ true → (x : ℕ) × LastBlock t ys v w x) → (x : ℕ) × LastBlock t (y ∷ ys) v w x
       go true q ih =
@@ -246,13 +242,13 @@ pub last_block_counts : LastBlockCounts
 unfolding sheet_table
 last_block_counts t v w p x = (λ l. cell_last p (last_of t v w (blocks_of t) l), λ e. go (any_for v w (settings_of t (blocks_of t))) refl e)
   where
-    go : (b : Bool) → any_for v w (settings_of t (blocks_of t)) ≡ b → valve_at (filled_with (settings_of t (blocks_of t))) v w ≡ Fitted x → LastBlock t (blocks_of t) v w x
+    go : (b : Bool) → any_for v w (settings_of t (blocks_of t)) ≡ b → valve_at (filled_with (settings_of t (blocks_of t))) v w ≡ Some x → LastBlock t (blocks_of t) v w x
     go true q e =
         let z = last_there t v w (blocks_of t) q in
-        let f : Fitted z.0 ≡ Fitted x = sym (cell_last p (last_of t v w (blocks_of t) z.1)) ∙ e in
+        let f : Some z.0 ≡ Some x = sym (cell_last p (last_of t v w (blocks_of t) z.1)) ∙ e in
         let g : z.0 ≡ x = cc in
         rw g at z.1
-    go false q e = let f : Unfilled ≡ Fitted x = sym (cell_none p (settings_of t (blocks_of t)) q) ∙ e in let g : ◌≡◌ {A = ℕ} 0 1 = cc in absurd (omega arith)
+    go false q e = let f : None ≡ Some x = sym (cell_none p (settings_of t (blocks_of t)) q) ∙ e in let g : ◌≡◌ {A = ℕ} 0 1 = cc in absurd (omega arith)
 
 pub no_block_unfilled : NoBlockUnfilled
 unfolding sheet_table
@@ -276,14 +272,14 @@ ranged t (x ∷ xs) = all_append (λ s. leb s.valve max_valve) (setting_in (hear
     a : Attrs
     a = (filled_found t x.at x.found).set
 
-    by_setting : (h : heards.Heard) → setting_of (meaning_of T a) ≡ h → all (λ s. leb s.valve max_valve) (setting_in h) ≡ true
-    by_setting (hear.Refused r) e = refl
-    by_setting hear.NoKey e = refl
-    by_setting (hear.Set s) e = rw (le-leb s.valve max_valve (set_counts T a e).valve_range)
+    by_setting : (h : Result (Option Setting) Refusal) → setting_of (meaning_of T a) ≡ h → all (λ s. leb s.valve max_valve) (setting_in h) ≡ true
+    by_setting (Err r) e = refl
+    by_setting (Ok None) e = refl
+    by_setting (Ok (Some s)) e = rw (le-leb s.valve max_valve (set_counts T a e).valve_range)
 
-    by_outcome : (o : outcomes.Outcome) → all (λ s. leb s.valve max_valve) (setting_in (heard_by T a o)) ≡ true
-    by_outcome (Refused r) = refl
-    by_outcome Passed = by_setting (setting_of (meaning_of T a)) refl
+    by_outcome : (o : Result (Unit {0}) Refusal) → all (λ s. leb s.valve max_valve) (setting_in (heard_by T a o)) ≡ true
+    by_outcome (Err r) = refl
+    by_outcome (Ok _) = by_setting (setting_of (meaning_of T a)) refl
 
 pub in_range : InRange
 unfolding sheet_table all
@@ -297,10 +293,10 @@ in_range t v w x p e =
 pub other_rows_stay : OtherRowsStay
 unfolding sheet_table flat_map
 other_rows_stay t u s m v w p n =
-    rw (by_heard t (blocks_of t), by_heard u (blocks_of u), m.with, m.without, flat_append setting_in m.before (hear.Set s ∷ m.behind), flat_append setting_in m.before m.behind)
+    rw (by_heard t (blocks_of t), by_heard u (blocks_of u), m.with, m.without, flat_append setting_in m.before (Ok (Some s) ∷ m.behind), flat_append setting_in m.before m.behind)
     (row_without v w p s n (flat_map setting_in m.before) (flat_map setting_in m.behind))
 
 pub passed_changes_none : PassedChangesNone
 unfolding sheet_table flat_map
 passed_changes_none t u m =
-    rw (by_heard t (blocks_of t), by_heard u (blocks_of u), m.with, m.without, flat_append setting_in m.before (hear.NoKey ∷ m.behind), flat_append setting_in m.before m.behind)
+    rw (by_heard t (blocks_of t), by_heard u (blocks_of u), m.with, m.without, flat_append setting_in m.before (Ok None ∷ m.behind), flat_append setting_in m.before m.behind)

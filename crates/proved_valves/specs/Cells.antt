@@ -1,7 +1,6 @@
 -- What the table holds: "Later blocks override earlier ones of the same variant and wheel.", and "a block for one variant changes no other row".
-use Rattle.std.specs.Prelude.{◌≡◌, Bool, true, false, cond, ◌&&◌, List, [], ◌∷◌, ◌++◌, ℕ, eqb, length}
+use Rattle.std.specs.Prelude.{◌≡◌, Bool, true, false, cond, ◌&&◌, List, [], ◌∷◌, ◌++◌, ℕ, eqb, length, None, Some}
 use Rattle.sheet_valves.specs.Tables.{cell_count, IsPlace, valve_at, with_setting, filled_with}
-use Rattle.sheet_valves.specs.declared.Valve.TheVariants.{Unfilled, Fitted}
 use Rattle.sheet_valves.specs.declared.Table.{Table}
 use Rattle.sheet_valves.specs.declared.Setting.{Setting}
 
@@ -22,11 +21,11 @@ pub record LastFor (v w x : ℕ) (ss : List Setting) : Type 0 where
 
 -- a cell has the valve of the last setting for it, and only of that
 abbrev pub LastCounts : Type 0
-LastCounts = (v w : ℕ) → IsPlace v w → (x : ℕ) (ss : List Setting) → (LastFor v w x ss → valve_at (filled_with ss) v w ≡ Fitted x) × (valve_at (filled_with ss) v w ≡ Fitted x → LastFor v w x ss)
+LastCounts = (v w : ℕ) → IsPlace v w → (x : ℕ) (ss : List Setting) → (LastFor v w x ss → valve_at (filled_with ss) v w ≡ Some x) × (valve_at (filled_with ss) v w ≡ Some x → LastFor v w x ss)
 
 -- and is unfilled exactly where there is none
 abbrev pub UnfilledElse : Type 0
-UnfilledElse = (v w : ℕ) → IsPlace v w → (ss : List Setting) → (any_for v w ss ≡ false → valve_at (filled_with ss) v w ≡ Unfilled) × (valve_at (filled_with ss) v w ≡ Unfilled → any_for v w ss ≡ false)
+UnfilledElse = (v w : ℕ) → IsPlace v w → (ss : List Setting) → (any_for v w ss ≡ false → valve_at (filled_with ss) v w ≡ None) × (valve_at (filled_with ss) v w ≡ None → any_for v w ss ≡ false)
 
 -- "a table of 30 variants by 4 wheels": each has all its cells
 abbrev pub AllCells : Type 0

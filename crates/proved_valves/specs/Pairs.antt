@@ -1,8 +1,7 @@
 -- "At the end no variant may have one valve at two wheels.": the pair as one that exists, and that the code finds the first.
-use Rattle.std.specs.Prelude.{◌≡◌, ℕ, ◌≤◌, ◌<◌}
+use Rattle.std.specs.Prelude.{◌≡◌, ℕ, ◌≤◌, ◌<◌, Some}
 use Rattle.sheet_valves.specs.Tables.{variant_count, wheels, valve_at}
 use Rattle.sheet_valves.specs.Pairs.{first_pair}
-use Rattle.sheet_valves.specs.declared.Valve.TheVariants.{Fitted}
 use Rattle.sheet_valves.specs.declared.Table.{Table}
 
 -- two different wheels of the variant v have one valve; "unfilled cells don't count"
@@ -13,8 +12,8 @@ pub record TwoWheels (t : Table) (v : ℕ) : Type 0 where
   pub one_wheel : one < wheels
   pub two_wheel : two < wheels
   pub different : one ≡ two → ⊥
-  pub at_one : valve_at t v one ≡ Fitted valve
-  pub at_two : valve_at t v two ≡ Fitted valve
+  pub at_one : valve_at t v one ≡ Some valve
+  pub at_two : valve_at t v two ≡ Some valve
 
 -- the first variant with such a pair, 0 where none has one
 pub data FirstIs (t : Table) : ℕ → Type 0 where

@@ -1,5 +1,6 @@
 -- The numbers of a block at a place: "9 or 5 as the run meets them, 6, 7".
 -- Assumes nothing.
+use Rattle.std.specs.Prelude.{Err, Ok, Result}
 use mathlib.Core.Path.{◌≡◌, refl, ◌∙◌, ap}
 use mathlib.Core.Bool.{Bool, true, false, cond}
 use mathlib.Core.List.{List, [], ◌∷◌, ◌++◌}
@@ -12,8 +13,6 @@ use Rattle.base_refusals.specs.Numbers.{max_text, too_long, number_of, outcome_n
 use Rattle.base_refusals.specs.Orders.{Ground, in_order, order_no, met}
 use Rattle.base_refusals.specs.declared.Refusal.{Refusal}
 use Rattle.base_refusals.specs.declared.Refusal.TheVariants.{TextTooLong, NothingThere, NoReading}
-use Rattle.base_refusals.specs.declared.Outcome as outcomes
-use Rattle.base_refusals.specs.declared.Outcome.TheVariants as outcome
 use Rattle.base_refusals.proofs.Orders.{order_where, order_short}
 use Rattle.block_chain.specs.Chain.{good_line}
 use Rattle.set_fill.specs.Fill.{chain_at}
@@ -39,9 +38,9 @@ module _ (g : List ℕ → ℕ → ℕ → List Ground) (t : List ℕ) (at base 
       closed r true h = run r h
       closed r false h = none NoReading r.text r.lookahead
 
-      go : (r : runs.Run) (x : outcomes.Outcome) → length r.text ≤ length t → n (ended_run r x) ≡ order_no (met x ++ behind r)
-      go r outcome.Passed h = closed r (good_line r.text 0 (length r.text)) h
-      go r (outcome.Refused q) h = none q r.text r.lookahead
+      go : (r : runs.Run) (x : Result (Unit {0}) Refusal) → length r.text ≤ length t → n (ended_run r x) ≡ order_no (met x ++ behind r)
+      go r (Ok _) h = closed r (good_line r.text 0 (length r.text)) h
+      go r (Err q) h = none q r.text r.lookahead
 
   pub by_wrapped : n (wrapped t at base cap) ≡ order_no (wrapped_order g t at base cap)
   unfolding wrapped order_no

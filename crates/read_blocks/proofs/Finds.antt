@@ -1,5 +1,6 @@
 -- Which lines a block takes, by each way through the tests, and what is read where the grammar has no reading.
 -- Assumes nothing.
+use Rattle.std.specs.Prelude.{Err, Ok}
 use mathlib.Core.Path.{◌≡◌, refl, sym, ◌∙◌, ap}
 use mathlib.Core.Bool.{Bool, true, false, not, cond}
 use mathlib.Core.List.{List}
@@ -21,8 +22,6 @@ use Rattle.block_tokens.specs.Shown.{accepted}
 use Rattle.block_chain.specs.Chain.{good_line}
 use Rattle.block_chain.specs.Computed.{read_blocks}
 use Rattle.set_fill.specs.Fill.{filled_by, chain_at}
-use Rattle.base_refusals.specs.declared.Outcome.TheVariants.{Passed}
-use Rattle.base_refusals.specs.declared.Outcome.TheVariants as outcome
 use Rattle.run_lines.specs.Runs.{Run, run_at, joined_of, past_lines}
 use Rattle.run_lines.specs.declared.Joined.{Joined}
 use Rattle.set_table.specs.declared.Filled.{Filled}
@@ -41,7 +40,7 @@ limited_read : (s : Rows) → is_unread (limited s).outcome ≡ false
 unfolding limited number_of
 limited_read s = go (ltb max_classes (length s.classes)) (ltb max_keys (length s.keys))
   where
-    go : (a b : Bool) → is_unread (cond a (refusing TooManyClasses) (cond b (refusing TooManyKeys) (record { outcome = Passed; set = table_of s }))).outcome ≡ false
+    go : (a b : Bool) → is_unread (cond a (refusing TooManyClasses) (cond b (refusing TooManyKeys) (record { outcome = Ok tt; set = table_of s }))).outcome ≡ false
     go true b = refl
     go false true = refl
     go false false = refl
@@ -142,10 +141,10 @@ module _ (t : List ℕ) (at base : ℕ) (buf : List ℕ) {j : Joined} {b : List 
   pub joined_in_lem : j.len ≤ length b
   joined_in_lem = rw (e, o, length-append) (omega arith)
 
-  module _ {q : Refusal} (s : j.stop ≡ outcome.Refused q) where
+  module _ {q : Refusal} (s : j.stop ≡ Err q) where
     pub refused_is : f ≡ Found.none q r.text r.lookahead
     unfolding run_found
-    refused_is = let z : r.stop ≡ outcome.Refused q = rw e at s in rw z
+    refused_is = let z : r.stop ≡ Err q = rw e at s in rw z
 
     pub run_holds : b ≡ join_holds buf f
     unfolding join_holds
@@ -155,11 +154,11 @@ module _ (t : List ℕ) (at base : ℕ) (buf : List ℕ) {j : Joined} {b : List 
     unfolding block_of past_lines
     run-unread p = rw (refused_is, p, e)
 
-  module _ (s : j.stop ≡ outcome.Passed) where
+  module _ (s : j.stop ≡ Ok tt) where
     pub closed_is : (x : Bool) → good_line (take j.len b) 0 j.len ≡ x → f ≡ closed_run r x
     unfolding run_found
     closed_is x g =
-        let z : r.stop ≡ outcome.Passed = rw e at s in
+        let z : r.stop ≡ (Ok tt) = rw e at s in
         let n : j.len ≡ length r.text = rw e in
         let y : good_line r.text 0 (length r.text) ≡ x = rw (joined_is, n) at g in
         rw (z, y)

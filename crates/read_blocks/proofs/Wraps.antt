@@ -1,5 +1,6 @@
 -- A block that is found as a run has more than one line: so the block of one line that `indented_wrapped_attrs_block_len` refuses is the good line.
 -- Assumes nothing.
+use Rattle.std.specs.Prelude.{Err, Ok, Result}
 use mathlib.Core.Path.{◌≡◌, refl, sym, ◌∙◌, ap}
 use mathlib.Core.Bool.{Bool, true, false, not, cond, ◌&&◌}
 use mathlib.Core.List.{List, [], ◌∷◌, ◌++◌, map, append_assoc}
@@ -25,14 +26,13 @@ use Rattle.block_chain.proofs.Blocks.{sound}
 use Rattle.run_scanners.specs.Scanners.{holds_open}
 use Rattle.run_joins.specs.Joins.{Lined, So, may_join, after}
 use Rattle.run_lines.specs.Runs as runs
-use Rattle.base_refusals.specs.declared.Outcome as outcomes
-use Rattle.base_refusals.specs.declared.Outcome.TheVariants as outcome
 use Rattle.run_lines.proofs.Bounds.{run_by_lem}
 use Rattle.block_trimmed_line.specs.Fronts.{front_of, opens_at}
 use Rattle.block_trimmed_line.specs.declared.Front.{Front}
 use Rattle.block_trimmed_line.proofs.Trimmed.{front_slice}
 use Rattle.read_blocks.specs.Blocks.{closed_run, ended_run, run_found, found, lines_of}
 use Rattle.read_blocks.proofs.Finds.{found-run}
+use Rattle.base_refusals.specs.declared.Refusal.{Refusal}
 
 -- ---- a good line ends in `}`
 
@@ -81,7 +81,7 @@ abbrev First : List Lined → runs.Run → Type 0
 First [] R = ⊥
 First (l ∷ ls) R = (0 < R.lines) × (R.lines ≤ 1 → R.text ≡ trim l.line)
 
-first_text : (cap base : ℕ) (ls : List Lined) → (runs.run_of cap base ls).stop ≡ outcome.Passed → First ls (runs.run_of cap base ls)
+first_text : (cap base : ℕ) (ls : List Lined) → (runs.run_of cap base ls).stop ≡ Ok tt → First ls (runs.run_of cap base ls)
 unfolding runs.run_from
 first_text cap base [] e = let z : ◌≡◌ {A = ℕ} 0 1 = cc in absurd (omega arith)
 first_text cap base (l ∷ ls) e =
@@ -92,10 +92,10 @@ first_text cap base (l ∷ ls) e =
 
     R : Bool → Bool → Bool → runs.Run
     R x y z =
-        cond x (cond y (runs.ended (outcome.Refused JoinFull) so) (cond z (runs.ended outcome.Passed (after so l)) (runs.run_from cap (after so l) ls)))
-        (runs.ended (outcome.Refused NoReading) so)
+        cond x (cond y (runs.ended (Err JoinFull) so) (cond z (runs.ended (Ok tt) (after so l)) (runs.run_from cap (after so l) ls)))
+        (runs.ended (Err NoReading) so)
 
-    go : (x y z : Bool) → Kept (after so l) ls (runs.run_from cap (after so l) ls) → (R x y z).stop ≡ outcome.Passed → First (l ∷ ls) (R x y z)
+    go : (x y z : Bool) → Kept (after so l) ls (runs.run_from cap (after so l) ls) → (R x y z).stop ≡ Ok tt → First (l ∷ ls) (R x y z)
     go false y z k e = let z : ◌≡◌ {A = ℕ} 0 1 = cc in absurd (omega arith)
     go true true z k e = let z : ◌≡◌ {A = ℕ} 0 1 = cc in absurd (omega arith)
     go true false true k e = (omega arith, λ h. refl)
@@ -107,16 +107,16 @@ module _ (t : List ℕ) (at base cap : ℕ) where
   abbrev r : runs.Run
   r = runs.run_at cap base t at
 
-  run_first : r.stop ≡ outcome.Passed → (0 < r.lines) × (r.lines ≤ 1 → r.text ≡ trim (line_at t at))
+  run_first : r.stop ≡ Ok tt → (0 < r.lines) × (r.lines ≤ 1 → r.text ≡ trim (line_at t at))
   unfolding runs.run_at
   run_first = go (lines (drop at t))
     where
-      go : (ls : List (List ℕ)) → (runs.run_of cap base (map runs.as_is ls)).stop ≡ outcome.Passed
+      go : (ls : List (List ℕ)) → (runs.run_of cap base (map runs.as_is ls)).stop ≡ Ok tt
           → (0 < (runs.run_of cap base (map runs.as_is ls)).lines) × ((runs.run_of cap base (map runs.as_is ls)).lines ≤ 1 → (runs.run_of cap base (map runs.as_is ls)).text ≡ trim (first_of ls))
       go [] e = absurd (first_text cap base [] e)
       go (l ∷ ls) e = first_text cap base (runs.as_is l ∷ map runs.as_is ls) e
 
-  run_wraps : (front_of t at).closes ≡ false → r.stop ≡ outcome.Passed → good_line r.text 0 (length r.text) ≡ true → 1 < r.lines
+  run_wraps : (front_of t at).closes ≡ false → r.stop ≡ Ok tt → good_line r.text 0 (length r.text) ≡ true → 1 < r.lines
   unfolding front_of
   run_wraps c e g = go (ltb 1 r.lines) refl
     where
@@ -130,10 +130,10 @@ module _ (t : List ℕ) (at base cap : ℕ) where
   unfolding run_found
   run_more c = go r.stop refl
     where
-      closed : (b : Bool) → good_line r.text 0 (length r.text) ≡ b → r.stop ≡ outcome.Passed → eqb (lines_of (closed_run r b)) 1 ≡ false
+      closed : (b : Bool) → good_line r.text 0 (length r.text) ≡ b → r.stop ≡ Ok tt → eqb (lines_of (closed_run r b)) 1 ≡ false
       closed true g e = ne_eqb r.lines 1 (λ q. omega (arith, q, run_wraps c e g))
       closed false g e = refl
 
-      go : (x : outcomes.Outcome) → r.stop ≡ x → eqb (lines_of (ended_run r x)) 1 ≡ false
-      go outcome.Passed e = closed (good_line r.text 0 (length r.text)) refl e
-      go (outcome.Refused q) e = refl
+      go : (x : Result (Unit {0}) Refusal) → r.stop ≡ x → eqb (lines_of (ended_run r x)) 1 ≡ false
+      go (Ok _) e = closed (good_line r.text 0 (length r.text)) refl e
+      go (Err q) e = refl

@@ -1,5 +1,5 @@
 -- Blocks at a place: which lines a block takes, and what it reads.
-use Rattle.std.specs.Prelude.{ℕ, Bool, cond, List, [], ◌∷◌, ◌++◌, eqb, length}
+use Rattle.std.specs.Prelude.{ℕ, Bool, cond, List, [], ◌∷◌, ◌++◌, eqb, length, Err, Ok, Result}
 use Rattle.std.proofs.Math.Seq.{slice}
 use Rattle.base_lists.specs.Lists.{is_some, over}
 use Rattle.base_bytes.specs.declared.Mode.TheVariants.{Loose}
@@ -16,8 +16,6 @@ use Rattle.set_table.specs.declared.Filled.{Filled}
 use Rattle.set_table.specs.Filled.{refusing}
 use Rattle.set_exchange.specs.Exchange.{exchanged}
 use Rattle.run_lines.specs.Runs.{Run, run_at, past_lines}
-use Rattle.base_refusals.specs.declared.Outcome as outcomes
-use Rattle.base_refusals.specs.declared.Outcome.TheVariants as outcome
 use Rattle.block_trimmed_line.specs.Fronts.{front_of, opens_at}
 use Rattle.read_blocks.specs.declared.Block.{Block}
 
@@ -36,9 +34,9 @@ nothing r = Found.none r [] 0
 abbrev pub closed_run : Run → Bool → Found
 closed_run r good = cond good (Found.run r) (Found.none NoReading r.text r.lookahead)
 
-abbrev pub ended_run : Run → outcomes.Outcome → Found
-ended_run r outcome.Passed = closed_run r (good_line r.text 0 (length r.text))
-ended_run r (outcome.Refused q) = Found.none q r.text r.lookahead
+abbrev pub ended_run : Run → Result (Unit {0}) Refusal → Found
+ended_run r (Ok _) = closed_run r (good_line r.text 0 (length r.text))
+ended_run r (Err q) = Found.none q r.text r.lookahead
 
 -- the run from the line at `at` on, in a join buffer of `cap` bytes; the first line's brace column is `base` more
 unfoldable pub run_found : List ℕ → ℕ → ℕ → ℕ → Found

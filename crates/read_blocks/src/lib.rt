@@ -8,13 +8,13 @@ ghost use Rattle.read_blocks.specs.Blocks.{run_found, found, wrapped, join_holds
 ghost use Rattle.read_blocks.specs.Inner.{is_unread};
 ghost use Rattle.set_table.specs.Filled.{refusing};
 
-use base_refusals::{Outcome, Refusal};
+use base_refusals::Refusal;
 use set_table::{Attrs, Filled};
 
 // What reading answers: the set of a block that was joined is of the second text, the joined bytes; that of any other is of the first, the lent one.
 #[derive(Clone, Copy)]
 pub struct Block {
-    pub outcome: Outcome,
+    pub outcome: Result<(), Refusal>,
     pub set: Attrs,
     pub lines: usize,
     pub lookahead: usize,
@@ -31,13 +31,12 @@ pub fn no_block(r: Refusal, lookahead: usize, joined: usize, at: usize) -> Block
 }
 
 // Whether the grammar refuses what was to be filled.
-fn is_unread(outcome: Outcome) -> bool
+fn is_unread(outcome: Result<(), Refusal>) -> bool
     ensures { result ≡ is_unread outcome }
 {
     match outcome {
-        Outcome::Passed => false,
-        Outcome::Refused(r) => base_refusals::number(r)
-            == base_refusals::number(Refusal::NoReading),
+        Ok(()) => false,
+        Err(r) => base_refusals::number(r) == base_refusals::number(Refusal::NoReading),
     }
 }
 
@@ -76,8 +75,8 @@ fn read_run(text: &[u8], at: usize, base: usize, join: &mut [u8]) -> Block
     let j = run_lines::join_run(text, at, base, join);
     let stop = j.stop;
     match stop {
-        Outcome::Refused(r) => no_block(r, j.lookahead, j.len, at),
-        Outcome::Passed => {
+        Err(r) => no_block(r, j.lookahead, j.len, at),
+        Ok(()) => {
             let filled = set_fill::fill_chain(&join[..j.len], 0, j.len);
             let outcome = filled.outcome;
             if is_unread(outcome) {

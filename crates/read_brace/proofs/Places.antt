@@ -1,5 +1,6 @@
 -- The place that is said with a 5.
 -- Assumes nothing.
+use Rattle.std.specs.Prelude.{Err, None, Ok, Option, Result, Some}
 use mathlib.Core.Path.{◌≡◌, refl, sym, ◌∙◌, ap}
 use mathlib.Core.Bool.{Bool, true, false, cond, not}
 use mathlib.Core.List.{List}
@@ -13,19 +14,13 @@ use Rattle.base_refusals.specs.Numbers.{number_of, outcome_no, max_text, too_lon
 use Rattle.base_refusals.specs.Orders.{in_order, order_no}
 use Rattle.base_refusals.specs.declared.Refusal.{Refusal}
 use Rattle.base_refusals.specs.declared.Refusal.TheVariants.{TextTooLong, NotUtf8, NothingThere, NoReading, TooManyClasses, TooManyKeys}
-use Rattle.base_refusals.specs.declared.Outcome as outcomes
-use Rattle.base_refusals.specs.declared.Outcome.TheVariants as outcome
 use Rattle.base_refusals.proofs.Orders.{paper_no}
 use Rattle.text_utf8.specs.Computed.{is_utf8}
 use Rattle.text_names.specs.Tested.{tested}
 use Rattle.text_names.proofs.Told.{whole_is, stops_is}
-use Rattle.text_names.specs.declared.Tested.{Tested}
-use Rattle.text_names.specs.declared.Tested.TheVariants.{Whole, Stops}
 use Rattle.block_grammar.specs.Grammar.{Reading}
 use Rattle.block_grammar.specs.Computed.{read_payload}
 use Rattle.block_grammar.specs.ComputedClose.{find_close}
-use Rattle.block_grammar.specs.declared.Place.{Place}
-use Rattle.block_grammar.specs.declared.Place.TheVariants.{Nothing, At}
 use Rattle.block_places.specs.Computed.{payload_place}
 use Rattle.block_tokens.specs.Shown.{accepted, payload_tested}
 use Rattle.block_chain.proofs.Good.{anywhere}
@@ -34,14 +29,14 @@ use Rattle.set_table.specs.Rows.{Rows, no_rows, with_puts, table_of}
 use Rattle.set_table.specs.Puts.{puts_in}
 use Rattle.set_table.specs.Filled.{refusing, limited}
 use Rattle.set_fill.specs.Fill.{filled_by, filled_of}
-use Rattle.read_brace.specs.declared.Answer.{Answer}
-use Rattle.read_brace.specs.declared.Answer.TheVariants.{Refused, Unread}
+use Rattle.read_brace.specs.declared.NotRead.{NotRead}
+use Rattle.read_brace.specs.declared.NotRead.TheVariants.{Refused, Unread}
 use Rattle.read_brace.specs.Brace.{brace_paper, place_said, refusing_read, brace_at, payload_of, answer_at, finished, read_to, read_attrs_at, at_brace, brace_order, behind_close, place_to, place_at}
 use Rattle.read_brace.proofs.Numbers.{brace_no}
 
 -- ---- asked for only with a 5
 
-abbrev pub is_five : outcomes.Outcome → Bool
+abbrev pub is_five : Result (Unit {0}) Refusal → Bool
 is_five o = eqb (outcome_no o) (number_of NoReading)
 
 -- what is filled of a reading is no 5
@@ -49,7 +44,7 @@ limits_no_5 : (s : Rows) → is_five (limited s).outcome ≡ false
 unfolding limited in_order number_of
 limits_no_5 s = go (ltb max_classes (length s.classes)) (ltb max_keys (length s.keys))
   where
-    go : (a b : Bool) → is_five (cond a (refusing TooManyClasses) (cond b (refusing TooManyKeys) (record { outcome = outcome.Passed; set = table_of s }))).outcome ≡ false
+    go : (a b : Bool) → is_five (cond a (refusing TooManyClasses) (cond b (refusing TooManyKeys) (record { outcome = Ok tt; set = table_of s }))).outcome ≡ false
     go true b = refl
     go false true = refl
     go false false = refl
@@ -58,58 +53,58 @@ five_unread : (t : Texts) (r : Reading) → is_five (filled_by t r).outcome ≡ 
 five_unread t Reading.refused e = refl
 five_unread t (Reading.items is) e = contra (is_five (limited (with_puts t no_rows (puts_in is))).outcome) e (limits_no_5 (with_puts t no_rows (puts_in is)))
 
-module _ (m : Mode) (t : Texts) (at : ℕ) (s : List ℕ) {o : outcomes.Outcome} (given : o ≡ (filled_of m t at s).outcome) where
+module _ (m : Mode) (t : Texts) (at : ℕ) (s : List ℕ) {o : Result (Unit {0}) Refusal} (given : o ≡ (filled_of m t at s).outcome) where
   none_read : is_five o ≡ true → accepted (read_payload m 0 s) ≡ false
   unfolding filled_of
   none_read e = anywhere m s 0 at ∙ five_unread t (read_payload m at s) (ap is_five (sym given) ∙ e)
 
-  pub never_whole : {r : Tested} → r ≡ payload_tested m s → is_five o ≡ true → r ≡ Whole → 0 ≡ cond (is_five o) (payload_place m s) 0
+  pub never_whole : {r : Result (Unit {0}) ℕ} → r ≡ payload_tested m s → is_five o ≡ true → r ≡ Ok tt → 0 ≡ cond (is_five o) (payload_place m s) 0
   never_whole f e g = contra (accepted (read_payload m 0 s)) (whole_is (accepted (read_payload m 0 s)) (payload_place m s) (sym g ∙ f)) (none_read e)
 
-  pub stops_at_lem : {r : Tested} {n : ℕ} → r ≡ payload_tested m s → is_five o ≡ true → r ≡ Stops n → n ≡ cond (is_five o) (payload_place m s) 0
+  pub stops_at_lem : {r : Result (Unit {0}) ℕ} {n : ℕ} → r ≡ payload_tested m s → is_five o ≡ true → r ≡ Err n → n ≡ cond (is_five o) (payload_place m s) 0
   stops_at_lem f e g = rw e (stops_is (accepted (read_payload m 0 s)) (payload_place m s) (sym g ∙ f)).1
 
 -- with any other outcome the place isn't said
-pub said_only : (o : outcomes.Outcome) (next p : ℕ) → answer_at o next (cond (is_five o) p 0) ≡ answer_at o next p
-said_only outcome.Passed next p = refl
-said_only (outcome.Refused r) next p = go (eqb (number_of r) (number_of NoReading))
+pub said_only : (o : Result (Unit {0}) Refusal) (next p : ℕ) → answer_at o next (cond (is_five o) p 0) ≡ answer_at o next p
+said_only (Ok _) next p = refl
+said_only (Err r) next p = go (eqb (number_of r) (number_of NoReading))
   where
-    go : (b : Bool) → cond b (Unread (cond b p 0)) (Refused r) ≡ cond b (Unread p) (Refused r)
+    go : (b : Bool) → cond {A = Result ℕ NotRead} b (Err (Unread (cond b p 0))) (Err (Refused r)) ≡ cond b (Err (Unread p)) (Err (Refused r))
     go true = refl
     go false = refl
 
 -- a refusal by its number
-pub answer_five : {o : outcomes.Outcome} (next n : ℕ) {r : Refusal} {a b : ℕ} → o ≡ outcome.Refused r → a ≡ number_of r → b ≡ number_of NoReading → a ≡ b → Unread n ≡ answer_at o next n
+pub answer_five : {o : Result (Unit {0}) Refusal} (next n : ℕ) {r : Refusal} {a b : ℕ} → o ≡ Err r → a ≡ number_of r → b ≡ number_of NoReading → a ≡ b → Err (Unread n) ≡ answer_at o next n
 answer_five next n {r} e f g h = rw (e, eq-eqb (number_of r) (number_of NoReading) (sym f ∙ h ∙ g))
 
-pub answer_other : {o : outcomes.Outcome} (next n : ℕ) {r : Refusal} {a b : ℕ} → o ≡ outcome.Refused r → a ≡ number_of r → b ≡ number_of NoReading → (a ≡ b → ⊥) → Refused r ≡ answer_at o next n
+pub answer_other : {o : Result (Unit {0}) Refusal} (next n : ℕ) {r : Refusal} {a b : ℕ} → o ≡ Err r → a ≡ number_of r → b ≡ number_of NoReading → (a ≡ b → ⊥) → Err (Refused r) ≡ answer_at o next n
 answer_other next n {r} e f g h = rw (e, ne_eqb (number_of r) (number_of NoReading) (λ q. h (f ∙ q ∙ sym g)))
 
-pub not_said : (o : outcomes.Outcome) (p : ℕ) {b : Bool} → b ≡ is_five o → not b ≡ true → 0 ≡ cond (is_five o) p 0
+pub not_said : (o : Result (Unit {0}) Refusal) (p : ℕ) {b : Bool} → b ≡ is_five o → not b ≡ true → 0 ≡ cond (is_five o) p 0
 not_said o p {b} e f = rw (sym e ∙ not-true b f)
 
 -- ---- the place by the number that is given
 
-place_no : (o : outcomes.Outcome) (next n : ℕ) → place_said (answer_at o next n) ≡ cond (eqb (brace_paper (answer_at o next n)).number (number_of NoReading)) n 0
+place_no : (o : Result (Unit {0}) Refusal) (next n : ℕ) → place_said (answer_at o next n) ≡ cond (eqb (brace_paper (answer_at o next n)).number (number_of NoReading)) n 0
 unfolding number_of
-place_no outcome.Passed next n = refl
-place_no (outcome.Refused r) next n = go (eqb (number_of r) 5) refl
+place_no (Ok _) next n = refl
+place_no (Err r) next n = go (eqb (number_of r) 5) refl
   where
-    go : (b : Bool) → eqb (number_of r) 5 ≡ b → place_said (cond b (Unread n) (Refused r)) ≡ cond (eqb (brace_paper (cond b (Unread n) (Refused r))).number 5) n 0
+    go : (b : Bool) → eqb (number_of r) 5 ≡ b → place_said (cond b (Err (Unread n)) (Err (Refused r))) ≡ cond (eqb (brace_paper (cond b (Err (Unread n)) (Err (Refused r)))).number 5) n 0
     go true e = refl
     go false e = rw e
 
 module _ (m : Mode) (t : List ℕ) (i : ℕ) where
   -- what an answer says where p is the close
-  abbrev says_at : Place → Answer → Type 0
+  abbrev says_at : Option ℕ → Result ℕ NotRead → Type 0
   says_at p a = place_said a ≡ cond (eqb (brace_paper a).number (number_of NoReading)) (place_to m t i p) 0
 
-  close_place : (p : Place) → says_at p (read_to m t i p).answer
+  close_place : (p : Option ℕ) → says_at p (read_to m t i p).answer
   unfolding finished number_of
-  close_place Nothing = refl
-  close_place (At e) = go (is_utf8 (payload_of t i e))
+  close_place None = refl
+  close_place (Some e) = go (is_utf8 (payload_of t i e))
     where
-      go : (b : Bool) → says_at (At e) (cond b (finished (filled_of m (one t) (suc i) (payload_of t i e)) (suc e) (payload_place m (payload_of t i e))) (refusing_read NotUtf8)).answer
+      go : (b : Bool) → says_at (Some e) (cond b (finished (filled_of m (one t) (suc i) (payload_of t i e)) (suc e) (payload_place m (payload_of t i e))) (refusing_read NotUtf8)).answer
       go true = place_no (filled_of m (one t) (suc i) (payload_of t i e)).outcome (suc e) (payload_place m (payload_of t i e))
       go false = refl
 

@@ -1,38 +1,34 @@
 // Reading an attribute block at a brace.
 #![tactic(auto)]
 
-ghost use Rattle.std.specs.Prelude.{◌≡◌, suc, ◌+◌, ◌≤◌, ◌<◌, length, eqb, cond};
+ghost use Rattle.std.specs.Prelude.{◌≡◌, suc, ◌+◌, ◌≤◌, ◌<◌, length, eqb, cond, Some};
 ghost use Rattle.std.proofs.Math.Seq.{slice};
 ghost use Rattle.base_bytes.specs.declared.Mode.TheVariants.{Strict};
 ghost use Rattle.base_refusals.specs.Numbers.{max_text, number_of, outcome_no};
 ghost use Rattle.base_refusals.specs.declared.Refusal.TheVariants.{NoReading};
 ghost use Rattle.base_refusals.specs.Orders.{on_paper};
 ghost use Rattle.block_grammar.specs.ComputedClose.{find_close};
-ghost use Rattle.block_grammar.specs.declared.Place.TheVariants.{At};
 ghost use Rattle.block_places.specs.Computed.{payload_place};
 ghost use Rattle.set_table.specs.Types.{one};
 ghost use Rattle.set_fill.specs.Fill.{filled_of};
 ghost use Rattle.read_brace.specs.Brace.{brace_paper, place_said, place_at, refusing_read, brace_at, answer_at, finished, read_to, read_attrs_at, brace_order, behind_close, part_to, payload_at};
 
 use base_bytes::Mode;
-use base_refusals::{Outcome, Refusal};
-use block_grammar::Place;
+use base_refusals::Refusal;
 use set_table::{Attrs, Filled};
 use text_lines::Range;
-use text_names::Tested;
 
 // A refusal, that the payload has no reading and how far it could still be continued to one that has, or the place behind the block.
 #[derive(Clone, Copy)]
-pub enum Answer {
+pub enum NotRead {
     Refused(Refusal),
     Unread(usize),
-    Next(usize),
 }
 
 // What is read at a brace: the set is the empty one where the answer is a refusal.
 #[derive(Clone, Copy)]
 pub struct Read {
-    pub answer: Answer,
+    pub answer: Result<usize, NotRead>,
     pub set: Attrs,
 }
 
@@ -43,7 +39,7 @@ fn refused(r: Refusal) -> Read
     let filled = set_fill::refusing(r);
     let set = filled.set;
     Read {
-        answer: Answer::Refused(r),
+        answer: Err(NotRead::Refused(r)),
         set,
     }
 }
@@ -59,14 +55,14 @@ fn opens_at(text: &[u8], place: usize) -> bool
 }
 
 // Whether an outcome is the refusal that says a place.
-fn says_place(outcome: Outcome) -> bool
+fn says_place(outcome: Result<(), Refusal>) -> bool
     ensures { result ≡ eqb (outcome_no outcome) (number_of NoReading) }
 {
     base_refusals::outcome_number(outcome) == base_refusals::number(Refusal::NoReading)
 }
 
 // Where the payload between two places went wrong. A payload that has a reading isn't walked again.
-fn place_of(text: &[u8], from: usize, end: usize, mode: Mode, outcome: Outcome) -> usize
+fn place_of(text: &[u8], from: usize, end: usize, mode: Mode, outcome: Result<(), Refusal>) -> usize
     requires { (from ≤ end) × ((end ≤ length text.now) × (outcome ≡ (filled_of mode (one text.now) from (slice from end text.now)).outcome)) }
     ensures { result ≡ cond (eqb (outcome_no outcome) (number_of NoReading)) (payload_place mode (slice from end text.now)) 0 }
 {
@@ -74,22 +70,22 @@ fn place_of(text: &[u8], from: usize, end: usize, mode: Mode, outcome: Outcome) 
         return 0;
     }
     match block_tokens::payload_test(&text[from..end], mode) {
-        Tested::Whole => 0,
-        Tested::Stops(n) => n,
+        Ok(()) => 0,
+        Err(n) => n,
     }
 }
 
 // What filling comes to, with the place behind the block, and the one at which it went wrong.
-fn answer_of(outcome: Outcome, next: usize, n: usize) -> Answer
+fn answer_of(outcome: Result<(), Refusal>, next: usize, n: usize) -> Result<usize, NotRead>
     ensures { result ≡ answer_at outcome next n }
 {
     match outcome {
-        Outcome::Passed => Answer::Next(next),
-        Outcome::Refused(r) => {
-            if base_refusals::number(r) == base_refusals::number(Refusal::NoReading) {
-                return Answer::Unread(n);
+        Ok(()) => Ok(next),
+        Err(r) => {
+            if r == Refusal::NoReading {
+                return Err(NotRead::Unread(n));
             }
-            Answer::Refused(r)
+            Err(NotRead::Refused(r))
         }
     }
 }
@@ -108,8 +104,8 @@ fn handed_out(filled: Filled, next: usize, n: usize) -> Read
 
 // The payload between the brace at `place` and the close at `end`.
 fn read_payload(text: &[u8], place: usize, end: usize, mode: Mode) -> Read
-    requires { (length text.now ≤ max_text) × ((place < end) × ((end < length text.now) × (find_close text.now (suc place) ≡ At end))) }
-    ensures { result ≡ read_to mode text.now place (At end) }
+    requires { (length text.now ≤ max_text) × ((place < end) × ((end < length text.now) × (find_close text.now (suc place) ≡ Some end))) }
+    ensures { result ≡ read_to mode text.now place (Some end) }
 {
     if !text_utf8::is_utf8(&text[place + 1..end]) {
         return refused(Refusal::NotUtf8);
@@ -133,8 +129,8 @@ pub fn read_attrs_at_with(text: &[u8], place: usize, mode: Mode) -> Read
         return refused(Refusal::NothingThere);
     }
     match block_close::find_close(text, place + 1) {
-        Place::Nothing => refused(Refusal::NoClose),
-        Place::At(end) => read_payload(text, place, end, mode),
+        None => refused(Refusal::NoClose),
+        Some(end) => read_payload(text, place, end, mode),
     }
 }
 
@@ -150,7 +146,7 @@ pub fn read_attrs_at(text: &[u8], place: usize) -> Read
 // The payload's range, if it is UTF-8.
 fn range_to(text: &[u8], place: usize, end: usize) -> Range
     requires { (place < end) × (end < length text.now) }
-    ensures { result ≡ part_to text.now place (At end) }
+    ensures { result ≡ part_to text.now place (Some end) }
 {
     if !text_utf8::is_utf8(&text[place + 1..end]) {
         return Range { from: 0, to: 0 };
@@ -172,8 +168,8 @@ pub fn payload_range(text: &[u8], place: usize) -> Range
         return Range { from: 0, to: 0 };
     }
     match block_close::find_close(text, place + 1) {
-        Place::Nothing => Range { from: 0, to: 0 },
-        Place::At(end) => range_to(text, place, end),
+        None => Range { from: 0, to: 0 },
+        Some(end) => range_to(text, place, end),
     }
 }
 

@@ -1,12 +1,12 @@
 -- The entries by line number: what they come to where a line begins, and where none does.
 -- Assumes nothing.
+use Rattle.std.specs.Prelude.{Err, Ok}
 use mathlib.Core.Path.{◌≡◌, sym, ◌∙◌}
 use mathlib.Core.List.{List}
 use Prim.Native.Nat.{ℕ}
 use Rattle.base_refusals.specs.declared.Refusal.{Refusal}
 use Rattle.set_table.specs.declared.Filled.{Filled}
 use Rattle.set_table.specs.Filled.{refusing}
-use Rattle.text_line_start.specs.declared.Start.TheVariants as start
 use Rattle.text_line_start.specs.Starts.{start_at, place_of}
 use Rattle.text_line_start.proofs.Starts.{text-fits}
 use Rattle.read_blocks.specs.declared.Block.{Block}
@@ -17,7 +17,7 @@ use Rattle.read_by_line.specs.Entries.{line_read, parse_standalone}
 module _ (t : List ℕ) (n : ℕ) where
   -- ---- where there is no line
 
-  module _ {r : Refusal} (e : start_at t n ≡ start.Refused r) where
+  module _ {r : Refusal} (e : start_at t n ≡ Err r) where
     pub alone_none : {x : Filled} → x ≡ refusing r → x ≡ parse_standalone t n
     unfolding parse_standalone
     alone_none p = rw e p
@@ -27,7 +27,7 @@ module _ (t : List ℕ) (n : ℕ) where
 
   -- ---- where a line begins
 
-  module _ {at : ℕ} (e : start_at t n ≡ start.At at) where
+  module _ {at : ℕ} (e : start_at t n ≡ Ok at) where
     pub alone_at : {x : Filled} → x ≡ line_read t at → x ≡ parse_standalone t n
     unfolding parse_standalone
     alone_at p = rw e p

@@ -12,7 +12,6 @@ ghost use Rattle.read_by_line.specs.Entries.{line_read, parse_standalone, standa
 use base_refusals::Refusal;
 use read_blocks::Block;
 use set_table::Filled;
-use text_line_start::Start;
 
 // The line at the place alone, read.
 fn read_line(text: &[u8], at: usize) -> Filled
@@ -31,8 +30,8 @@ pub fn parse_standalone_attrs(text: &[u8], line: usize) -> Filled
     ensures outcome_value { outcome_no result.outcome ≡ order_no (standalone_order text.now line) }
 {
     match text_line_start::line_start(text, line) {
-        Start::Refused(r) => set_fill::refusing(r),
-        Start::At(at) => read_line(text, at),
+        Err(r) => set_fill::refusing(r),
+        Ok(at) => read_line(text, at),
     }
 }
 
@@ -43,8 +42,8 @@ pub fn parse_standalone_attrs_block(text: &[u8], line: usize, join: &mut [u8]) -
     ensures outcome_value { outcome_no result.outcome ≡ order_no (block_order text.now line (length join.old)) }
 {
     match text_line_start::line_start(text, line) {
-        Start::Refused(r) => read_blocks::no_block(r, 0, 0, 0),
-        Start::At(at) => read_blocks::read_at(text, at, join),
+        Err(r) => read_blocks::no_block(r, 0, 0, 0),
+        Ok(at) => read_blocks::read_at(text, at, join),
     }
 }
 
@@ -55,7 +54,7 @@ pub fn wrapped_attrs_run_at(text: &[u8], line: usize, base: usize, join: &mut [u
     ensures outcome_value { outcome_no result.outcome ≡ order_no (wrap_order text.now line base (length join.old)) }
 {
     match text_line_start::line_start(text, line) {
-        Start::Refused(r) => read_blocks::no_block(r, 0, 0, 0),
-        Start::At(at) => read_blocks::wrapped_at(text, at, base, join),
+        Err(r) => read_blocks::no_block(r, 0, 0, 0),
+        Ok(at) => read_blocks::wrapped_at(text, at, base, join),
     }
 }

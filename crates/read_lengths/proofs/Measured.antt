@@ -1,5 +1,6 @@
 -- What measuring answers by each way through the tests, and by line number where a line begins and where none does.
 -- Assumes nothing.
+use Rattle.std.specs.Prelude.{Err, Ok}
 use mathlib.Core.Path.{◌≡◌}
 use mathlib.Core.Bool.{true, false}
 use mathlib.Core.List.{List}
@@ -12,16 +13,13 @@ use Rattle.base_refusals.specs.declared.Refusal.TheVariants.{NothingThere, NoRea
 use Rattle.block_chain.specs.Chain.{good_line}
 use Rattle.run_lines.specs.Runs.{run_at, joined_of, past_lines}
 use Rattle.run_lines.specs.declared.Joined.{Joined}
-use Rattle.base_refusals.specs.declared.Outcome.TheVariants as outcome
 use Rattle.block_trimmed_line.specs.declared.Front.{Front}
 use Rattle.block_trimmed_line.specs.Fronts.{front_of, begins_indented}
-use Rattle.text_line_start.specs.declared.Start.TheVariants as start
 use Rattle.text_line_start.specs.Starts.{start_at, place_of}
 use Rattle.read_blocks.specs.Blocks.{Found, nothing, run_found, found, join_holds}
 use Rattle.read_blocks.proofs.Finds.{none_holds, refused_is, closed_is}
 use Rattle.read_blocks.proofs.ByLine.{block_none, block_at}
 use Rattle.read_blocks.proofs.Wraps.{run_more}
-use Rattle.read_lengths.specs.declared.Length.TheVariants as lengthIs
 use Rattle.read_lengths.specs.declared.Measure.{Measure}
 use Rattle.read_lengths.specs.Lengths.{measured, unless_line, flush_left, standalone_found, indented_found}
 use Rattle.read_lengths.specs.Inner.{unmeasured}
@@ -33,7 +31,7 @@ module _ (t : List ℕ) (at : ℕ) where
   unfolding measured past_lines
   none_measured p = p
 
-  pub line_measured : {f : Front} → f ≡ front_of t at → record { length = lengthIs.Lines 1; lookahead = 0; joined = 0; next = f.next } ≡ measured t at Found.line
+  pub line_measured : {f : Front} → f ≡ front_of t at → record { length = Ok 1; lookahead = 0; joined = 0; next = f.next } ≡ measured t at Found.line
   unfolding measured past_lines front_of
   line_measured p = rw p
 
@@ -50,18 +48,18 @@ module _ (t : List ℕ) (at base : ℕ) (buf : List ℕ) {j : Joined} {b : List 
   abbrev f : Found
   f = run_found t at base (length buf)
 
-  pub run-measured : {q : Refusal} → j.stop ≡ outcome.Refused q → record { length = lengthIs.Refused q; lookahead = j.lookahead; joined = j.len; next = at } ≡ measured t at f
+  pub run-measured : {q : Refusal} → j.stop ≡ Err q → record { length = Err q; lookahead = j.lookahead; joined = j.len; next = at } ≡ measured t at f
   unfolding measured past_lines
   run-measured s = rw (refused_is t at base buf e o s, e)
 
-  module _ (s : j.stop ≡ outcome.Passed) where
+  module _ (s : j.stop ≡ Ok tt) where
     pub good_measured : good_line (take j.len b) 0 j.len ≡ true
-        → record { length = lengthIs.Lines j.lines; lookahead = j.lookahead; joined = j.len; next = j.next } ≡ measured t at f
+        → record { length = Ok j.lines; lookahead = j.lookahead; joined = j.len; next = j.next } ≡ measured t at f
     unfolding measured
     good_measured g = rw (closed_is t at base buf e o s true g, e)
 
     pub bad_measured : good_line (take j.len b) 0 j.len ≡ false
-        → record { length = lengthIs.Refused NoReading; lookahead = j.lookahead; joined = j.len; next = at } ≡ measured t at f
+        → record { length = Err NoReading; lookahead = j.lookahead; joined = j.len; next = at } ≡ measured t at f
     unfolding measured past_lines
     bad_measured g = rw (closed_is t at base buf e o s false g, e)
 
@@ -72,7 +70,7 @@ run_stays t at base cap c = rw (run_more t at base cap c)
 -- ---- by line number
 
 module _ (t : List ℕ) (n : ℕ) where
-  module _ {r : Refusal} (e : start_at t n ≡ start.Refused r) where
+  module _ {r : Refusal} (e : start_at t n ≡ Err r) where
     pub standalone_none : (cap : ℕ) → standalone_found t n cap ≡ nothing r
     unfolding standalone_found
     standalone_none cap = rw e
@@ -84,7 +82,7 @@ module _ (t : List ℕ) (n : ℕ) where
     pub missing_by : (buf : List ℕ) {f : Found} {m : Measure} → f ≡ nothing r → m ≡ unmeasured r 0 → (m ≡ measured t (place_of t n) f) × (buf ≡ join_holds buf f)
     missing_by buf z p = rw e (none_by t 0 buf z p)
 
-  module _ {at : ℕ} (e : start_at t n ≡ start.At at) where
+  module _ {at : ℕ} (e : start_at t n ≡ Ok at) where
     pub standalone_in : (cap : ℕ) → begins_indented (line_at t at) ≡ true → standalone_found t n cap ≡ nothing NothingThere
     unfolding standalone_found flush_left
     standalone_in cap i = rw (e, i)

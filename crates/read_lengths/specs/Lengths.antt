@@ -1,5 +1,5 @@
 -- How many lines a block has: what measuring answers, and which block each entry measures.
-use Rattle.std.specs.Prelude.{ℕ, cond, List, [], ◌∷◌, eqb, length}
+use Rattle.std.specs.Prelude.{ℕ, cond, List, [], ◌∷◌, eqb, length, Err, Ok, Result}
 use Rattle.text_lines.specs.Lines.{line_at}
 use Rattle.base_refusals.specs.Numbers.{Paper, refused_paper, passed_paper}
 use Rattle.base_refusals.specs.Orders.{Ground}
@@ -9,28 +9,27 @@ use Rattle.block_trimmed_line.specs.Fronts.{begins_indented}
 use Rattle.text_line_start.specs.Starts.{start_at, on_start, line_order}
 use Rattle.read_blocks.specs.Blocks.{Found, nothing, found, joined_in, lookahead_of, lines_of, found_order}
 use Rattle.read_blocks.specs.ByLine.{block_found}
-use Rattle.read_lengths.specs.declared.Length as lengths
-use Rattle.read_lengths.specs.declared.Length.TheVariants as lengthIs
 use Rattle.read_lengths.specs.declared.Measure.{Measure}
+use Rattle.base_refusals.specs.declared.Refusal.{Refusal}
 
 -- ---- measuring: "Measuring never gives 6 or 7"
 
-abbrev pub length_of : Found → lengths.Length
-length_of Found.line = lengthIs.Lines 1
-length_of (Found.run r) = lengthIs.Lines r.lines
-length_of (Found.none q x n) = lengthIs.Refused q
+abbrev pub length_of : Found → Result ℕ Refusal
+length_of Found.line = Ok 1
+length_of (Found.run r) = Ok r.lines
+length_of (Found.none q x n) = Err q
 
 -- the number of an answer, 0 where a block is there, and its lines
-abbrev pub length_paper : lengths.Length → Paper
-length_paper (lengthIs.Refused r) = refused_paper r
-length_paper (lengthIs.Lines n) = passed_paper (n ∷ [])
+abbrev pub length_paper : Result ℕ Refusal → Paper
+length_paper (Err r) = refused_paper r
+length_paper (Ok n) = passed_paper (n ∷ [])
 
-abbrev pub length_no : lengths.Length → ℕ
+abbrev pub length_no : Result ℕ Refusal → ℕ
 length_no l = (length_paper l).number
 
-abbrev pub lines_in : lengths.Length → ℕ
-lines_in (lengthIs.Refused r) = 0
-lines_in (lengthIs.Lines n) = n
+abbrev pub lines_in : Result ℕ Refusal → ℕ
+lines_in (Err r) = 0
+lines_in (Ok n) = n
 
 -- with the place behind the block
 unfoldable pub measured : List ℕ → ℕ → Found → Measure

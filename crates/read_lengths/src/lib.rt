@@ -9,20 +9,12 @@ ghost use Rattle.read_blocks.specs.ByLine.{block_found};
 ghost use Rattle.read_lengths.specs.Lengths.{length_paper, measured, unless_line, standalone_found, indented_found, length_order, flush_order, indented_order};
 ghost use Rattle.read_lengths.specs.Inner.{unmeasured};
 
-use base_refusals::{Outcome, Refusal};
-use text_line_start::Start;
-
-// How many lines a block has, or why none is there.
-#[derive(Clone, Copy)]
-pub enum Length {
-    Refused(Refusal),
-    Lines(usize),
-}
+use base_refusals::Refusal;
 
 // What measuring answers, with how many bytes were joined, and the place behind the block.
 #[derive(Clone, Copy)]
 pub struct Measure {
-    pub length: Length,
+    pub length: Result<usize, Refusal>,
     pub lookahead: usize,
     pub joined: usize,
     pub next: usize,
@@ -33,7 +25,7 @@ fn no_measure(r: Refusal, at: usize) -> Measure
     ensures { result ≡ unmeasured r at }
 {
     Measure {
-        length: Length::Refused(r),
+        length: Err(r),
         lookahead: 0,
         joined: 0,
         next: at,
@@ -48,23 +40,23 @@ fn measure_run(text: &[u8], at: usize, base: usize, join: &mut [u8]) -> Measure
     let j = run_lines::join_run(text, at, base, join);
     let stop = j.stop;
     match stop {
-        Outcome::Refused(r) => Measure {
-            length: Length::Refused(r),
+        Err(r) => Measure {
+            length: Err(r),
             lookahead: j.lookahead,
             joined: j.len,
             next: at,
         },
-        Outcome::Passed => {
+        Ok(()) => {
             if block_chain::good_line(&join[..j.len], 0, j.len) {
                 return Measure {
-                    length: Length::Lines(j.lines),
+                    length: Ok(j.lines),
                     lookahead: j.lookahead,
                     joined: j.len,
                     next: j.next,
                 };
             }
             Measure {
-                length: Length::Refused(Refusal::NoReading),
+                length: Err(Refusal::NoReading),
                 lookahead: j.lookahead,
                 joined: j.len,
                 next: at,
@@ -84,7 +76,7 @@ fn measure_at(text: &[u8], at: usize, base: usize, join: &mut [u8]) -> Measure
     }
     if block_chain::good_line(text, f.from, f.to) {
         return Measure {
-            length: Length::Lines(1),
+            length: Ok(1),
             lookahead: 0,
             joined: 0,
             next: f.next,
@@ -121,8 +113,8 @@ pub fn standalone_attrs_block_len(text: &[u8], line: usize, join: &mut [u8]) -> 
     ensures length_value { length_paper result.length ≡ on_paper (flush_order text.now line (length join.old)) (lines_of (standalone_found text.now line (length join.old)) ∷ []) }
 {
     match text_line_start::line_start(text, line) {
-        Start::Refused(r) => no_measure(r, 0),
-        Start::At(at) => {
+        Err(r) => no_measure(r, 0),
+        Ok(at) => {
             if block_trimmed_line::is_indented(text, at) {
                 return no_measure(Refusal::NothingThere, at);
             }
@@ -138,8 +130,8 @@ pub fn indented_wrapped_attrs_block_len(text: &[u8], line: usize, join: &mut [u8
     ensures length_value { length_paper result.length ≡ on_paper (indented_order text.now line (length join.old)) (lines_of (indented_found text.now line (length join.old)) ∷ []) }
 {
     match text_line_start::line_start(text, line) {
-        Start::Refused(r) => no_measure(r, 0),
-        Start::At(at) => measure_wrapped_at(text, at, join),
+        Err(r) => no_measure(r, 0),
+        Ok(at) => measure_wrapped_at(text, at, join),
     }
 }
 
@@ -150,7 +142,7 @@ pub fn attrs_block_len_at(text: &[u8], line: usize, column: usize, join: &mut [u
     ensures length_value { length_paper result.length ≡ on_paper (length_order text.now line column (length join.old)) (lines_of (block_found text.now line column (length join.old)) ∷ []) }
 {
     match text_line_start::line_start(text, line) {
-        Start::Refused(r) => no_measure(r, 0),
-        Start::At(at) => measure_at(text, at, column, join),
+        Err(r) => no_measure(r, 0),
+        Ok(at) => measure_at(text, at, column, join),
     }
 }

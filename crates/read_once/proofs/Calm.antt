@@ -1,5 +1,6 @@
 -- The search for the close passes over bytes that don't touch it, and stops at the first `}`.
 -- Assumes nothing.
+use Rattle.std.specs.Prelude.{None, Option, Some}
 use mathlib.Core.Path.{◌≡◌, refl, sym, ◌∙◌, ap}
 use mathlib.Core.Bool.{Bool, true, false, not, cond, ◌||◌}
 use mathlib.Core.List.{List, [], ◌∷◌}
@@ -18,9 +19,6 @@ use Rattle.base_lists.proofs.More.{contra, not_in}
 use Rattle.base_bytes.specs.Bytes.{is_quote}
 use Rattle.block_grammar.specs.Close.{turned, fresh}
 use Rattle.block_grammar.specs.ComputedClose.{Scanned, going, scan_step, find_close}
-use Rattle.block_grammar.specs.declared.Quote.TheVariants.{Out, In}
-use Rattle.block_grammar.specs.declared.Place.{Place}
-use Rattle.block_grammar.specs.declared.Place.TheVariants.{Nothing, At}
 use Rattle.block_grammar.proofs.Close as close
 use Rattle.block_grammar.proofs.Close.{quote-lf}
 use Rattle.block_close.specs.Inner.{Shuts}
@@ -31,7 +29,7 @@ calm_step : (b : ℕ) → is_in specials b ≡ false → Scanned.on fresh ≡ sc
 unfolding scan_step turned is_quote is_in
 calm_step b h = go (eqb b 34) (eqb b 39) (eqb b 92) (eqb b 125) (eqb b 10) h
   where
-    go : (v w x y z : Bool) → (v || (w || (x || (y || (z || false))))) ≡ false → Scanned.on fresh ≡ cond z Scanned.broken (cond x (going Out true) (cond y Scanned.closed (going (cond (v || (w || false)) (In b) Out) false)))
+    go : (v w x y z : Bool) → (v || (w || (x || (y || (z || false))))) ≡ false → Scanned.on fresh ≡ cond z Scanned.broken (cond x (going None true) (cond y Scanned.closed (going (cond (v || (w || false)) (Some b) None) false)))
     go true w x y z h = contra true refl h
     go false true x y z h = contra true refl h
     go false false true y z h = contra true refl h
@@ -84,27 +82,27 @@ pub passed : {t : List ℕ} {i k : ℕ} → Passes t i k → (i ≤ k) × (find_
 passed inv = (inv.from, inv.close)
 
 -- the search goes on behind it
-pub stretch : {t : List ℕ} {r : Place} {k e : ℕ} → close.Scans t r k fresh → find_close t e ≡ find_close t k → close.Scans t r e fresh
+pub stretch : {t : List ℕ} {r : Option ℕ} {k e : ℕ} → close.Scans t r k fresh → find_close t e ≡ find_close t k → close.Scans t r e fresh
 unfolding find_close
 stretch inv h = record { rest = h ∙ inv.rest }
 
 -- ---- at the close, and before it
 module _ (t : List ℕ) where
-  pub here : (i : ℕ) → i < length t → get_or t i 0 ≡ 125 → find_close t i ≡ At i
+  pub here : (i : ℕ) → i < length t → get_or t i 0 ≡ 125 → find_close t i ≡ Some i
   here i l e = sym (scans.closed (close.start t i) (record { there = l; flat = rw e }) e)
 
-  pub nowhere : (i : ℕ) → length t ≤ i → find_close t i ≡ Nothing
+  pub nowhere : (i : ℕ) → length t ≤ i → find_close t i ≡ None
   nowhere i l = sym (close.end (close.start t i) l)
 
-  pub not_here : (i : ℕ) {c : ℕ} → (get_or t i 0 ≡ 125 → ⊥) → find_close t i ≡ At c → i < c
+  pub not_here : (i : ℕ) {c : ℕ} → (get_or t i 0 ≡ 125 → ⊥) → find_close t i ≡ Some c → i < c
   not_here i {c} n h = go (eqb i c) refl
     where
       go : (x : Bool) → eqb i c ≡ x → i < c
       go true p = absurd (n (rw (eqb-true i c p) (close.found t i c h).brace))
       go false p = omega (arith, (close.found t i c h).from, eqb-false i c p)
 
-  pub same_close : (i : ℕ) {c : ℕ} → i < length t → get_or t i 0 ≡ 125 → find_close t i ≡ At c → c ≡ i
-  same_close i {c} l e h = let z : At i ≡ At c = sym (here i l e) ∙ h in cc
+  pub same_close : (i : ℕ) {c : ℕ} → i < length t → get_or t i 0 ≡ 125 → find_close t i ≡ Some c → c ≡ i
+  same_close i {c} l e h = let z : Some i ≡ Some c = sym (here i l e) ∙ h in cc
 
 -- ---- over a value in quotes, whose opening quote stands at k
 module _ (t : List ℕ) (k : ℕ) (l : k < length t) (h : is_quote (get_or t k 0) ≡ true) where
@@ -120,9 +118,9 @@ module _ (t : List ℕ) (k : ℕ) (l : k < length t) (h : is_quote (get_or t k 0
   on_it : scans.On t k
   on_it = record { there = l; flat = quote-lf (get_or t k 0) h }
 
-  pub quote-passed : {p : Place} {e : ℕ} → Shuts t (get_or t k 0) (k + 1) p → p ≡ At e → find_close t (e + 1) ≡ find_close t k
+  pub quote-passed : {p : Option ℕ} {e : ℕ} → Shuts t (get_or t k 0) (k + 1) p → p ≡ Some e → find_close t (e + 1) ≡ find_close t k
   unfolding find_close
   quote-passed s e = (scans.passed (close.start t k) on_it one_of s e).rest
 
-  pub quote_unshut : {p : Place} → Shuts t (get_or t k 0) (k + 1) p → p ≡ Nothing → find_close t k ≡ Nothing
+  pub quote_unshut : {p : Option ℕ} → Shuts t (get_or t k 0) (k + 1) p → p ≡ None → find_close t k ≡ None
   quote_unshut s e = sym (scans.unshut (close.start t k) on_it one_of s e)

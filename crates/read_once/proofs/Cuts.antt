@@ -1,5 +1,6 @@
 -- A text cut at c, where its block closes: what is found before c is found in the cut text too.
 -- Assumes nothing.
+use Rattle.std.specs.Prelude.{Some}
 use mathlib.Core.Path.{◌≡◌, refl, sym, ◌∙◌, ap}
 use mathlib.Core.Bool.{Bool, true, false, cond}
 use mathlib.Core.List.{List, [], ◌∷◌}
@@ -13,7 +14,6 @@ use Rattle.base_lists.proofs.More.{contra}
 use Rattle.base_lists.proofs.Parts.{drop-take}
 use Rattle.base_letters.specs.Classes.{front_run}
 use Rattle.block_grammar.specs.Computed.{Shut, later, shut_step, shut_of}
-use Rattle.block_grammar.specs.declared.Place.TheVariants.{At}
 use Rattle.block_tokens.specs.Inner.{part, shut_at}
 use Rattle.block_tokens.proofs.Quotes.{Closed, closed}
 
@@ -105,7 +105,7 @@ module _ {t : List ℕ} {e c : ℕ} (u : Cut t e c) where
   cut_byte k h = get_or-take c t k 0 (omega (arith, u.low))
 
 -- a quote that closes before c
-pub cut_closed : (q : ℕ) {t : List ℕ} {c : ℕ} (a : ℕ) {e : ℕ} → Cut t (e + 1) c → At e ≡ shut_at a (shut_of q (drop a t) false) → a ≤ length t → Closed q (take c t) a e
+pub cut_closed : (q : ℕ) {t : List ℕ} {c : ℕ} (a : ℕ) {e : ℕ} → Cut t (e + 1) c → Some e ≡ shut_at a (shut_of q (drop a t) false) → a ≤ length t → Closed q (take c t) a e
 cut_closed q {t} {c} a {e} u h l =
     let d = closed q t a h l in
     record {

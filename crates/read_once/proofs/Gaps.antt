@@ -1,5 +1,6 @@
 -- Blanks between tokens: the search for the close passes them, and up to the close they are the grammar's blanks.
 -- Assumes nothing.
+use Rattle.std.specs.Prelude.{None, Some}
 use mathlib.Core.Path.{◌≡◌, refl, sym, ◌∙◌, ap}
 use mathlib.Core.Bool.{Bool, true, false, not, cond, ◌&&◌}
 use mathlib.Core.List.{List, [], ◌∷◌}
@@ -17,7 +18,6 @@ use Rattle.base_bytes.specs.declared.Mode.{Mode}
 use Rattle.base_bytes.specs.Bytes.{is_blank, is_quote}
 use Rattle.block_grammar.specs.Close.{fresh, turned}
 use Rattle.block_grammar.specs.ComputedClose.{Scanned, scan_step, close_from, find_close}
-use Rattle.block_grammar.specs.declared.Place.TheVariants.{Nothing, At}
 use Rattle.block_grammar.proofs.Bytes.{blank_not}
 use Rattle.block_grammar.proofs.Close.{found}
 use Rattle.read_once.specs.Inner.{is_gap}
@@ -53,7 +53,7 @@ passed m (b ∷ s) i = go (is_gap m b) refl (passed m s (suc i))
     go false e ih = rw add-zero
 
 -- an LF means no close
-lf_none : (t : List ℕ) (a : ℕ) → a < length t → eqb (get_or t a 0) 10 ≡ true → find_close t a ≡ Nothing
+lf_none : (t : List ℕ) (a : ℕ) → a < length t → eqb (get_or t a 0) 10 ≡ true → find_close t a ≡ None
 unfolding find_close close_from scan_step
 lf_none t a h e = rw (drop-cons t a 0 h, e)
 
@@ -81,8 +81,8 @@ module _ (m : Mode) (t : List ℕ) (i : ℕ) {a : ℕ} (is : a ≡ i + run (is_g
   gap_within h = omega (arith, is, run_le (is_gap m) (drop i t), length-drop i t)
 
   -- the close is at c
-  module _ {c : ℕ} (h : find_close t i ≡ At c) where
-    here : find_close t a ≡ At c
+  module _ {c : ℕ} (h : find_close t i ≡ Some c) where
+    here : find_close t a ≡ Some c
     here = gap_close ∙ h
 
     pub gap_blanks : a ≡ i + run (is_blank m) (drop i (take c t))

@@ -1,5 +1,6 @@
 -- The loop of the walk: how it begins, how a move carries it on, and what it comes to.
 -- Assumes nothing.
+use Rattle.std.specs.Prelude.{None, Ok, Option, Some, Err, Result}
 use mathlib.Core.Path.{◌≡◌, refl, sym, ◌∙◌, ap}
 use mathlib.Core.Bool.{Bool, true, false, cond}
 use mathlib.Core.List.{List, [], ◌∷◌, map, flat_map}
@@ -13,16 +14,12 @@ use Rattle.base_bytes.specs.declared.Mode.{Mode}
 use Rattle.base_refusals.specs.Numbers.{number_of, outcome_no}
 use Rattle.base_refusals.specs.Orders.{in_order}
 use Rattle.base_refusals.specs.declared.Refusal.TheVariants.{NotUtf8, NoReading, TooManyClasses, TooManyKeys, BadTag}
-use Rattle.base_refusals.specs.declared.Outcome as outcomes
-use Rattle.base_refusals.specs.declared.Outcome.TheVariants as outcome
 use Rattle.text_utf8.specs.Computed.{is_utf8}
 use Rattle.text_langtags.specs.Computed.{is_allowed}
 use Rattle.block_grammar.specs.Grammar.{Item, Placed, Reading}
 use Rattle.block_grammar.specs.Computed.{read_from, one_or_more, read_payload}
 use Rattle.block_grammar.specs.ComputedClose.{find_close}
 use Rattle.block_grammar.specs.Meaning.{id_name, class_name, or_whole, piece_ranges}
-use Rattle.block_grammar.specs.declared.Place.{Place}
-use Rattle.block_grammar.specs.declared.Place.TheVariants.{Nothing, At}
 use Rattle.block_grammar.proofs.Close.{found}
 use Rattle.block_places.specs.Computed.{payload_place}
 use Rattle.set_table.specs.declared.Attrs.{Attrs}
@@ -35,8 +32,8 @@ use Rattle.set_table.specs.Filled.{refusing, limited}
 use Rattle.set_fill.specs.Fill.{filled_by, filled_of}
 use Rattle.set_fill.specs.Inner.{Rest, of_reading, before, filled_from}
 use Rattle.read_brace.specs.Brace.{payload_of, finished, refusing_read}
-use Rattle.read_brace.specs.declared.Answer.{Answer}
-use Rattle.read_brace.specs.declared.Answer.TheVariants.{Refused, Unread, Next}
+use Rattle.read_brace.specs.declared.NotRead.{NotRead}
+use Rattle.read_brace.specs.declared.NotRead.TheVariants.{Refused, Unread}
 use Rattle.read_brace.specs.declared.Read.{Read}
 use Rattle.read_tags.specs.Tagged.{lang_of, unless_new, lang_after, tag_passes, passed_by}
 use Rattle.read_tags.specs.Inner.{passes_with, passes_items, passes_rest}
@@ -53,31 +50,31 @@ use Rattle.read_once.proofs.Tables.{fits_none, fits-limited}
 use Rattle.read_once.proofs.Values.{none_left}
 
 -- ---- each token puts something
-record Some {A : Type 0} (xs : List A) : Type 0 where
+record NotEmpty {A : Type 0} (xs : List A) : Type 0 where
   head : A
   tail : List A
   is : xs ≡ head ∷ tail
 
-named_some : (at : ℕ) (k : List ℕ) (x : Text) (cs : List Put) → Some cs → Some (by_name at k x cs)
+named_some : (at : ℕ) (k : List ℕ) (x : Text) (cs : List Put) → NotEmpty cs → NotEmpty (by_name at k x cs)
 unfolding by_name
 named_some at k x cs s = go (same k id_name) (same k class_name) _ _
   where
-    go : (a b : Bool) (p q : Put) → Some (cond a (p ∷ []) (cond b cs (q ∷ [])))
+    go : (a b : Bool) (p q : Put) → NotEmpty (cond a (p ∷ []) (cond b cs (q ∷ [])))
     go true b p q = record { head = p; tail = []; is = refl }
     go false true p q = s
     go false false p q = record { head = q; tail = []; is = refl }
 
-whole_some : {A : Type 0} (v : A) (ps : List A) → Some (or_whole v ps)
+whole_some : {A : Type 0} (v : A) (ps : List A) → NotEmpty (or_whole v ps)
 whole_some v [] = record { head = v; tail = []; is = refl }
 whole_some v (p ∷ ps) = record { head = p; tail = ps; is = refl }
 
-valued_some : (at : ℕ) (k : List ℕ) (x : ℕ → ℕ → Text) (from : ℕ) (v : List ℕ) → Some (valued at k x from v)
+valued_some : (at : ℕ) (k : List ℕ) (x : ℕ → ℕ → Text) (from : ℕ) (v : List ℕ) → NotEmpty (valued at k x from v)
 unfolding valued
 valued_some at k x from v =
     named_some at k (x from (from + length v)) (or_whole (Put.class (value_of (x from (from + length v)))) (map (piece_of x) (piece_ranges from from v)))
     (whole_some (Put.class (value_of (x from (from + length v)))) (map (piece_of x) (piece_ranges from from v)))
 
-puts_some : (at : ℕ) (j : Item) → Some (puts_of at j)
+puts_some : (at : ℕ) (j : Item) → NotEmpty (puts_of at j)
 unfolding puts_of
 puts_some at (Item.tag t) = record { head = _; tail = []; is = refl }
 puts_some at (Item.id n) = record { head = _; tail = []; is = refl }
@@ -168,7 +165,7 @@ module _ {m : Mode} {t : List ℕ} {place : ℕ} {a : Attrs} {some many over : B
     less = omega (arith, p.ahead, p.inside.low, p.inside.mid, p.inside.high)
 
 -- ---- a wrong byte
-no_reading : {f : Filled} (n k : ℕ) → f ≡ refusing NoReading → finished f k n ≡ record { answer = Unread n; set = empty_set }
+no_reading : {f : Filled} (n k : ℕ) → f ≡ refusing NoReading → finished f k n ≡ record { answer = Err (Unread n); set = empty_set }
 unfolding finished number_of
 no_reading n k e = rw e
 
@@ -176,7 +173,7 @@ limits_not : (s : Rows) → limited s ≡ refusing NoReading → ⊥
 unfolding limited in_order number_of
 limits_not s e = go (ltb max_classes (length s.classes)) (ltb max_keys (length s.keys)) (ap (λ f. outcome_no f.outcome) e)
   where
-    go : (x y : Bool) → outcome_no (cond x (refusing TooManyClasses) (cond y (refusing TooManyKeys) (record { outcome = outcome.Passed; set = table_of s }))).outcome ≡ 5 → ⊥
+    go : (x y : Bool) → outcome_no (cond x (refusing TooManyClasses) (cond y (refusing TooManyKeys) (record { outcome = Ok tt; set = table_of s }))).outcome ≡ 5 → ⊥
     go true y e = omega (arith, e)
     go false true e = omega (arith, e)
     go false false e = omega (arith, e)
@@ -194,10 +191,10 @@ unfolding filled_from with_puts
 all-put t s = refl
 
 module _ {m : Mode} {t : List ℕ} {place : ℕ} {a : Attrs} {some many over : Bool} {last : Span} {k : kinds.Kind} {at to next : ℕ} (inv : Walks m t place a some many over last k at to next) where
-  pub wrong_ends : {r : Moved} → Wrongs m t next (λ s. rest_at m t s k at to next) r → (g : Tags) {x : Answer} {v : Read} → x ≡ unread_to t place r.next (find_close t (suc place)) → v ≡ no_set x → v ≡ once_to g m t place (find_close t (suc place))
+  pub wrong_ends : {r : Moved} → Wrongs m t next (λ s. rest_at m t s k at to next) r → (g : Tags) {x : Result ℕ NotRead} {v : Read} → x ≡ unread_to t place r.next (find_close t (suc place)) → v ≡ no_set x → v ≡ once_to g m t place (find_close t (suc place))
   wrong_ends {r} w g q u = u ∙ (rw q (go (find_close t (suc place)) refl g))
     where
-      closed : (c : ℕ) → find_close t (suc place) ≡ At c → (u : Bool) → is_utf8 (payload_of t place c) ≡ u → (g : Tags) → no_set (unread_to t place r.next (At c)) ≡ once_to g m t place (At c)
+      closed : (c : ℕ) → find_close t (suc place) ≡ Some c → (u : Bool) → is_utf8 (payload_of t place c) ≡ u → (g : Tags) → no_set (unread_to t place r.next (Some c)) ≡ once_to g m t place (Some c)
       closed c h u e g =
           let z = inv.each c h in
           let y = w.each c (inv.close ∙ h) in
@@ -207,30 +204,30 @@ module _ {m : Mode} {t : List ℕ} {place : ℕ} {a : Attrs} {some many over : B
           let b : passed_by (read_payload m (suc place) (payload_of t place c)) ≡ true = sym z.lang ∙ y.lang (span_allowed t last) in
           by u e g (sym (no_reading (payload_place m (payload_of t place c)) (suc c) f)) l b
         where
-          by : (u : Bool) → is_utf8 (payload_of t place c) ≡ u → (g : Tags) → record { answer = Unread (payload_place m (payload_of t place c)); set = empty_set } ≡ finished (filled_of m (one t) (suc place) (payload_of t place c)) (suc c) (payload_place m (payload_of t place c))
-              → r.next - place - 1 ≡ payload_place m (payload_of t place c) → passed_by (read_payload m (suc place) (payload_of t place c)) ≡ true → no_set (unread_to t place r.next (At c)) ≡ once_to g m t place (At c)
+          by : (u : Bool) → is_utf8 (payload_of t place c) ≡ u → (g : Tags) → record { answer = Err (Unread (payload_place m (payload_of t place c))); set = empty_set } ≡ finished (filled_of m (one t) (suc place) (payload_of t place c)) (suc c) (payload_place m (payload_of t place c))
+              → r.next - place - 1 ≡ payload_place m (payload_of t place c) → passed_by (read_payload m (suc place) (payload_of t place c)) ≡ true → no_set (unread_to t place r.next (Some c)) ≡ once_to g m t place (Some c)
           by true e Any f l b = rw (e, l) f
           by true e WellFormed f l b = rw (e, l, b) f
           by false e Any f l b = rw e
           by false e WellFormed f l b = rw e
 
-      go : (p : Place) → find_close t (suc place) ≡ p → (g : Tags) → no_set (unread_to t place r.next p) ≡ once_to g m t place p
-      go Nothing h Any = refl
-      go Nothing h WellFormed = refl
-      go (At c) h g = closed c h (is_utf8 (payload_of t place c)) refl g
+      go : (p : Option ℕ) → find_close t (suc place) ≡ p → (g : Tags) → no_set (unread_to t place r.next p) ≡ once_to g m t place p
+      go None h Any = refl
+      go None h WellFormed = refl
+      go (Some c) h g = closed c h (is_utf8 (payload_of t place c)) refl g
 
 -- ---- the close
-abbrev handed : Answer → Attrs → Read
+abbrev handed : Result ℕ NotRead → Attrs → Read
 handed x a = cond (is_next x) (record { answer = x; set = a }) (no_set x)
 
-limit_handed : (many over : Bool) (a : Attrs) (e n : ℕ) → finished (cond many (refusing TooManyClasses) (cond over (refusing TooManyKeys) (record { outcome = outcome.Passed; set = a }))) (suc e) n ≡ handed (cond many (Refused TooManyClasses) (cond over (Refused TooManyKeys) (Next (suc e)))) a
+limit_handed : (many over : Bool) (a : Attrs) (e n : ℕ) → finished (cond many (refusing TooManyClasses) (cond over (refusing TooManyKeys) (record { outcome = Ok tt; set = a }))) (suc e) n ≡ handed (cond many (Err (Refused TooManyClasses)) (cond over (Err (Refused TooManyKeys)) (Ok (suc e)))) a
 unfolding finished number_of
 limit_handed true over a e n = refl
 limit_handed false true a e n = refl
 limit_handed false false a e n = refl
 
 module _ {m : Mode} {t : List ℕ} {place : ℕ} {a : Attrs} {some many over : Bool} {last : Span} {k : kinds.Kind} {at to next : ℕ} (inv : Walks m t place a some many over last k at to next) {r : Moved} (w : Closing m t next (λ s. rest_at m t s k at to next) r) where
-  pub at_close : find_close t (suc place) ≡ At r.next
+  pub at_close : find_close t (suc place) ≡ Some r.next
   at_close = sym inv.close ∙ w.closes
 
   pub inside : (suc place ≤ r.next) × (r.next < length t)
@@ -246,30 +243,30 @@ module _ {m : Mode} {t : List ℕ} {place : ℕ} {a : Attrs} {some many over : B
   lang = sym (inv.each r.next at_close).lang ∙ (w.each r.next w.closes).lang (span_allowed t last)
 
   -- no token was met
-  none_met : some ≡ false → (g : Tags) → is_utf8 (payload_of t place r.next) ≡ true → no_set (Unread (r.next - place - 1)) ≡ once_to g m t place (At r.next)
+  none_met : some ≡ false → (g : Tags) → is_utf8 (payload_of t place r.next) ≡ true → no_set (Err (Unread (r.next - place - 1))) ≡ once_to g m t place (Some r.next)
   none_met s g u =
       let f : filled_of m (one t) (suc place) (payload_of t place r.next) ≡ refusing NoReading = rw s at filled in
       go g (sym (no_reading (payload_place m (payload_of t place r.next)) (suc r.next) f)) (passed_of (one t) m (suc place) (payload_of t place r.next) f)
     where
-      go : (g : Tags) → record { answer = Unread (payload_place m (payload_of t place r.next)); set = empty_set } ≡ finished (filled_of m (one t) (suc place) (payload_of t place r.next)) (suc r.next) (payload_place m (payload_of t place r.next))
-          → passed_by (read_payload m (suc place) (payload_of t place r.next)) ≡ true → no_set (Unread (r.next - place - 1)) ≡ once_to g m t place (At r.next)
+      go : (g : Tags) → record { answer = Err (Unread (payload_place m (payload_of t place r.next))); set = empty_set } ≡ finished (filled_of m (one t) (suc place) (payload_of t place r.next)) (suc r.next) (payload_place m (payload_of t place r.next))
+          → passed_by (read_payload m (suc place) (payload_of t place r.next)) ≡ true → no_set (Err (Unread (r.next - place - 1))) ≡ once_to g m t place (Some r.next)
       go Any f b = rw (u, spot) f
       go WellFormed f b = rw (u, spot, b) f
 
   -- some were
   some_met : some ≡ true → (g : Tags) → is_utf8 (payload_of t place r.next) ≡ true
-      → handed (cond (asked g t last) (cond many (Refused TooManyClasses) (cond over (Refused TooManyKeys) (Next (suc r.next)))) (Refused BadTag)) a ≡ once_to g m t place (At r.next)
+      → handed (cond (asked g t last) (cond many (Err (Refused TooManyClasses)) (cond over (Err (Refused TooManyKeys)) (Ok (suc r.next)))) (Err (Refused BadTag))) a ≡ once_to g m t place (Some r.next)
   some_met s g u = go g (sym (limit_handed many over a r.next (payload_place m (payload_of t place r.next))) ∙ ap (λ f. finished f (suc r.next) (payload_place m (payload_of t place r.next))) (sym all))
     where
-      all : filled_of m (one t) (suc place) (payload_of t place r.next) ≡ cond many (refusing TooManyClasses) (cond over (refusing TooManyKeys) (record { outcome = outcome.Passed; set = a }))
+      all : filled_of m (one t) (suc place) (payload_of t place r.next) ≡ cond many (refusing TooManyClasses) (cond over (refusing TooManyKeys) (record { outcome = Ok tt; set = a }))
       all = (rw s at filled) ∙ all-put (one t) inv.rows ∙ fits-limited inv.fits
 
-      go : (g : Tags) → handed (cond many (Refused TooManyClasses) (cond over (Refused TooManyKeys) (Next (suc r.next)))) a ≡ finished (filled_of m (one t) (suc place) (payload_of t place r.next)) (suc r.next) (payload_place m (payload_of t place r.next))
-          → handed (cond (asked g t last) (cond many (Refused TooManyClasses) (cond over (Refused TooManyKeys) (Next (suc r.next)))) (Refused BadTag)) a ≡ once_to g m t place (At r.next)
+      go : (g : Tags) → handed (cond many (Err (Refused TooManyClasses)) (cond over (Err (Refused TooManyKeys)) (Ok (suc r.next)))) a ≡ finished (filled_of m (one t) (suc place) (payload_of t place r.next)) (suc r.next) (payload_place m (payload_of t place r.next))
+          → handed (cond (asked g t last) (cond many (Err (Refused TooManyClasses)) (cond over (Err (Refused TooManyKeys)) (Ok (suc r.next)))) (Err (Refused BadTag))) a ≡ once_to g m t place (Some r.next)
       go Any f = rw u f
       go WellFormed f = rw (u, lang) (tagged (span_allowed t last))
         where
-          tagged : (b : Bool) → handed (cond b (cond many (Refused TooManyClasses) (cond over (Refused TooManyKeys) (Next (suc r.next)))) (Refused BadTag)) a
+          tagged : (b : Bool) → handed (cond b (cond many (Err (Refused TooManyClasses)) (cond over (Err (Refused TooManyKeys)) (Ok (suc r.next)))) (Err (Refused BadTag))) a
               ≡ cond b (finished (filled_of m (one t) (suc place) (payload_of t place r.next)) (suc r.next) (payload_place m (payload_of t place r.next))) (refusing_read BadTag)
           tagged true = f
           tagged false = refl
@@ -277,16 +274,16 @@ module _ {m : Mode} {t : List ℕ} {place : ℕ} {a : Attrs} {some many over : B
   verdict_is : (g : Tags) {passes : Bool} → passes ≡ asked g t last → handed (verdict_of (is_utf8 (payload_of t place r.next)) some passes many over place r.next) a ≡ once_to g m t place (find_close t (suc place))
   verdict_is g p = rw (at_close, p) (go (is_utf8 (payload_of t place r.next)) refl some refl)
     where
-      wrong : is_utf8 (payload_of t place r.next) ≡ false → (g : Tags) → no_set (Refused NotUtf8) ≡ once_to g m t place (At r.next)
+      wrong : is_utf8 (payload_of t place r.next) ≡ false → (g : Tags) → no_set (Err (Refused NotUtf8)) ≡ once_to g m t place (Some r.next)
       wrong u Any = rw u
       wrong u WellFormed = rw u
 
-      go : (u : Bool) → is_utf8 (payload_of t place r.next) ≡ u → (s : Bool) → some ≡ s → handed (verdict_of u s (asked g t last) many over place r.next) a ≡ once_to g m t place (At r.next)
+      go : (u : Bool) → is_utf8 (payload_of t place r.next) ≡ u → (s : Bool) → some ≡ s → handed (verdict_of u s (asked g t last) many over place r.next) a ≡ once_to g m t place (Some r.next)
       go false u s q = wrong u g
       go true u false q = none_met q g u
       go true u true q = some_met q g u
 
-  module _ (g : Tags) {passes : Bool} (p : passes ≡ asked g t last) {x : Answer} (q : x ≡ verdict_of (is_utf8 (payload_of t place r.next)) some passes many over place r.next) {b : Bool} (n : b ≡ is_next x) where
+  module _ (g : Tags) {passes : Bool} (p : passes ≡ asked g t last) {x : Result ℕ NotRead} (q : x ≡ verdict_of (is_utf8 (payload_of t place r.next)) some passes many over place r.next) {b : Bool} (n : b ≡ is_next x) where
     whole : handed x a ≡ once_to g m t place (find_close t (suc place))
     whole = ap (λ y. handed y a) q ∙ verdict_is g p
 

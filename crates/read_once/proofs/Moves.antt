@@ -1,5 +1,6 @@
 -- From what was seen to what is put next: for every place that the close may have, the token is one of the payload up to there.
 -- Assumes nothing.
+use Rattle.std.specs.Prelude.{Some}
 use mathlib.Core.Path.{◌≡◌, refl, sym, ◌∙◌, ap}
 use mathlib.Core.Bool.{true, false, cond}
 use mathlib.Core.List.{List, [], ◌∷◌}
@@ -16,7 +17,6 @@ use Rattle.block_grammar.specs.Grammar.{Item}
 use Rattle.block_grammar.specs.Computed.{First}
 use Rattle.block_grammar.specs.ComputedClose.{find_close}
 use Rattle.block_grammar.specs.Meaning.{lang_name}
-use Rattle.block_grammar.specs.declared.Place.TheVariants.{At}
 use Rattle.block_grammar.proofs.Close.{found}
 use Rattle.block_tokens.specs.declared.Token.{Token}
 use Rattle.block_tokens.specs.declared.Token.TheVariants as token
@@ -98,8 +98,8 @@ module _ (m : Mode) (t : List ℕ) {i a : ℕ} (fits : i ≤ length t) (is : a �
   close_on : find_close t w.end ≡ find_close t i
   close_on = fd.looks.close ∙ gaps.gap_close m t i is
 
-  module _ {c : ℕ} (h : find_close t i ≡ At c) where
-    at_a : find_close t a ≡ At c
+  module _ {c : ℕ} (h : find_close t i ≡ Some c) where
+    at_a : find_close t a ≡ Some c
     at_a = gaps.gap_close m t i is ∙ h
 
     long : length (take c t) ≡ c
@@ -121,7 +121,7 @@ module _ (m : Mode) (t : List ℕ) {i a : ℕ} (fits : i ≤ length t) (is : a �
   closing x q =
       let z = fd.closes (rw x) in
       let g = gaps.gap_within m t i is fits in
-      let y : find_close t i ≡ At w.end = sym (gaps.gap_close m t i is) ∙ z.1 ∙ ap (λ n. At n) (sym z.0) in
+      let y : find_close t i ≡ Some w.end = sym (gaps.gap_close m t i is) ∙ z.1 ∙ ap (λ n. Some n) (sym z.0) in
       rw q
       (record {
         told = record {
@@ -165,7 +165,7 @@ module _ (m : Mode) (t : List ℕ) {i a : ℕ} (fits : i ≤ length t) (is : a �
     putting : puts_of a item ≡ puts
     saying : lang_of item ≡ said
 
-  by_says : {at : ℕ} {puts : List Put} {said : List (List ℕ)} {r : Moved} (k : Token) → token_seen w ≡ k → At w.end ≡ token_end k → i ≤ at → Puts t at w.end puts said r
+  by_says : {at : ℕ} {puts : List Put} {said : List (List ℕ)} {r : Moved} (k : Token) → token_seen w ≡ k → Some w.end ≡ token_end k → i ≤ at → Puts t at w.end puts said r
       → ((c : ℕ) → k ≡ token_at m (take c t) a → w.end ≤ c → w.end ≤ length (take c t) → Says c k puts said) → Moves m t i i (λ s. tokens_from m s i) r
   unfolding rest_at
   by_says {r = r} k x b l p f =

@@ -1,5 +1,6 @@
 -- A token of a payload s: what it puts, what it says of `lang`, and how the place goes on behind it.
 -- Assumes nothing.
+use Rattle.std.specs.Prelude.{Some}
 use mathlib.Core.Path.{◌≡◌, refl, sym, ◌∙◌, ap}
 use mathlib.Core.Bool.{Bool, true, false}
 use mathlib.Core.List.{List, [], ◌∷◌, flat_map}
@@ -14,7 +15,6 @@ use Rattle.base_bytes.specs.declared.Mode.{Mode}
 use Rattle.base_bytes.specs.Bytes.{is_blank}
 use Rattle.block_grammar.specs.Grammar.{Item, Placed, Reading}
 use Rattle.block_grammar.specs.Computed.{First, text, token_of, also, read_from}
-use Rattle.block_grammar.specs.declared.Place.TheVariants.{At}
 use Rattle.block_grammar.proofs.Tokens.{token_sound}
 use Rattle.block_places.specs.Computed.{Spot, turn_of, walk_passes, payload_place, token_place}
 use Rattle.block_places.proofs.Tokens.{blanks_over, over, bad_place}
@@ -104,13 +104,13 @@ module _ (m : Mode) (s : List ℕ) {i a : ℕ} (fits : i ≤ length s) (is : a �
         place_on ∙ (rw (y, b))
 
   -- a token
-  module _ {t : Token} {j : Item} {e : ℕ} (q : t ≡ token_at m s a) (p : steps.item_of s t ≡ First.token j) (b : At e ≡ token_end t) where
+  module _ {t : Token} {j : Item} {e : ℕ} (q : t ≡ token_at m s a) (p : steps.item_of s t ≡ First.token j) (b : Some e ≡ token_end t) where
     is_token_lem : token_of m (drop a s) ≡ First.token j
     is_token_lem = steps.ranges m s a q ∙ p
 
     ended : a + length (text j) ≡ e
     unfolding shown
-    ended = let w : At e ≡ token_end (shown_item a j) = rw is_token_lem at (b ∙ ap token_end q) in cc (steps.item_behind a j)
+    ended = let w : Some e ≡ token_end (shown_item a j) = rw is_token_lem at (b ∙ ap token_end q) in cc (steps.item_behind a j)
 
     pub passes_over : Over m s i a j e
     unfolding place_from

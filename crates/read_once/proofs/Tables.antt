@@ -1,5 +1,6 @@
 -- The table as the walk goes: it has every row that was put, until a limit is passed; then only that is noted.
 -- Assumes nothing.
+use Rattle.std.specs.Prelude.{Ok}
 use mathlib.Core.Path.{◌≡◌, refl, sym, ap}
 use mathlib.Core.Bool.{Bool, true, false, cond}
 use Prim.Native.Nat.{ℕ, ◌<◌, ◌≤◌}
@@ -9,7 +10,6 @@ use borrow.Author.Tests.{le-ltb, lt-ltb}
 use Rattle.base_lists.proofs.More.{contra}
 use Rattle.base_refusals.specs.Orders.{in_order}
 use Rattle.base_refusals.specs.declared.Refusal.TheVariants.{TooManyClasses, TooManyKeys}
-use Rattle.base_refusals.specs.declared.Outcome.TheVariants.{Passed}
 use Rattle.set_table.specs.declared.Attrs.{Attrs}
 use Rattle.set_table.specs.declared.Name.{Name}
 use Rattle.set_table.specs.declared.Value.{Value}
@@ -101,7 +101,7 @@ module _ {rows : Rows} {a : Attrs} {many over : Bool} (f : Fits rows a many over
       passed false e = rw (same_keys t rows f.own (Put.key n v) (sym (f.keys e))) (omega (arith, key_more f.holds t v n g h))
 
 -- ---- at the close: which limit was passed, or the table itself
-pub fits-limited : {rows : Rows} {a : Attrs} {many over : Bool} → Fits rows a many over → limited rows ≡ cond many (refusing TooManyClasses) (cond over (refusing TooManyKeys) (record { outcome = Passed; set = a }))
+pub fits-limited : {rows : Rows} {a : Attrs} {many over : Bool} → Fits rows a many over → limited rows ≡ cond many (refusing TooManyClasses) (cond over (refusing TooManyKeys) (record { outcome = Ok tt; set = a }))
 unfolding limited in_order
 fits-limited {rows} {a} {many} {over} f = go many over refl refl
   where
@@ -111,7 +111,7 @@ fits-limited {rows} {a} {many} {over} f = go many over refl refl
     few_keys : over ≡ false → length rows.keys ≤ max_keys
     few_keys o = rw (f.keys o) at f.holds.keys
 
-    go : (x y : Bool) → many ≡ x → over ≡ y → limited rows ≡ cond x (refusing TooManyClasses) (cond y (refusing TooManyKeys) (record { outcome = Passed; set = a }))
+    go : (x y : Bool) → many ≡ x → over ≡ y → limited rows ≡ cond x (refusing TooManyClasses) (cond y (refusing TooManyKeys) (record { outcome = Ok tt; set = a }))
     go true y m o = rw (lt-ltb max_classes (length rows.classes) (f.many_over m))
     go false true m o = rw (le-ltb max_classes (length rows.classes) (few_classes m), lt-ltb max_keys (length rows.keys) (f.over_over o))
     go false false m o =

@@ -1,5 +1,6 @@
 -- Each token by the places that its function finds, for every place that the close may have.
 -- Assumes nothing.
+use Rattle.std.specs.Prelude.{None, Option, Some}
 use mathlib.Core.Path.{◌≡◌, refl, sym, ◌∙◌}
 use mathlib.Core.Bool.{Bool, true, false, cond, ◌&&◌}
 use mathlib.Core.List.{List}
@@ -19,8 +20,6 @@ use Rattle.text_names.specs.Computed.{tag_passes}
 use Rattle.block_grammar.specs.Grammar.{Item}
 use Rattle.block_grammar.specs.Computed.{ends, front_token}
 use Rattle.block_grammar.specs.ComputedClose.{find_close}
-use Rattle.block_grammar.specs.declared.Place.{Place}
-use Rattle.block_grammar.specs.declared.Place.TheVariants.{Nothing, At}
 use Rattle.block_grammar.proofs.Bytes.{start-part}
 use Rattle.block_places.specs.Computed.{Spot}
 use Rattle.block_tokens.specs.declared.Token as tokens
@@ -76,13 +75,13 @@ module _ (t : List ℕ) (i k : ℕ) (m : Mode) (l : k + 1 < length t) (h : is_qu
   two : k + 1 + 1 ≡ k + 2
   two = omega arith
 
-  pub quoted_none : {p : Place} {r : Seen} → QuoteEnds t (get_or t (k + 1) 0) (k + 2) p → p ≡ Nothing → r ≡ seen_of Wrong (length t) (length t) (length t)
+  pub quoted_none : {p : Option ℕ} {r : Seen} → QuoteEnds t (get_or t (k + 1) 0) (k + 2) p → p ≡ None → r ≡ seen_of Wrong (length t) (length t) (length t)
       → Sees t i (k + 1) (λ c. shown i (spot_place (Spot.quoted (get_or t (k + 1) 0) false) (k + 2) (take c t)) (quoted_from m (part i k (take c t)) (get_or t (k + 1) 0) (drop (k + 2) (take c t)))) r
   quoted_none q e p =
       let z = calm.quote_unshut t (k + 1) l h (rw two q.shuts) e in
       look.wrongs p (omega arith) (omega arith) (calm.nowhere t (length t) (omega arith) ∙ sym z) (λ c w u. contra true refl (cc))
 
-  pub quoted_some : {p : Place} {e : ℕ} {r : Seen} → i ≤ k → QuoteEnds t (get_or t (k + 1) 0) (k + 2) p → p ≡ At e → Sees t i (e + 1) (λ c. cond (ends m (drop (e + 1) (take c t))) (Quoted i k (e + 1)) (Bad (e + 1))) r
+  pub quoted_some : {p : Option ℕ} {e : ℕ} {r : Seen} → i ≤ k → QuoteEnds t (get_or t (k + 1) 0) (k + 2) p → p ≡ Some e → Sees t i (e + 1) (λ c. cond (ends m (drop (e + 1) (take c t))) (Quoted i k (e + 1)) (Bad (e + 1))) r
       → Sees t i (k + 1) (λ c. shown i (spot_place (Spot.quoted (get_or t (k + 1) 0) false) (k + 2) (take c t)) (quoted_from m (part i k (take c t)) (get_or t (k + 1) 0) (drop (k + 2) (take c t)))) r
   quoted_some {e = e} n q p s =
       let w = q.shuts.within e p in

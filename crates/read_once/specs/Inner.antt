@@ -1,5 +1,5 @@
 -- What private functions promise as the walk goes: nothing that a reader of the public promises has to believe.
-use Rattle.std.specs.Prelude.{ℕ, suc, ◌+◌, ◌-◌, ◌<◌, ◌≤◌, ◌≡◌, Bool, true, false, not, cond, ◌&&◌, List, [], ◌∷◌, map, eqb, leb, ltb, length, take, drop}
+use Rattle.std.specs.Prelude.{ℕ, suc, ◌+◌, ◌-◌, ◌<◌, ◌≤◌, ◌≡◌, Bool, true, false, not, cond, ◌&&◌, List, [], ◌∷◌, map, eqb, leb, ltb, length, take, drop, None, Option, Some, Err, Ok, Result}
 use Rattle.std.proofs.Math.Seq.{slice}
 use Rattle.base_lists.specs.Lists.{is_in, run}
 use Rattle.base_bytes.specs.declared.Mode.{Mode}
@@ -10,8 +10,6 @@ use Rattle.text_names.specs.Computed.{tag_passes}
 use Rattle.text_langtags.specs.Computed.{is_allowed}
 use Rattle.block_grammar.specs.Computed.{shut_of, read_payload}
 use Rattle.block_grammar.specs.ComputedClose.{find_close}
-use Rattle.block_grammar.specs.declared.Place.{Place}
-use Rattle.block_grammar.specs.declared.Place.TheVariants.{Nothing, At}
 use Rattle.block_places.specs.Computed.{Spot, walk_passes, payload_place}
 use Rattle.block_tokens.specs.declared.Token as tokens
 use Rattle.block_tokens.specs.declared.Token.TheVariants as token
@@ -35,8 +33,8 @@ use Rattle.set_table.specs.Inner.{Holds}
 use Rattle.set_fill.specs.Fill.{filled_of}
 use Rattle.set_fill.specs.Inner.{Rest, before, tokens_from, filled_from}
 use Rattle.read_brace.specs.Brace.{payload_of, read_to, refusing_read}
-use Rattle.read_brace.specs.declared.Answer.{Answer}
-use Rattle.read_brace.specs.declared.Answer.TheVariants.{Refused, Unread, Next}
+use Rattle.read_brace.specs.declared.NotRead.{NotRead}
+use Rattle.read_brace.specs.declared.NotRead.TheVariants.{Refused, Unread}
 use Rattle.read_brace.specs.declared.Read.{Read}
 use Rattle.read_tags.specs.Tagged.{passed_by, tag_to}
 use Rattle.read_tags.specs.Inner.{passes_with, passes_from}
@@ -68,9 +66,9 @@ unfoldable pub is_calm : ℕ → Bool
 is_calm b = not (is_in specials b)
 
 -- r, where the quote q closes from i on, or none if an LF or the text's end comes first
-pub record QuoteEnds (t : List ℕ) (q i : ℕ) (r : Place) : Type 0 where
+pub record QuoteEnds (t : List ℕ) (q i : ℕ) (r : Option ℕ) : Type 0 where
   pub shuts : Shuts t q i r
-  pub found : (e : ℕ) → r ≡ At e → At e ≡ shut_at i (shut_of q (drop i t) false)
+  pub found : (e : ℕ) → r ≡ Some e → Some e ≡ shut_at i (shut_of q (drop i t) false)
 
 -- how many bytes the last subtag has where a tag stops, with k of the present one read before
 unfoldable pub tag_size : (ℕ → Bool) → List ℕ → ℕ → ℕ
@@ -131,7 +129,7 @@ pub record Looks (t : List ℕ) (a : ℕ) (tok : ℕ → tokens.Token) (r : Seen
   pub from : a ≤ r.end
   pub within : r.end ≤ length t
   pub close : find_close t r.end ≡ find_close t a
-  pub each : (c : ℕ) → find_close t a ≡ At c → token_seen r ≡ tok c
+  pub each : (c : ℕ) → find_close t a ≡ Some c → token_seen r ≡ tok c
 
 -- the places of a token whose first byte stands at i
 abbrev pub SpansBy : ℕ → sorts.Sort → ℕ → ℕ → ℕ → Type 0
@@ -159,8 +157,8 @@ pub record Found (m : Mode) (t : List ℕ) (i : ℕ) (r : Seen) : Type 0 where
   pub looks : Looks t i (λ c. token_at m (take c t) i) r
   pub ahead : is_token r.sort ≡ true → i < r.end
   pub spans : Spans i r
-  pub closes : is_closing r.sort ≡ true → (r.end ≡ i) × (find_close t i ≡ At i)
-  pub still : is_closing r.sort ≡ false → (c : ℕ) → find_close t i ≡ At c → i < c
+  pub closes : is_closing r.sort ≡ true → (r.end ≡ i) × (find_close t i ≡ Some i)
+  pub still : is_closing r.sort ≡ false → (c : ℕ) → find_close t i ≡ Some c → i < c
 
 -- ======== part 2: what is put next
 
@@ -310,15 +308,15 @@ pub record Gives (m : Mode) (t s : List ℕ) (next : ℕ) (rest : Rest) (r : Mov
 -- the move lies in the text, wherever the close is; and if there is one, the move is right of what stands before it. Of the close:
 pub record Closing (m : Mode) (t : List ℕ) (next : ℕ) (rest : List ℕ → Rest) (r : Moved) : Type 0 where
   pub ahead : next ≤ r.next
-  pub closes : find_close t next ≡ At r.next
-  pub each : (c : ℕ) → find_close t next ≡ At c → Ends m (take c t) next (rest (take c t)) r
+  pub closes : find_close t next ≡ Some r.next
+  pub each : (c : ℕ) → find_close t next ≡ Some c → Ends m (take c t) next (rest (take c t)) r
 
 -- the same of a wrong byte
 pub record Wrongs (m : Mode) (t : List ℕ) (next : ℕ) (rest : List ℕ → Rest) (r : Moved) : Type 0 where
   pub ahead : next ≤ r.next
   pub within : r.next ≤ length t
   pub close : find_close t r.next ≡ find_close t next
-  pub each : (c : ℕ) → find_close t next ≡ At c → Fails m (take c t) next (rest (take c t)) r
+  pub each : (c : ℕ) → find_close t next ≡ Some c → Fails m (take c t) next (rest (take c t)) r
 
 -- the same of something that is put
 pub record Putting (m : Mode) (t : List ℕ) (at next : ℕ) (rest : List ℕ → Rest) (r : Moved) : Type 0 where
@@ -326,7 +324,7 @@ pub record Putting (m : Mode) (t : List ℕ) (at next : ℕ) (rest : List ℕ �
   pub inside : Stands t r.at r.end r.next
   pub short : (r.name ≤ length t) × (r.key ≤ length t) × (r.from ≤ length t) × (r.to ≤ length t)
   pub close : find_close t r.next ≡ find_close t next
-  pub each : (c : ℕ) → find_close t next ≡ At c → Gives m t (take c t) next (rest (take c t)) r
+  pub each : (c : ℕ) → find_close t next ≡ Some c → Gives m t (take c t) next (rest (take c t)) r
 
 -- what a move says, by its code
 abbrev pub MoveTells : Mode → List ℕ → ℕ → ℕ → (List ℕ → Rest) → Moved → codes.Code → Type 0
@@ -374,35 +372,35 @@ pub record Walks (m : Mode) (t : List ℕ) (place : ℕ) (a : Attrs) (some many 
   pub stands : Stands t at to next
   pub from : suc place ≤ at
   pub close : find_close t next ≡ find_close t (suc place)
-  pub each : (c : ℕ) → find_close t (suc place) ≡ At c → Still m t place c rows some last k at to next
+  pub each : (c : ℕ) → find_close t (suc place) ≡ Some c → Still m t place c rows some last k at to next
 
 -- ---- what the walk comes to
 -- a payload that goes wrong at n: 4, then 2, then 5 with the place
-abbrev pub unread_to : List ℕ → ℕ → ℕ → Place → Answer
-unread_to t i n Nothing = Refused NoClose
-unread_to t i n (At e) = cond (is_utf8 (payload_of t i e)) (Unread (n - i - 1)) (Refused NotUtf8)
+abbrev pub unread_to : List ℕ → ℕ → ℕ → Option ℕ → Result ℕ NotRead
+unread_to t i n None = Err (Refused NoClose)
+unread_to t i n (Some e) = cond (is_utf8 (payload_of t i e)) (Err (Unread (n - i - 1))) (Err (Refused NotUtf8))
 
 -- a payload that closes at e: 2, 5 where no token was met, 13, 6, 7, and else the place behind the close
-abbrev pub verdict_of : Bool → Bool → Bool → Bool → Bool → ℕ → ℕ → Answer
+abbrev pub verdict_of : Bool → Bool → Bool → Bool → Bool → ℕ → ℕ → Result ℕ NotRead
 verdict_of utf8 some passes many over i e =
     cond utf8
     (cond some
     (cond passes
-    (cond many (Refused TooManyClasses)
-    (cond over (Refused TooManyKeys)
-    (Next (suc e)))) (Refused BadTag)) (Unread (e - i - 1))) (Refused NotUtf8)
+    (cond many (Err (Refused TooManyClasses))
+    (cond over (Err (Refused TooManyKeys))
+    (Ok (suc e)))) (Err (Refused BadTag))) (Err (Unread (e - i - 1)))) (Err (Refused NotUtf8))
 
 -- a set is handed out
-abbrev pub is_next : Answer → Bool
-is_next (Refused r) = false
-is_next (Unread n) = false
-is_next (Next n) = true
+abbrev pub is_next : Result ℕ NotRead → Bool
+is_next (Err (Refused r)) = false
+is_next (Err (Unread n)) = false
+is_next (Ok n) = true
 
 -- a refusal hands out no set
-abbrev pub no_set : Answer → Read
+abbrev pub no_set : Result ℕ NotRead → Read
 no_set a = record { answer = a; set = empty_set }
 
 -- behind 1 and 3: as the caller wants the tag
-abbrev pub once_to : Tags → Mode → List ℕ → ℕ → Place → Read
+abbrev pub once_to : Tags → Mode → List ℕ → ℕ → Option ℕ → Read
 once_to Any m t i p = read_to m t i p
 once_to WellFormed m t i p = cond (tag_to m t i p) (read_to m t i p) (refusing_read BadTag)

@@ -26,8 +26,7 @@ ghost use Rattle.read_once.specs.Inner.{is_gap, is_calm, tag_stop, tag_ends, Quo
 
 use base_bytes::Mode;
 use base_refusals::Refusal;
-use block_grammar::Place;
-use read_brace::{Answer, Read};
+use read_brace::{NotRead, Read};
 use read_tags::Tags;
 use set_table::{Attrs, Name, Origin, Row, Slot, SlotRecord, Text, Value};
 
@@ -209,21 +208,21 @@ fn goes_on(s: &[u8], k: usize) -> bool
 }
 
 // Where the quote q closes, from i on; an LF before that means no close.
-fn quote_end(s: &[u8], i: usize, q: u8) -> Place
+fn quote_end(s: &[u8], i: usize, q: u8) -> Option<usize>
     requires { is_quote q ≡ true }
     ensures { QuoteEnds s.now q i result }
 {
     let mut k = i;
     'bytes: loop {
         if !goes_on(s, k) {
-            break 'bytes Place::Nothing;
+            break 'bytes None;
         }
         if s[k] == q {
-            break 'bytes Place::At(k);
+            break 'bytes Some(k);
         }
         if s[k] == b'\\' {
             if !goes_on(s, k + 1) {
-                break 'bytes Place::Nothing;
+                break 'bytes None;
             }
             k += 2;
             continue 'bytes;
@@ -271,26 +270,26 @@ fn calm_end(s: &[u8], i: usize) -> usize
 
 // Behind a wrong byte only the close is still sought: the first `}` from `at` on that no quote and no backslash covers. Bytes that
 // leave the search where it is are passed by the stretch, behind one of them and behind a quote.
-fn close_behind(s: &[u8], at: usize) -> Place
+fn close_behind(s: &[u8], at: usize) -> Option<usize>
     ensures { result ≡ find_close s.now at }
 {
     let mut i = at;
     'bytes: loop {
         if !goes_on(s, i) {
-            break 'bytes Place::Nothing;
+            break 'bytes None;
         }
         match s[i] {
-            b'}' => break 'bytes Place::At(i),
+            b'}' => break 'bytes Some(i),
             b'\\' => {
                 if !goes_on(s, i + 1) {
-                    break 'bytes Place::Nothing;
+                    break 'bytes None;
                 }
                 i += 2;
                 continue 'bytes;
             }
             b'"' | b'\'' => match quote_end(s, i + 1, s[i]) {
-                Place::Nothing => break 'bytes Place::Nothing,
-                Place::At(e) => {
+                None => break 'bytes None,
+                Some(e) => {
                     i = calm_end(s, e + 1);
                     continue 'bytes;
                 }
@@ -398,8 +397,8 @@ fn quoted_seen(text: &[u8], i: usize, k: usize, mode: Mode) -> Seen
     ensures { Sees text.now i (k + 1) (λ c. shown i (spot_place (Spot.quoted (get_or text.now (k + 1) 0) false) (k + 2) (take c text.now)) (quoted_from mode (part i k (take c text.now)) (get_or text.now (k + 1) 0) (drop (k + 2) (take c text.now)))) result }
 {
     match quote_end(text, k + 2, text[k + 1]) {
-        Place::Nothing => wrong_at(text.len()),
-        Place::At(e) => finish(text, e + 1, mode, true, seen_as(Sort::Quoted, i, k, e + 1)),
+        None => wrong_at(text.len()),
+        Some(e) => finish(text, e + 1, mode, true, seen_as(Sort::Quoted, i, k, e + 1)),
     }
 }
 
@@ -659,17 +658,17 @@ fn tag_passes(text: &[u8], tags: Tags, last: Span) -> bool
 }
 
 // What a payload that goes wrong at n is refused with.
-fn unread(text: &[u8], place: usize, n: usize) -> Answer
+fn unread(text: &[u8], place: usize, n: usize) -> Result<usize, NotRead>
     requires { (suc place ≤ n) × ((n ≤ length text.now) × (find_close text.now n ≡ find_close text.now (suc place))) }
     ensures { result ≡ unread_to text.now place n (find_close text.now (suc place)) }
 {
     match close_behind(text, n) {
-        Place::Nothing => Answer::Refused(Refusal::NoClose),
-        Place::At(e) => {
+        None => Err(NotRead::Refused(Refusal::NoClose)),
+        Some(e) => {
             if !text_utf8::is_utf8(&text[place + 1..e]) {
-                return Answer::Refused(Refusal::NotUtf8);
+                return Err(NotRead::Refused(Refusal::NotUtf8));
             }
-            Answer::Unread(n - place - 1)
+            Err(NotRead::Unread(n - place - 1))
         }
     }
 }
@@ -683,41 +682,41 @@ fn verdict(
     passes: bool,
     many: bool,
     over: bool,
-) -> Answer
+) -> Result<usize, NotRead>
     requires { (suc place ≤ e) × (e < length text.now) }
     ensures { result ≡ verdict_of (is_utf8 (payload_of text.now place e)) some passes many over place e }
 {
     if !text_utf8::is_utf8(&text[place + 1..e]) {
-        return Answer::Refused(Refusal::NotUtf8);
+        return Err(NotRead::Refused(Refusal::NotUtf8));
     }
     if !some {
-        return Answer::Unread(e - place - 1);
+        return Err(NotRead::Unread(e - place - 1));
     }
     if !passes {
-        return Answer::Refused(Refusal::BadTag);
+        return Err(NotRead::Refused(Refusal::BadTag));
     }
     if many {
-        return Answer::Refused(Refusal::TooManyClasses);
+        return Err(NotRead::Refused(Refusal::TooManyClasses));
     }
     if over {
-        return Answer::Refused(Refusal::TooManyKeys);
+        return Err(NotRead::Refused(Refusal::TooManyKeys));
     }
-    Answer::Next(e + 1)
+    Ok(e + 1)
 }
 
 // Whether an answer hands out a set.
-fn is_next(answer: Answer) -> bool
+fn is_next(answer: Result<usize, NotRead>) -> bool
     ensures { result ≡ is_next answer }
 {
     match answer {
-        Answer::Refused(_) => false,
-        Answer::Unread(_) => false,
-        Answer::Next(_) => true,
+        Err(NotRead::Refused(_)) => false,
+        Err(NotRead::Unread(_)) => false,
+        Ok(_) => true,
     }
 }
 
 // A refusal hands out no set.
-fn refused(answer: Answer) -> Read
+fn refused(answer: Result<usize, NotRead>) -> Read
     ensures { result ≡ no_set answer }
 {
     let set = Attrs::empty();
@@ -837,10 +836,10 @@ pub fn read_attrs_once_with(text: &[u8], place: usize, mode: Mode, tags: Tags) -
     ensures answer_value_2 { place_said result.answer ≡ tagged_place_at tags mode text.now place }
 {
     if base_refusals::MAX_TEXT < text.len() {
-        return refused(Answer::Refused(Refusal::TextTooLong));
+        return refused(Err(NotRead::Refused(Refusal::TextTooLong)));
     }
     if !opens_at(text, place) {
-        return refused(Answer::Refused(Refusal::NothingThere));
+        return refused(Err(NotRead::Refused(Refusal::NothingThere)));
     }
     let table = base_letters::CLASS;
     walk(&table, text, place, mode, tags)

@@ -1,5 +1,6 @@
 -- The tag at a brace, as the code comes to it: by the payload that is handed back.
 -- Assumes nothing.
+use Rattle.std.specs.Prelude.{None, Option, Some}
 use mathlib.Core.Path.{◌≡◌, refl, sym, ◌∙◌, ap}
 use mathlib.Core.Bool.{Bool, true, false, cond}
 use mathlib.Core.List.{List}
@@ -13,8 +14,6 @@ use Rattle.text_utf8.specs.Computed.{is_utf8}
 use Rattle.text_lines.specs.declared.Range.{Range}
 use Rattle.block_grammar.specs.Computed.{read_from, read_payload}
 use Rattle.block_grammar.specs.ComputedClose.{find_close}
-use Rattle.block_grammar.specs.declared.Place.{Place}
-use Rattle.block_grammar.specs.declared.Place.TheVariants.{Nothing, At}
 use Rattle.base_refusals.specs.declared.Refusal.TheVariants.{BadTag}
 use Rattle.read_brace.specs.Brace.{refusing_read, read_attrs_at, brace_at, payload_of, at_brace, empty_front, part_to, payload_at}
 use Rattle.read_tags.specs.Tagged.{passed_by, tag_to, tag_at, read_tagged}
@@ -37,11 +36,11 @@ payload_passes m t i = go (ltb max_text (length t)) (brace_at t i) (find_close t
     cut true e = anywhere m (payload_of t i e) 0 (suc i)
     cut false e = front m t
 
-    closed : (p : Place) → passes_in m t (part_to t i p) ≡ tag_to m t i p
-    closed Nothing = front m t
-    closed (At e) = cut (is_utf8 (payload_of t i e)) e
+    closed : (p : Option ℕ) → passes_in m t (part_to t i p) ≡ tag_to m t i p
+    closed None = front m t
+    closed (Some e) = cut (is_utf8 (payload_of t i e)) e
 
-    go : (a b : Bool) (p : Place) → passes_in m t (cond a empty_front (cond b (part_to t i p) empty_front)) ≡ cond a true (cond b (tag_to m t i p) true)
+    go : (a b : Bool) (p : Option ℕ) → passes_in m t (cond a empty_front (cond b (part_to t i p) empty_front)) ≡ cond a true (cond b (tag_to m t i p) true)
     go true b p = front m t
     go false true p = closed p
     go false false p = front m t

@@ -1,5 +1,6 @@
 -- The last value of `lang`: what each token makes of the answer, and the loop over the tokens.
 -- Assumes nothing.
+use Rattle.std.specs.Prelude.{Some}
 use mathlib.Core.Path.{◌≡◌, refl, sym, ◌∙◌, ap}
 use mathlib.Core.Bool.{Bool, true, false, ◌&&◌}
 use mathlib.Core.List.{List, [], ◌∷◌}
@@ -12,7 +13,6 @@ use Rattle.base_bytes.specs.Bytes.{is_blank}
 use Rattle.text_langtags.specs.Computed.{is_allowed}
 use Rattle.block_grammar.specs.Grammar.{Item, Placed, Reading}
 use Rattle.block_grammar.specs.Computed.{First, text, tail_of, token_of, also, turn, read_from, one_or_more, read_payload}
-use Rattle.block_grammar.specs.declared.Place.TheVariants.{At}
 use Rattle.block_tokens.specs.declared.Token.{Token}
 use Rattle.block_tokens.specs.declared.Token.TheVariants as token
 use Rattle.block_tokens.specs.Shown.{token_at, token_end}
@@ -83,7 +83,7 @@ module _ (m : Mode) (s : List ℕ) {i a : ℕ} (fits : i ≤ length s) (is : a �
   pub bad : {n : ℕ} → a < length s → token.Bad n ≡ token_at m s a → TagTells m s i before Bad
   bad h e = record { told = rw (steps.refused m s fits is h e) }
 
-  pub goes : {t : Token} {j : Item} {e : ℕ} {x : Bool} → t ≡ token_at m s a → steps.item_of s t ≡ First.token j → At e ≡ token_end t → x ≡ passes_with before (lang_of j) → TagTells m s i before (Next x e)
+  pub goes : {t : Token} {j : Item} {e : ℕ} {x : Bool} → t ≡ token_at m s a → steps.item_of s t ≡ First.token j → Some e ≡ token_end t → x ≡ passes_with before (lang_of j) → TagTells m s i before (Next x e)
   goes {t} {j} {e} {x} q p b h =
       let z = steps.stepped m s fits is q p b in
       record {

@@ -1,5 +1,6 @@
 -- The numbers of a strict reading, at a brace 1, 3, 4, 2, 5, 13, 6, 7, and the place of a 5.
 -- Assumes nothing.
+use Rattle.std.specs.Prelude.{None, Option, Some}
 use mathlib.Core.Path.{◌≡◌, refl, sym, ◌∙◌, ap}
 use mathlib.Core.Bool.{Bool, true, false, cond}
 use mathlib.Core.List.{List}
@@ -14,8 +15,6 @@ use Rattle.text_utf8.specs.Computed.{is_utf8}
 use Rattle.block_grammar.specs.Grammar.{Placed, Reading}
 use Rattle.block_grammar.specs.Computed.{read_payload}
 use Rattle.block_grammar.specs.ComputedClose.{find_close}
-use Rattle.block_grammar.specs.declared.Place.{Place}
-use Rattle.block_grammar.specs.declared.Place.TheVariants.{Nothing, At}
 use Rattle.set_table.specs.Types.{Texts, one}
 use Rattle.set_fill.specs.Fill.{reading_order}
 use Rattle.read_brace.specs.Brace.{brace_paper, place_said, refusing_read, brace_at, payload_of, at_brace, read_attrs_at, close_order, brace_order, behind_close, place_to, place_at}
@@ -36,10 +35,10 @@ module _ (vs : List ℕ) where
   reading t Reading.refused = refl
   reading t (Reading.items is) = refl
 
-  closed : (m : Mode) (t : List ℕ) (i : ℕ) (p : Place) → Either (tag_to m t i p) (tagged_close m t i p) (close_order m t i p) vs
+  closed : (m : Mode) (t : List ℕ) (i : ℕ) (p : Option ℕ) → Either (tag_to m t i p) (tagged_close m t i p) (close_order m t i p) vs
   unfolding on_paper in_order
-  closed m t i Nothing = refl
-  closed m t i (At e) = go (is_utf8 (payload_of t i e)) _ _ (reading (one t) (read_payload m (suc i) (payload_of t i e)))
+  closed m t i None = refl
+  closed m t i (Some e) = go (is_utf8 (payload_of t i e)) _ _ (reading (one t) (read_payload m (suc i) (payload_of t i e)))
     where
       go : (b c : Bool) {x : Paper} (y : Paper) → x ≡ cond c y (refused_paper BadTag) → cond b x (refused_paper NotUtf8) ≡ cond (cond b c true) (cond b y (refused_paper NotUtf8)) (refused_paper BadTag)
       go true c y h = h

@@ -1,6 +1,6 @@
 -- Reading at a brace with the language tag looked at: "A strict reading, chosen by the caller beside the blank mode, checks every `lang` value of the finished
 -- set against well-formedness in RFC 5646 section 2.1". Its rules: proved_tags/specs/Rules.
-use Rattle.std.specs.Prelude.{ℕ, suc, Bool, true, cond, List, [], ◌∷◌, eqb}
+use Rattle.std.specs.Prelude.{ℕ, suc, Bool, true, cond, List, [], ◌∷◌, eqb, None, Option, Some}
 use Rattle.base_lists.specs.Lists.{all, same}
 use Rattle.base_bytes.specs.declared.Mode.{Mode}
 use Rattle.base_refusals.specs.Numbers.{too_long, number_of}
@@ -13,8 +13,6 @@ use Rattle.block_grammar.specs.Grammar.{Item, Placed, Reading}
 use Rattle.block_grammar.specs.Computed.{read_payload}
 use Rattle.block_grammar.specs.ComputedClose.{find_close}
 use Rattle.block_grammar.specs.Meaning.{lang_name}
-use Rattle.block_grammar.specs.declared.Place.{Place}
-use Rattle.block_grammar.specs.declared.Place.TheVariants.{Nothing, At}
 use Rattle.set_table.specs.Types.{Texts, one}
 use Rattle.set_fill.specs.Fill.{reading_order}
 use Rattle.read_brace.specs.Brace.{refusing_read, brace_at, payload_of, at_brace, read_attrs_at, close_order, brace_order, place_to}
@@ -53,9 +51,9 @@ abbrev pub passed_by : Reading → Bool
 passed_by Reading.refused = true
 passed_by (Reading.items is) = tag_passes is
 
-abbrev pub tag_to : Mode → List ℕ → ℕ → Place → Bool
-tag_to m t i Nothing = true
-tag_to m t i (At e) = cond (is_utf8 (payload_of t i e)) (passed_by (read_payload m (suc i) (payload_of t i e))) true
+abbrev pub tag_to : Mode → List ℕ → ℕ → Option ℕ → Bool
+tag_to m t i None = true
+tag_to m t i (Some e) = cond (is_utf8 (payload_of t i e)) (passed_by (read_payload m (suc i) (payload_of t i e))) true
 
 unfoldable pub tag_at : Mode → List ℕ → ℕ → Bool
 tag_at m t i = at_brace true true (tag_to m t i) t i
@@ -71,9 +69,9 @@ abbrev pub tagged_reading : Texts → Reading → List Ground
 tagged_reading t Reading.refused = reading_order t Reading.refused
 tagged_reading t (Reading.items is) = Ground.lacking BadTag (tag_passes is) ∷ reading_order t (Reading.items is)
 
-abbrev pub tagged_close : Mode → List ℕ → ℕ → Place → List Ground
-tagged_close m t i Nothing = close_order m t i Nothing
-tagged_close m t i (At e) = Ground.lacking NotUtf8 (is_utf8 (payload_of t i e)) ∷ tagged_reading (one t) (read_payload m (suc i) (payload_of t i e))
+abbrev pub tagged_close : Mode → List ℕ → ℕ → Option ℕ → List Ground
+tagged_close m t i None = close_order m t i None
+tagged_close m t i (Some e) = Ground.lacking NotUtf8 (is_utf8 (payload_of t i e)) ∷ tagged_reading (one t) (read_payload m (suc i) (payload_of t i e))
 
 abbrev pub tagged_order : Tags → Mode → List ℕ → ℕ → List Ground
 tagged_order Any m t i = brace_order m t i

@@ -18,7 +18,7 @@ ghost use Rattle.read_tags.specs.Inner.{passes_with, TagTells};
 use base_bytes::Mode;
 use base_refusals::Refusal;
 use block_tokens::Token;
-use read_brace::{Answer, Read};
+use read_brace::{NotRead, Read};
 
 // Whether a value of `lang` may be any, or has to be empty or a well-formed tag.
 #[derive(Clone, Copy)]
@@ -128,7 +128,7 @@ fn refused() -> Read
     let filled = set_fill::refusing(Refusal::BadTag);
     let set = filled.set;
     Read {
-        answer: Answer::Refused(Refusal::BadTag),
+        answer: Err(NotRead::Refused(Refusal::BadTag)),
         set,
     }
 }

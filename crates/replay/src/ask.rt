@@ -80,7 +80,7 @@ fn word_of(line: &[u8]) -> usize {
 
 // Where the word ends.
 fn word_end(line: &[u8]) -> usize {
-    if base_lists::same_bytes(fields::part(line, 0, 5), b"leaf ") {
+    if line.starts_with(b"leaf ") {
         return fields::find(line, 5, b' ');
     }
     fields::find(line, 0, b' ')
@@ -184,7 +184,7 @@ pub(crate) fn cap_of(line: &[u8], word: usize, count: usize) -> Said {
 
 // The number behind `cap=`, up to the longest text.
 pub(crate) fn cap_at(s: &[u8]) -> Said {
-    if !base_lists::same_bytes(fields::part(s, 0, 4), b"cap=") {
+    if !s.starts_with(b"cap=") {
         return fields::bad();
     }
     let cap = fields::number(fields::part(s, 4, s.len()));

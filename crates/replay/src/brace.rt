@@ -4,7 +4,7 @@ use crate::reply::Reply;
 use crate::{fields, readers, reply};
 use base_bytes::Mode;
 use base_refusals::Refusal;
-use read_brace::{Answer, Read};
+use read_brace::{NotRead, Read};
 
 // A payload, or a place in a text, by the number of the word in the list of `ask`.
 pub(crate) fn answer(word: usize, place: usize, text: &[u8]) -> Reply {
@@ -38,9 +38,9 @@ pub(crate) fn both(twice: Twice, text: &[u8], canon: &mut [u8]) -> Reply {
 pub(crate) fn told(read: Read, text: &[u8], canon: &mut [u8]) -> Reply {
     let answer = read.answer;
     match answer {
-        Answer::Refused(r) => reply::refused(reply::REFUSED, r),
-        Answer::Unread(_) => reply::refused(reply::REFUSED, Refusal::NoReading),
-        Answer::Next(n) => {
+        Err(NotRead::Refused(r)) => reply::refused(reply::REFUSED, r),
+        Err(NotRead::Unread(_)) => reply::refused(reply::REFUSED, Refusal::NoReading),
+        Ok(n) => {
             reply::with_set(
                 reply::numbered(reply::OK_NEXT, n),
                 text,
@@ -56,7 +56,7 @@ pub(crate) fn told(read: Read, text: &[u8], canon: &mut [u8]) -> Reply {
 fn payload(text: &[u8], place: usize) -> Reply {
     let r = read_brace::payload_range(text, place);
     let handed = read_brace::payload_at(text, place);
-    if !base_lists::same_bytes(handed, fields::part(text, r.from, r.to)) {
+    if handed != fields::part(text, r.from, r.to) {
         return reply::alone(reply::ANOTHER);
     }
     reply::paired(reply::FROM, r.from, reply::TO, r.to)

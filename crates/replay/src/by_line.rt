@@ -3,9 +3,8 @@
 use crate::ask::Ask;
 use crate::reply::Reply;
 use crate::{brace, fields, merging, refusing, reply, rows};
-use base_refusals::Outcome;
 use read_blocks::Block;
-use read_lengths::{Length, Measure};
+use read_lengths::Measure;
 
 // What only measures, and refused runs, by the number of the word in the list of `ask`.
 pub(crate) fn answer(q: Ask, text: &[u8], join: &mut [u8]) -> Reply {
@@ -62,10 +61,8 @@ pub(crate) fn answer_set(q: Ask, text: &[u8], canon: &mut [u8]) -> Reply {
 fn read_block<'a>(text: &'a [u8], block: Block, join: &'a [u8], canon: &mut [u8]) -> Reply {
     let outcome = block.outcome;
     match outcome {
-        Outcome::Refused(r) => {
-            reply::with_run(reply::refused(reply::REFUSED, r), block.lookahead, join)
-        }
-        Outcome::Passed => {
+        Err(r) => { reply::with_run(reply::refused(reply::REFUSED, r), block.lookahead, join) }
+        Ok(()) => {
             let head = reply::numbered(reply::OK_LINES, block.lines);
             let run = reply::with_run(head, block.lookahead, join);
             reply::with_set(
@@ -83,22 +80,12 @@ fn read_block<'a>(text: &'a [u8], block: Block, join: &'a [u8], canon: &mut [u8]
 fn measured(measure: Measure, join: &[u8]) -> Reply {
     let length = measure.length;
     match length {
-        Length::Refused(r) => {
-            reply::with_run(reply::refused(reply::REFUSED, r), measure.lookahead, join)
-        }
-        Length::Lines(n) => reply::with_run(
-            reply::numbered(reply::OK_LINES, n),
-            measure.lookahead,
-            join,
-        ),
+        Err(r) => { reply::with_run(reply::refused(reply::REFUSED, r), measure.lookahead, join) }
+        Ok(n) => reply::with_run(reply::numbered(reply::OK_LINES, n), measure.lookahead, join),
     }
 }
 
 // Lays the byte FF everywhere.
 pub(crate) fn clear(join: &mut [u8]) {
-    let mut i = 0;
-    while i < join.len() {
-        join[i] = 255;
-        i += 1;
-    }
+    join.fill(255);
 }

@@ -1,7 +1,6 @@
 // The columns that a set says: that of the block at a line, and a merged one. They are laid into b.
 use crate::reply::Reply;
 use crate::{fields, out, reply};
-use base_refusals::Outcome;
 use set_columns::{Align, Column, Columns, Valign, Width};
 use set_table::{Attrs, Filled, Origin};
 
@@ -10,8 +9,8 @@ pub(crate) fn answer(line: usize, text: &[u8], b: &mut [u8], join: &mut [u8]) ->
     let block = read_by_line::parse_standalone_attrs_block(text, line, join);
     let outcome = block.outcome;
     match outcome {
-        Outcome::Refused(r) => reply::refused(reply::UNREAD, r),
-        Outcome::Passed => {
+        Err(r) => reply::refused(reply::UNREAD, r),
+        Ok(()) => {
             let joined = fields::part(join, 0, block.joined);
             columns(text, joined, block.set, b, false, block.joined)
         }
@@ -22,8 +21,8 @@ pub(crate) fn answer(line: usize, text: &[u8], b: &mut [u8], join: &mut [u8]) ->
 pub(crate) fn merged<'a>(first: &'a [u8], second: &'a [u8], filled: Filled, b: &mut [u8]) -> Reply {
     let outcome = filled.outcome;
     match outcome {
-        Outcome::Refused(r) => reply::refused(reply::REFUSED, r),
-        Outcome::Passed => columns(first, second, filled.set, b, true, 0),
+        Err(r) => reply::refused(reply::REFUSED, r),
+        Ok(()) => columns(first, second, filled.set, b, true, 0),
     }
 }
 
@@ -39,8 +38,8 @@ fn columns<'a>(
     let made = set_columns::table_columns(first, second, set);
     let outcome = made.outcome;
     match outcome {
-        Outcome::Refused(r) => reply::refused(reply::REFUSED, r),
-        Outcome::Passed => {
+        Err(r) => reply::refused(reply::REFUSED, r),
+        Ok(()) => {
             let to = put_columns(b, made.table, pair);
             reply::numbered(reply::LETTERS, put_over(b, to, pair, joined))
         }
@@ -64,11 +63,8 @@ fn put_columns(b: &mut [u8], table: Columns, pair: bool) -> usize {
     let columns = table.columns;
     let head = out::put(b, 0, b"columns ");
     let mut to = out::put_number(b, head, n);
-    let mut k = 0;
-    while k < Columns::MOST {
-        let column = columns[k];
-        to = put_column(b, to, column, pair, k < n);
-        k += 1;
+    for (k, column) in columns.iter().enumerate() {
+        to = put_column(b, to, *column, pair, k < n);
     }
     to
 }
@@ -86,29 +82,29 @@ fn put_column(b: &mut [u8], at: usize, column: Column, pair: bool, counts: bool)
     put_width(b, last, width, pair)
 }
 
-fn put_align(b: &mut [u8], at: usize, align: Align) -> usize {
+fn put_align(b: &mut [u8], at: usize, align: Option<Align>) -> usize {
     match align {
-        Align::Unset => out::put(b, at, b" none"),
-        Align::Left => out::put(b, at, b" left"),
-        Align::Right => out::put(b, at, b" right"),
-        Align::Center => out::put(b, at, b" center"),
+        None => out::put(b, at, b" none"),
+        Some(Align::Left) => out::put(b, at, b" left"),
+        Some(Align::Right) => out::put(b, at, b" right"),
+        Some(Align::Center) => out::put(b, at, b" center"),
     }
 }
 
-fn put_valign(b: &mut [u8], at: usize, valign: Valign) -> usize {
+fn put_valign(b: &mut [u8], at: usize, valign: Option<Valign>) -> usize {
     match valign {
-        Valign::Unset => out::put(b, at, b" none"),
-        Valign::Top => out::put(b, at, b" top"),
-        Valign::Middle => out::put(b, at, b" middle"),
-        Valign::Bottom => out::put(b, at, b" bottom"),
+        None => out::put(b, at, b" none"),
+        Some(Valign::Top) => out::put(b, at, b" top"),
+        Some(Valign::Middle) => out::put(b, at, b" middle"),
+        Some(Valign::Bottom) => out::put(b, at, b" bottom"),
     }
 }
 
-fn put_width(b: &mut [u8], at: usize, width: Width, pair: bool) -> usize {
+fn put_width(b: &mut [u8], at: usize, width: Option<Width>, pair: bool) -> usize {
     match width {
-        Width::Unset => out::put(b, at, b" none"),
-        Width::Empty => out::put(b, at, b" empty"),
-        Width::Range(o, f, t) => {
+        None => out::put(b, at, b" none"),
+        Some(Width::Empty) => out::put(b, at, b" empty"),
+        Some(Width::Range(o, f, t)) => {
             let next = put_origin(b, at, o, pair);
             put_range(b, next, f as usize, t as usize)
         }

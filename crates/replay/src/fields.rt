@@ -40,38 +40,28 @@ pub(crate) fn part(s: &[u8], from: usize, to: usize) -> &[u8] {
 pub(crate) fn find(s: &[u8], from: usize, byte: u8) -> usize
     ensures { from ≤ result }
 {
-    let mut i = from;
-    while i < s.len() {
+    for i in from..s.len() {
         if s[i] == byte {
             return i;
         }
-        i += 1;
     }
-    i
+    from.max(s.len())
 }
 
 // How many fields the byte parts.
 pub(crate) fn count(s: &[u8], byte: u8) -> usize {
-    let mut n = 1;
-    let mut at = find(s, 0, byte);
-    while at < s.len() {
-        n += 1;
-        at = find(s, at + 1, byte);
-    }
-    n
+    s.iter().filter(|b| **b == byte).count() + 1
 }
 
 // The field of a number, counted from 0, of those that the byte parts; no bytes where there are fewer.
 pub(crate) fn field(s: &[u8], byte: u8, k: usize) -> &[u8] {
     let mut from = 0;
-    let mut i = 0;
-    while i < k {
+    for _ in 0..k {
         let end = find(s, from, byte);
         if s.len() <= end {
             return &s[..0];
         }
         from = end + 1;
-        i += 1;
     }
     part(s, from, find(s, from, byte))
 }
@@ -87,12 +77,10 @@ pub(crate) fn byte_at(s: &[u8], k: usize) -> u8 {
 // The number of a word among those of a list, parted by `/`, or how many there are where it isn't one of them.
 pub(crate) fn index_of<'a>(list: &'a [u8], word: &'a [u8]) -> usize {
     let n = count(list, b'/');
-    let mut k = 0;
-    while k < n {
-        if base_lists::same_bytes(field(list, b'/', k), word) {
+    for k in 0..n {
+        if field(list, b'/', k) == word {
             return k;
         }
-        k += 1;
     }
     n
 }
@@ -103,14 +91,12 @@ pub(crate) fn number(s: &[u8]) -> Said {
         return bad();
     }
     let mut n = 0;
-    let mut i = 0;
-    while i < s.len() {
-        let m = longer(n, s[i]);
+    for digit in s {
+        let m = longer(n, *digit);
         if m.bad != 0 {
             return m;
         }
         n = m.n;
-        i += 1;
     }
     good(n)
 }
@@ -142,21 +128,19 @@ pub(crate) fn unhex(s: &[u8], text: &mut [u8]) -> Said {
     if s.len() == 0 {
         return bad();
     }
-    if base_lists::same_bytes(s, b"-") {
+    if s == b"-".as_slice() {
         return good(0);
     }
     unhex_pairs(s, text)
 }
 
 fn unhex_pairs(s: &[u8], text: &mut [u8]) -> Said {
-    let mut i = 0;
-    while i < s.len() {
+    for i in (0..s.len()).step_by(2) {
         if !unhex_pair(s, i, text) {
             return bad();
         }
-        i += 2;
     }
-    good(i / 2)
+    good(s.len() / 2)
 }
 
 // Lays the byte of the two digits from i on where it belongs, and says whether they are digits and it has room.

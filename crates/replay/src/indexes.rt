@@ -1,8 +1,7 @@
 // Requests for an index beside a sheet.
 use crate::fields::Said;
-use crate::{fields, out, reply, reports};
+use crate::{fields, out, reports};
 use base_refusals::Refusal;
-use sheet_index::{Built, Counted, LookUp};
 
 // What a request lends: how many bytes to join in, how many rows and how many bytes of index text, and how many fields stand before these; 1 where one
 // is bad.
@@ -100,7 +99,7 @@ fn take<'a>(line: &'a [u8], count: usize, word: &'a [u8], most: usize) -> Taken 
         return untaken(count, most);
     }
     let last = fields::field(line, b' ', count - 1);
-    if !base_lists::same_bytes(fields::part(last, 0, word.len()), word) {
+    if !last.starts_with(word) {
         return untaken(count, most);
     }
     within(
@@ -164,18 +163,18 @@ fn build_in(
     join: &mut [u8],
     table: &mut [usize],
     laid: &mut [u8],
-) -> Built {
+) -> Result<(usize, usize), Refusal> {
     let cap = lent.cap;
     if join.len() < cap {
-        return Built::Refused(Refusal::JoinFull);
+        return Err(Refusal::JoinFull);
     }
     let rows = lent.rows;
     if table.len() / 5 < rows {
-        return Built::Refused(Refusal::TableFull);
+        return Err(Refusal::TableFull);
     }
     let buf = lent.buf;
     if laid.len() < buf {
-        return Built::Refused(Refusal::IndexTooLong);
+        return Err(Refusal::IndexTooLong);
     }
     let numbers = rows * 5;
     let join_part = &mut join[..cap];
@@ -184,10 +183,15 @@ fn build_in(
     sheet_index::build_index(text, join_part, table_part, laid_part)
 }
 
-fn put_built(output: &mut [u8], at: usize, built: Built, laid: &[u8]) -> usize {
+fn put_built(
+    output: &mut [u8],
+    at: usize,
+    built: Result<(usize, usize), Refusal>,
+    laid: &[u8],
+) -> usize {
     match built {
-        Built::Refused(why) => reports::put_refused(output, at, why),
-        Built::Index(_, bytes) => {
+        Err(why) => reports::put_refused(output, at, why),
+        Ok((_, bytes)) => {
             let to = out::put(output, at, b"ok ");
             out::put_hex(output, to, fields::part(laid, 0, bytes))
         }
@@ -211,15 +215,15 @@ fn read(
         return reports::put_error(output, at);
     }
     match read_in(fields::part(index, 0, text.n), lent.rows, table) {
-        Counted::Refused(why) => reports::put_refused(output, at, why),
-        Counted::Rows(n) => put_records(output, at, index, table, n),
+        Err(why) => reports::put_refused(output, at, why),
+        Ok(n) => put_records(output, at, index, table, n),
     }
 }
 
 // Reads an index with so many rows lent.
-fn read_in(index: &[u8], rows: usize, table: &mut [usize]) -> Counted {
+fn read_in(index: &[u8], rows: usize, table: &mut [usize]) -> Result<usize, Refusal> {
     if table.len() / 5 < rows {
-        return Counted::Refused(Refusal::TableFull);
+        return Err(Refusal::TableFull);
     }
     let numbers = rows * 5;
     let table_part = &mut table[..numbers];
@@ -230,11 +234,9 @@ fn put_records(output: &mut [u8], at: usize, index: &[u8], table: &[usize], n: u
     let head = out::put(output, at, b"records ");
     let mut to = out::put_number(output, head, n);
     let mut i = 0;
-    let mut k = 0;
-    while k < n {
+    for _ in 0..n {
         to = put_record(output, to, index, table, i);
         i = beyond(i, 5);
-        k += 1;
     }
     to
 }
@@ -316,68 +318,38 @@ fn look_up(
 }
 
 // What is found in the text, and a number that no sheet has where the rows say something else.
-fn look_up_in<'a>(index: &'a [u8], table: &mut [usize], id: &'a [u8]) -> LookUp {
+fn look_up_in<'a>(
+    index: &'a [u8],
+    table: &mut [usize],
+    id: &'a [u8],
+) -> Result<Option<(usize, usize, usize)>, Refusal> {
     let found = sheet_index::find_record(index, id);
     let by_rows = find_by_rows(index, table, id);
-    if is_same(found, by_rows) {
+    if found == by_rows {
         return found;
     }
-    LookUp::Row(usize::MAX, usize::MAX, usize::MAX)
+    Ok(Some((usize::MAX, usize::MAX, usize::MAX)))
 }
 
 // The first record of an id over the rows that an index is read into.
-fn find_by_rows<'a>(index: &'a [u8], table: &mut [usize], id: &'a [u8]) -> LookUp {
-    match sheet_index::read_index(index, table) {
-        Counted::Refused(why) => LookUp::Refused(why),
-        Counted::Rows(n) => sheet_index::find_row(index, table, n, id),
-    }
+fn find_by_rows<'a>(
+    index: &'a [u8],
+    table: &mut [usize],
+    id: &'a [u8],
+) -> Result<Option<(usize, usize, usize)>, Refusal> {
+    let n = sheet_index::read_index(index, table)?;
+    sheet_index::find_row(index, table, n, id)
 }
 
-fn is_same(x: LookUp, y: LookUp) -> bool {
-    match x {
-        LookUp::Refused(_) => is_refused(y),
-        LookUp::Missing => is_missing(y),
-        LookUp::Row(line, count, offset) => is_row(y, line, count, offset),
-    }
-}
-
-fn is_refused(x: LookUp) -> bool {
-    match x {
-        LookUp::Refused(_) => true,
-        LookUp::Missing => false,
-        LookUp::Row(_, _, _) => false,
-    }
-}
-
-fn is_missing(x: LookUp) -> bool {
-    match x {
-        LookUp::Refused(_) => false,
-        LookUp::Missing => true,
-        LookUp::Row(_, _, _) => false,
-    }
-}
-
-fn is_row(x: LookUp, line: usize, count: usize, offset: usize) -> bool {
-    match x {
-        LookUp::Refused(_) => false,
-        LookUp::Missing => false,
-        LookUp::Row(l, c, o) => {
-            if l != line {
-                return false;
-            }
-            if c != count {
-                return false;
-            }
-            o == offset
-        }
-    }
-}
-
-fn put_found(output: &mut [u8], at: usize, found: LookUp) -> usize {
+fn put_found(
+    output: &mut [u8],
+    at: usize,
+    found: Result<Option<(usize, usize, usize)>, Refusal>,
+) -> usize {
     match found {
-        LookUp::Refused(why) => reports::put_refused(output, at, why),
-        LookUp::Missing => out::put(output, at, b"not found"),
-        LookUp::Row(line, count, offset) => {
+        Err(why) => reports::put_refused(output, at, why),
+        Ok(None) => out::put(output, at, b"not found"),
+        Ok(Some((line, count, offset))) => {
             let to = out::put(output, at, b"record");
             let first = put_next(output, to, line);
             let second = put_next(output, first, count);
@@ -473,18 +445,18 @@ fn mend_in<'a>(
     join: &mut [u8],
     table: &mut [usize],
     laid: &mut [u8],
-) -> Built {
+) -> Result<(usize, usize), Refusal> {
     let cap = lent.cap;
     if join.len() < cap {
-        return Built::Refused(Refusal::JoinFull);
+        return Err(Refusal::JoinFull);
     }
     let rows = lent.rows;
     if table.len() / 5 < rows {
-        return Built::Refused(Refusal::TableFull);
+        return Err(Refusal::TableFull);
     }
     let buf = lent.buf;
     if laid.len() < buf {
-        return Built::Refused(Refusal::IndexTooLong);
+        return Err(Refusal::IndexTooLong);
     }
     let numbers = rows * 5;
     let join_part = &mut join[..cap];

@@ -42,13 +42,11 @@ pub(crate) fn answer_all(
         at: 0,
         more: true,
     };
-    let mut turns = u64::MAX;
-    while turns > 0 {
+    for _ in 0..u64::MAX {
         s = turn(rt, input, a, b, join, index, table, laid, output, s);
         if !s.more {
             return;
         }
-        turns -= 1;
     }
 }
 
@@ -155,6 +153,7 @@ fn answer_lines(
 ) -> Answered {
     let mut from = 0;
     let mut to = at;
+    // A while: the place behind the last whole line is answered too, which an iterator over the lines does not tell.
     while from < lines.len() {
         let end = fields::find(lines, from, b'\n');
         if lines.len() <= end {
@@ -180,14 +179,10 @@ fn answer_lines(
 
 // Moves what waits for its LF to the front of the buffer, and answers how much it is.
 fn shift(input: &mut [u8], from: usize, have: usize) -> usize {
-    let mut n = 0;
-    let mut i = from;
-    while i < have {
-        copy_byte(input, i, n);
-        n += 1;
-        i += 1;
+    for i in from..have {
+        copy_byte(input, i, i - from);
     }
-    n
+    have.saturating_sub(from)
 }
 
 fn copy_byte(input: &mut [u8], from: usize, to: usize) {

@@ -1,6 +1,8 @@
 // Requests for the smallest parts, over any bytes: `leaf WORD ..`.
 use crate::reply::Reply;
 use crate::{ask, fields, out, reply};
+use base_refusals::Refusal;
+use text_lines::Range;
 
 // A text, or the byte x, by the number of the word in the list of `ask`.
 pub(crate) fn answer(word: usize, x: usize, text: &[u8], b: &mut [u8]) -> Reply {
@@ -62,10 +64,10 @@ fn part(r: text_lines::Range) -> Reply {
     reply::paired(reply::FROM, r.from, reply::TO, r.to)
 }
 
-fn line(line: text_lines::Line) -> Reply {
+fn line(line: Option<Range>) -> Reply {
     match line {
-        text_lines::Line::Missing => reply::alone(reply::NONE),
-        text_lines::Line::At(r) => part(r),
+        None => reply::alone(reply::NONE),
+        Some(r) => part(r),
     }
 }
 
@@ -73,28 +75,26 @@ fn ends(l: text_lines::LineEnd) -> Reply {
     reply::paired(reply::ENDS, l.to, reply::NEXT, l.next)
 }
 
-fn piece(p: text_escapes::Piece) -> Reply {
+fn piece(p: Option<(u8, usize)>) -> Reply {
     match p {
-        text_escapes::Piece::End => reply::alone(reply::END),
-        text_escapes::Piece::Byte(b, next) => {
-            reply::paired(reply::BYTE, fields::wide(b), reply::NEXT, next)
-        }
+        None => reply::alone(reply::END),
+        Some((b, next)) => { reply::paired(reply::BYTE, fields::wide(b), reply::NEXT, next) }
     }
 }
 
 // The number of a refusal, 0 where the text passes.
-fn number_of(c: base_refusals::Outcome) -> usize {
+fn number_of(c: Result<(), Refusal>) -> usize {
     match c {
-        base_refusals::Outcome::Passed => 0,
-        base_refusals::Outcome::Refused(r) => fields::wide(base_refusals::number(r)),
+        Ok(()) => 0,
+        Err(r) => fields::wide(base_refusals::number(r)),
     }
 }
 
 // The text without its escapes, laid into the second buffer.
 fn unescaped(s: &[u8], b: &mut [u8]) -> Reply {
     match text_escapes::write_unescaped(b, 0, s) {
-        text_escapes::Written::Full => reply::alone(reply::ERROR),
-        text_escapes::Written::To(n) => reply::numbered(reply::BYTES, n),
+        None => reply::alone(reply::ERROR),
+        Some(n) => reply::numbered(reply::BYTES, n),
     }
 }
 

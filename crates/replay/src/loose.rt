@@ -1,8 +1,6 @@
 // Sets without their key `loose`: that of the block at a line, and a merged one.
 use crate::reply::Reply;
 use crate::{fields, reply};
-use base_refusals::Outcome;
-use set_loose::Did;
 use set_table::{Attrs, Filled};
 
 // The block at a line. The second text of its set is what was joined.
@@ -10,8 +8,8 @@ pub(crate) fn answer(line: usize, text: &[u8], canon: &mut [u8], join: &mut [u8]
     let block = read_by_line::parse_standalone_attrs_block(text, line, join);
     let outcome = block.outcome;
     match outcome {
-        Outcome::Refused(r) => reply::refused(reply::UNREAD, r),
-        Outcome::Passed => {
+        Err(r) => reply::refused(reply::UNREAD, r),
+        Ok(()) => {
             let joined = fields::part(join, 0, block.joined);
             taken_out(text, joined, block.set, canon)
         }
@@ -27,8 +25,8 @@ pub(crate) fn merged<'a>(
 ) -> Reply {
     let outcome = filled.outcome;
     match outcome {
-        Outcome::Refused(r) => reply::refused(reply::REFUSED, r),
-        Outcome::Passed => taken_out(first, second, filled.set, canon),
+        Err(r) => reply::refused(reply::REFUSED, r),
+        Ok(()) => taken_out(first, second, filled.set, canon),
     }
 }
 
@@ -38,8 +36,8 @@ fn taken_out<'a>(first: &'a [u8], second: &'a [u8], set: Attrs, canon: &mut [u8]
     let did = consumed.did;
     let left = consumed.set;
     match did {
-        Did::Refused(r) => reply::refused(reply::REFUSED, r),
-        Did::Yes => reply::with_set(reply::alone(reply::YES), first, second, left, canon),
-        Did::No => reply::with_set(reply::alone(reply::NO), first, second, left, canon),
+        Err(r) => reply::refused(reply::REFUSED, r),
+        Ok(true) => reply::with_set(reply::alone(reply::YES), first, second, left, canon),
+        Ok(false) => reply::with_set(reply::alone(reply::NO), first, second, left, canon),
     }
 }

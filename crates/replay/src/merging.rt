@@ -2,7 +2,6 @@
 use crate::fields::Said;
 use crate::reply::Reply;
 use crate::{fields, out, reply};
-use base_refusals::Outcome;
 use set_table::{Attrs, Filled};
 
 // 1 where a text has an LF, else 0.
@@ -29,8 +28,8 @@ pub(crate) fn answer(text: &[u8], leading: bool, canon: &mut [u8]) -> Reply {
     let first = read_by_line::parse_standalone_attrs(text, 1);
     let outcome = first.outcome;
     match outcome {
-        Outcome::Refused(r) => reply::refused(reply::FIRST, r),
-        Outcome::Passed => answer_second(text, first.set, leading, canon),
+        Err(r) => reply::refused(reply::FIRST, r),
+        Ok(()) => answer_second(text, first.set, leading, canon),
     }
 }
 
@@ -39,8 +38,8 @@ fn answer_second(text: &[u8], first: Attrs, leading: bool, canon: &mut [u8]) -> 
     let second = read_by_line::parse_standalone_attrs(text, 2);
     let outcome = second.outcome;
     match outcome {
-        Outcome::Refused(r) => reply::refused(reply::SECOND, r),
-        Outcome::Passed => filled(text, b"", merged(text, first, second.set, leading), canon),
+        Err(r) => reply::refused(reply::SECOND, r),
+        Ok(()) => filled(text, b"", merged(text, first, second.set, leading), canon),
     }
 }
 
@@ -53,14 +52,8 @@ pub(crate) fn filled<'a>(
 ) -> Reply {
     let outcome = filled.outcome;
     match outcome {
-        Outcome::Refused(r) => reply::refused(reply::REFUSED, r),
-        Outcome::Passed => reply::with_set(
-            reply::alone(reply::OK),
-            first,
-            second,
-            filled.set,
-            canon,
-        ),
+        Err(r) => reply::refused(reply::REFUSED, r),
+        Ok(()) => reply::with_set(reply::alone(reply::OK), first, second, filled.set, canon),
     }
 }
 

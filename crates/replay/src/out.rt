@@ -14,10 +14,8 @@ pub(crate) fn put_byte(output: &mut [u8], at: usize, byte: u8) -> usize {
 // Adds bytes as they are.
 pub(crate) fn put(output: &mut [u8], at: usize, s: &[u8]) -> usize {
     let mut to = at;
-    let mut i = 0;
-    while i < s.len() {
-        to = put_byte(output, to, s[i]);
-        i += 1;
+    for byte in s {
+        to = put_byte(output, to, *byte);
     }
     to
 }
@@ -40,10 +38,8 @@ pub(crate) fn put_hex(output: &mut [u8], at: usize, s: &[u8]) -> usize {
 // Adds bytes in lower-case hex, nothing for none.
 pub(crate) fn put_pairs(output: &mut [u8], at: usize, s: &[u8]) -> usize {
     let mut to = at;
-    let mut i = 0;
-    while i < s.len() {
-        to = put_pair(output, to, s[i]);
-        i += 1;
+    for byte in s {
+        to = put_pair(output, to, *byte);
     }
     to
 }

@@ -28,78 +28,28 @@ fn is_given_or_zero(given: bool, id: Value) -> bool {
 }
 
 fn are_zero_values(rows: [Value; Attrs::CLASSES], n: usize) -> bool {
-    let mut k = n;
-    while k < Attrs::CLASSES {
-        let row = rows[k];
-        if !is_zero_value(row) {
-            return false;
-        }
-        k += 1;
-    }
-    true
+    rows.iter().skip(n).all(|row| is_zero_value(*row))
 }
 
 fn are_zero_rows(rows: [Row; Attrs::KEYS], n: usize) -> bool {
-    let mut k = n;
-    while k < Attrs::KEYS {
-        let row = rows[k];
-        if !is_zero_row(row) {
-            return false;
-        }
-        k += 1;
-    }
-    true
+    rows.iter().skip(n).all(|row| is_zero_row(*row))
 }
 
 fn are_zero_slots(rows: [SlotRecord; Attrs::SLOTS], n: usize) -> bool {
-    let mut k = n;
-    while k < Attrs::SLOTS {
-        let row = rows[k];
-        if !is_zero_slot(row) {
-            return false;
-        }
-        k += 1;
-    }
-    true
+    rows.iter().skip(n).all(|row| is_zero_slot(*row))
 }
 
 // A zero value is plain, of no bytes at the first text's front.
 fn is_zero_value(value: Value) -> bool {
-    let text = value.text;
-    match text {
-        Text::Plain(origin, from, to) => is_zero_range(origin, from, to),
-        Text::Quoted(_, _, _) => false,
-        Text::Empty => false,
-    }
-}
-
-fn is_zero_range(origin: Origin, from: u16, to: u16) -> bool {
-    match origin {
-        Origin::First => from | to == 0,
-        Origin::Second => false,
-    }
+    value.text == Text::Plain(Origin::First, 0, 0)
 }
 
 // A zero key's name is a range of no bytes at the first text's front, and its value is zero.
 fn is_zero_row(row: Row) -> bool {
-    let name = row.name;
-    match name {
-        Name::Range(origin, from, to) => {
-            if !is_zero_range(origin, from, to) {
-                return false;
-            }
-            is_zero_value(row.value)
-        }
-        Name::Lang => false,
-    }
+    row.name == Name::Range(Origin::First, 0, 0) && is_zero_value(row.value)
 }
 
 // A zero slot is that of the first key.
 fn is_zero_slot(record: SlotRecord) -> bool {
-    let slot = record.slot;
-    match slot {
-        Slot::Key(k) => k == 0,
-        Slot::Id => false,
-        Slot::Class => false,
-    }
+    record.slot == Slot::Key(0)
 }

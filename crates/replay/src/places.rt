@@ -1,11 +1,10 @@
 // Requests for how far bytes can be continued to a name or a tag: `leaf place_of KIND HEX`.
 use crate::reply::Reply;
 use crate::{ask, fields, reply};
-use text_names::Tested;
 
 // Whether a request is one of them.
 pub(crate) fn is_asked(line: &[u8]) -> bool {
-    base_lists::same_bytes(fields::part(line, 0, 14), b"leaf place_of ")
+    line.starts_with(b"leaf place_of ")
 }
 
 // Answers it, its text laid into a.
@@ -31,9 +30,9 @@ fn reply_to(line: &[u8], bad: u8, text: &[u8]) -> Reply {
     }
 }
 
-fn told(tested: Tested) -> Reply {
+fn told(tested: Result<(), usize>) -> Reply {
     match tested {
-        Tested::Whole => reply::alone(reply::WHOLE),
-        Tested::Stops(n) => reply::numbered(reply::NUMBER, n),
+        Ok(()) => reply::alone(reply::WHOLE),
+        Err(n) => reply::numbered(reply::NUMBER, n),
     }
 }

@@ -1,7 +1,7 @@
 // Requests for refused brace runs.
 use crate::reply;
 use crate::reply::Reply;
-use run_endings::Ends;
+use base_refusals::Refusal;
 use run_refused::RunReply;
 
 // The run at a line.
@@ -18,19 +18,19 @@ pub(crate) fn ends(text: &[u8], join: &mut [u8]) -> Reply {
     reply::with_run(ended(answer), r.lookahead, join)
 }
 
-fn answered(answer: RunReply) -> Reply {
+fn answered(answer: Result<RunReply, Refusal>) -> Reply {
     match answer {
-        RunReply::No(n) => reply::numbered(reply::NO_AT, n),
-        RunReply::Lines(n) => reply::numbered(reply::LINES, n),
-        RunReply::NoEnd => reply::alone(reply::NO_END),
-        RunReply::Refused(r) => reply::refused(reply::REFUSED, r),
+        Ok(RunReply::No(n)) => reply::numbered(reply::NO_AT, n),
+        Ok(RunReply::Lines(n)) => reply::numbered(reply::LINES, n),
+        Ok(RunReply::NoEnd) => reply::alone(reply::NO_END),
+        Err(r) => reply::refused(reply::REFUSED, r),
     }
 }
 
-fn ended(answer: Ends) -> Reply {
+fn ended(answer: Result<bool, Refusal>) -> Reply {
     match answer {
-        Ends::No => reply::alone(reply::NO),
-        Ends::Yes => reply::alone(reply::YES),
-        Ends::Refused(r) => reply::refused(reply::REFUSED, r),
+        Ok(false) => reply::alone(reply::NO),
+        Ok(true) => reply::alone(reply::YES),
+        Err(r) => reply::refused(reply::REFUSED, r),
     }
 }

@@ -2,7 +2,6 @@
 use crate::{fields, out};
 use base_refusals::Refusal;
 use set_table::Attrs;
-use set_writer::Wrote;
 
 // The number of a phrase and what stands behind it: a number, or how many bytes of a buffer.
 #[derive(Clone, Copy)]
@@ -184,13 +183,7 @@ fn run_phrase(rest: u8) -> usize {
 
 // The bits that all bytes have.
 fn least(s: &[u8]) -> u8 {
-    let mut all = 255;
-    let mut i = 0;
-    while i < s.len() {
-        all = all & s[i];
-        i += 1;
-    }
-    all
+    s.iter().fold(255, |all, byte| all & *byte)
 }
 
 // Adds the canonical text of a set over the texts, laid into the buffer, or what the writer refuses it with.
@@ -202,12 +195,8 @@ pub(crate) fn with_set<'a>(
     canon: &mut [u8],
 ) -> Reply {
     match set_writer::write_attrs(first, second, set, canon) {
-        Wrote::Refused(why) => with_canon(
-            r,
-            CANON_REFUSED,
-            fields::wide(base_refusals::number(why)),
-        ),
-        Wrote::Bytes(n) => with_canon(r, CANON, n),
+        Err(why) => with_canon(r, CANON_REFUSED, fields::wide(base_refusals::number(why))),
+        Ok(n) => with_canon(r, CANON, n),
     }
 }
 

@@ -1,7 +1,7 @@
 // Requests for reports over sheets, and for the runs that a report counts.
 use crate::fields::Said;
 use crate::{ask, fields, out, reply};
-use base_refusals::{Outcome, Refusal};
+use base_refusals::Refusal;
 use sheet_totals::{Added, Totals};
 
 // The numbers of a field, and 1 where it has no thirteen.
@@ -66,7 +66,7 @@ fn answer_by(
 
 // Whether the last field is the length of the join buffer.
 fn has_cap(line: &[u8]) -> bool {
-    base_lists::same_bytes(fields::part(last_of(line), 0, 4), b"cap=")
+    last_of(line).starts_with(b"cap=")
 }
 
 fn last_of(line: &[u8]) -> &[u8] {
@@ -119,11 +119,9 @@ pub(crate) fn put_refused(output: &mut [u8], at: usize, why: Refusal) -> usize {
 // Adds a word and the thirteen numbers, parted by commas.
 fn put_totals(output: &mut [u8], at: usize, totals: Totals) -> usize {
     let mut to = out::put(output, at, b"report");
-    let mut k: usize = 0;
-    while k < Totals::PLACES {
+    for (k, n) in totals.numbers.iter().enumerate() {
         to = out::put_byte(output, to, mark(k));
-        to = out::put_number(output, to, totals.numbers[k] as usize);
-        k += 1;
+        to = out::put_number(output, to, *n as usize);
     }
     to
 }
@@ -142,14 +140,12 @@ fn numbers_of(s: &[u8]) -> Given {
     if fields::count(s, b',') != Totals::PLACES {
         return Given { bad: 1, totals };
     }
-    let mut k: usize = 0;
-    while k < Totals::PLACES {
+    for k in 0..Totals::PLACES {
         let n = fields::number(fields::field(s, b',', k));
         if n.bad != 0 {
             return Given { bad: 1, totals };
         }
         totals.numbers[k] = n.n as u64;
-        k += 1;
     }
     Given { bad: 0, totals }
 }
@@ -167,8 +163,7 @@ fn report(
         return put_error(output, at);
     }
     let mut totals = Totals::empty();
-    let mut k = 1;
-    'sheets: while k < count {
+    for k in 1..count {
         let text = fields::unhex(fields::field(line, b' ', k), a);
         if text.bad != 0 {
             return put_error(output, at);
@@ -176,12 +171,8 @@ fn report(
         let fed = sheet_tally::feed(totals, fields::part(a, 0, text.n), join);
         let outcome = fed.outcome;
         match outcome {
-            Outcome::Refused(why) => return put_refused(output, at, why),
-            Outcome::Passed => {
-                totals = fed.totals;
-                k += 1;
-                continue 'sheets;
-            }
+            Err(why) => return put_refused(output, at, why),
+            Ok(()) => totals = fed.totals,
         }
     }
     put_totals(output, at, totals)
@@ -214,8 +205,8 @@ fn feed(
 fn put_fed(output: &mut [u8], at: usize, fed: Added) -> usize {
     let outcome = fed.outcome;
     match outcome {
-        Outcome::Passed => put_totals(output, at, fed.totals),
-        Outcome::Refused(why) => {
+        Ok(()) => put_totals(output, at, fed.totals),
+        Err(why) => {
             let number = put_refused(output, at, why);
             let to = out::put_byte(output, number, b' ');
             put_totals(output, to, fed.totals)
@@ -243,8 +234,8 @@ fn add(line: &[u8], count: usize, output: &mut [u8], at: usize) -> usize {
 fn put_added(output: &mut [u8], at: usize, sum: Added) -> usize {
     let outcome = sum.outcome;
     match outcome {
-        Outcome::Passed => put_totals(output, at, sum.totals),
-        Outcome::Refused(why) => put_refused(output, at, why),
+        Ok(()) => put_totals(output, at, sum.totals),
+        Err(why) => put_refused(output, at, why),
     }
 }
 
@@ -266,8 +257,8 @@ fn runs(
     }
     let sheet = fields::part(a, 0, text.n);
     match text_checks::check_text(sheet) {
-        Outcome::Refused(why) => put_refused(output, at, why),
-        Outcome::Passed => {
+        Err(why) => put_refused(output, at, why),
+        Ok(()) => {
             let fed = sheet_tally::feed(Totals::empty(), sheet, join);
             put_runs(output, at, fed, join)
         }
@@ -277,8 +268,8 @@ fn runs(
 fn put_runs(output: &mut [u8], at: usize, fed: Added, join: &[u8]) -> usize {
     let outcome = fed.outcome;
     match outcome {
-        Outcome::Refused(why) => put_refused(output, at, why),
-        Outcome::Passed => {
+        Err(why) => put_refused(output, at, why),
+        Ok(()) => {
             let t = fed.totals;
             let head = put_counts(output, at, blocks_in(t), number_in(t, Totals::JOINED));
             let empty = reply::alone(reply::NOTHING);

@@ -3,7 +3,7 @@ use crate::reply::Reply;
 use crate::{fields, out, past, reply};
 use base_bytes::Mode;
 use base_refusals::Refusal;
-use read_brace::{Answer, Read};
+use read_brace::{NotRead, Read};
 use set_table::{Attrs, Name, Origin, Row, Slot, SlotRecord, Text, Value};
 
 // A place and the number of a mode. The rows are laid into b.
@@ -18,9 +18,9 @@ pub(crate) fn answer(text: &[u8], place: usize, mode: usize, b: &mut [u8]) -> Re
 fn told(read: Read, b: &mut [u8]) -> Reply {
     let answer = read.answer;
     match answer {
-        Answer::Refused(r) => reply::refused(reply::REFUSED, r),
-        Answer::Unread(_) => reply::refused(reply::REFUSED, Refusal::NoReading),
-        Answer::Next(next) => reply::numbered(reply::LETTERS, put_set(b, next, read.set)),
+        Err(NotRead::Refused(r)) => reply::refused(reply::REFUSED, r),
+        Err(NotRead::Unread(_)) => reply::refused(reply::REFUSED, Refusal::NoReading),
+        Ok(next) => reply::numbered(reply::LETTERS, put_set(b, next, read.set)),
     }
 }
 
@@ -102,14 +102,8 @@ fn put_slot(b: &mut [u8], at: usize, record: SlotRecord) -> usize {
 // Adds how many classes there are, and each.
 fn put_classes(b: &mut [u8], at: usize, rows: [Value; Attrs::CLASSES], n: usize) -> usize {
     let mut to = put_counted(b, at, b" classes ", n);
-    let mut k = 0;
-    while k < Attrs::CLASSES {
-        if n <= k {
-            return to;
-        }
-        let row = rows[k];
-        to = put_value(b, to, row);
-        k += 1;
+    for row in rows.iter().take(n) {
+        to = put_value(b, to, *row);
     }
     to
 }
@@ -117,14 +111,8 @@ fn put_classes(b: &mut [u8], at: usize, rows: [Value; Attrs::CLASSES], n: usize)
 // Adds how many keys there are, and the name and the value of each.
 fn put_keys(b: &mut [u8], at: usize, rows: [Row; Attrs::KEYS], n: usize) -> usize {
     let mut to = put_counted(b, at, b" keys ", n);
-    let mut k = 0;
-    while k < Attrs::KEYS {
-        if n <= k {
-            return to;
-        }
-        let row = rows[k];
-        to = put_key(b, to, row);
-        k += 1;
+    for row in rows.iter().take(n) {
+        to = put_key(b, to, *row);
     }
     to
 }
@@ -132,14 +120,8 @@ fn put_keys(b: &mut [u8], at: usize, rows: [Row; Attrs::KEYS], n: usize) -> usiz
 // Adds how many slots there are, and each.
 fn put_slots(b: &mut [u8], at: usize, rows: [SlotRecord; Attrs::SLOTS], n: usize) -> usize {
     let mut to = put_counted(b, at, b" slots ", n);
-    let mut k = 0;
-    while k < Attrs::SLOTS {
-        if n <= k {
-            return to;
-        }
-        let row = rows[k];
-        to = put_slot(b, to, row);
-        k += 1;
+    for row in rows.iter().take(n) {
+        to = put_slot(b, to, *row);
     }
     to
 }

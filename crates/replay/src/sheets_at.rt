@@ -24,7 +24,7 @@ pub(crate) fn answer(
     put_none(output, words, to)
 }
 
-// A proved loop has to end, so it counts its turns down, from a number that no sheet uses up.
+// A proved loop has to end: this one goes on for more turns than any sheet needs.
 fn put_report(text: &[u8], b: &mut [u8], join: &mut [u8], output: &mut [u8], at: usize) -> usize {
     let mut s = State {
         to: at,
@@ -32,13 +32,11 @@ fn put_report(text: &[u8], b: &mut [u8], join: &mut [u8], output: &mut [u8], at:
         line: 0,
         more: true,
     };
-    let mut turns = u64::MAX;
-    while turns > 0 {
+    for _ in 0..u64::MAX {
         s = put_next(text, b, join, output, s);
         if !s.more {
             return s.to;
         }
-        turns -= 1;
     }
     s.to
 }
@@ -63,12 +61,7 @@ fn lay_next(text: &[u8], at: usize, line: usize, join: &mut [u8], b: &mut [u8]) 
 }
 
 fn is_more(part: Part) -> bool {
-    let told = part.told;
-    match told {
-        Told::More => true,
-        Told::Done => false,
-        Told::Refused(_) => false,
-    }
+    matches!(part.told, Ok(Told::More))
 }
 
 // Adds `-` where nothing was added.

@@ -4,7 +4,7 @@ use crate::reply::Reply;
 use crate::{ask, brace, fields, readers, reply};
 use base_bytes::Mode;
 use base_refusals::Refusal;
-use read_brace::{Answer, Read};
+use read_brace::{NotRead, Read};
 
 // How many words there are, the number of a line that has none of them.
 pub(crate) const NONE: usize = 4;
@@ -95,7 +95,7 @@ fn placed_by(twice: Twice, text: &[u8], canon: &mut [u8]) -> Reply {
 fn placed(read: Read, text: &[u8], canon: &mut [u8]) -> Reply {
     let answer = read.answer;
     match answer {
-        Answer::Unread(n) => reply::paired(
+        Err(NotRead::Unread(n)) => reply::paired(
             reply::REFUSED,
             fields::wide(base_refusals::number(Refusal::NoReading)),
             reply::AT,

@@ -2,7 +2,6 @@
 use crate::ask::Ask;
 use crate::reply::Reply;
 use crate::{JOIN, TEXT, ask, columns, fields, loose, merging, out, reply};
-use base_refusals::Outcome;
 use set_table::Attrs;
 
 // The second text stands in b, where the canonical text goes, so it is laid into a buffer of its own.
@@ -31,8 +30,8 @@ fn lines<'a>(first: &'a [u8], second: &'a [u8], canon: &mut [u8]) -> Reply {
     let read = read_by_line::parse_standalone_attrs(first, 1);
     let outcome = read.outcome;
     match outcome {
-        Outcome::Refused(r) => reply::refused(reply::FIRST, r),
-        Outcome::Passed => second_line(first, second, read.set, canon),
+        Err(r) => reply::refused(reply::FIRST, r),
+        Ok(()) => second_line(first, second, read.set, canon),
     }
 }
 
@@ -41,8 +40,8 @@ fn second_line<'a>(first: &'a [u8], second: &'a [u8], target: Attrs, canon: &mut
     let read = read_by_line::parse_standalone_attrs(second, 1);
     let outcome = read.outcome;
     match outcome {
-        Outcome::Refused(r) => reply::refused(reply::SECOND, r),
-        Outcome::Passed => {
+        Err(r) => reply::refused(reply::SECOND, r),
+        Ok(()) => {
             let incoming = set_exchange::exchange(read.set);
             merged(ask::PAIRS, first, second, target, incoming, canon)
         }
@@ -61,8 +60,8 @@ fn blocks<'a>(
     let outcome = block.outcome;
     let cap = join.len();
     match outcome {
-        Outcome::Refused(r) => reply::refused(reply::FIRST, r),
-        Outcome::Passed => {
+        Err(r) => reply::refused(reply::FIRST, r),
+        Ok(()) => {
             let over = set_table::text_over(first, join, block.joined);
             joined_behind(word, over, second, read_blocks::as_first(block), cap, canon)
         }
@@ -98,8 +97,8 @@ fn second_block<'a>(
     let block = read_by_line::parse_standalone_attrs_block(second, 1, join);
     let outcome = block.outcome;
     match outcome {
-        Outcome::Refused(r) => reply::refused(reply::SECOND, r),
-        Outcome::Passed => {
+        Err(r) => reply::refused(reply::SECOND, r),
+        Ok(()) => {
             let over = set_table::text_over(second, join, block.joined);
             merged(
                 word,

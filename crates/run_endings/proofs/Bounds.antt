@@ -1,5 +1,6 @@
 -- "`ends_in_refused_brace_run` reports its runs' sum, which keeps that bound."
 -- Assumes nothing.
+use Rattle.std.specs.Prelude.{Ok}
 use mathlib.Core.Path.{◌≡◌, refl, ap}
 use mathlib.Core.Bool.{Bool, true, false, cond}
 use mathlib.Core.List.{List, [], ◌∷◌, ◌++◌, map}
@@ -12,7 +13,6 @@ use Rattle.text_lines.specs.Trim.{is_blank_line}
 use Rattle.run_lines.specs.Runs.{as_is, sizes}
 use Rattle.run_refused.specs.Refused.{refused_of}
 use Rattle.run_refused.proofs.Bounds.{told_ahead, ahead_before}
-use Rattle.run_endings.specs.declared.Ends.TheVariants as end
 use Rattle.run_endings.specs.declared.Verdict as verdicts
 use Rattle.run_endings.specs.declared.Verdict.TheVariants as verdict
 use Rattle.run_endings.specs.Inner.{Back, verdict_of, tried_by, tried_line, back_over, back_from}
@@ -67,7 +67,7 @@ module _ (again : Bool) (l : List ℕ) (ls : List (List ℕ)) where
   fair_over (Back.told a look x) h = omega (arith, h, sizes_cons l ls)
   fair_over (Back.looking tried look x) h = go (is_blank_line l) (opens l) refl
     where
-      go : (y z : Bool) → opens l ≡ z → Fair (l ∷ ls) (cond y (Back.told end.No look x) (cond z (tried_line again tried (suc (length ls)) look x (refused_of (length x) (l ∷ ls))) (Back.looking tried look x)))
+      go : (y z : Bool) → opens l ≡ z → Fair (l ∷ ls) (cond y (Back.told (Ok false) look x) (cond z (tried_line again tried (suc (length ls)) look x (refused_of (length x) (l ∷ ls))) (Back.looking tried look x)))
       go true z o = omega (arith, spent_le ls tried look h, sizes_cons l ls)
       go false true o =
           tried_fair (verdict_of (refused_of (length x) (l ∷ ls)).answer (suc (length ls)) again tried) (look + (refused_of (length x) (l ∷ ls)).lookahead) (over (refused_of (length x) (l ∷ ls)).text x) o

@@ -1,5 +1,6 @@
 -- The number and value of the answer: 1 and 2 of the text, then 9 exactly where one of the runs tried is stopped by a full join buffer and none before it took all lines, else yes or no.
 -- Assumes nothing.
+use Rattle.std.specs.Prelude.{Err, Ok, Result}
 use mathlib.Core.Path.{◌≡◌, refl, sym, ◌∙◌, ap}
 use mathlib.Core.Bool.{Bool, true, false, cond, ◌&&◌, not}
 use mathlib.Core.List.{List, [], ◌∷◌}
@@ -15,14 +16,12 @@ use Rattle.base_refusals.specs.declared.Refusal.{Refusal}
 use Rattle.base_refusals.proofs.Numbers.{number_among}
 use Rattle.base_refusals.proofs.Orders.{paper_by}
 use Rattle.text_checks.specs.Check.{text_order, check_of}
-use Rattle.base_refusals.specs.declared.Outcome.TheVariants as outcome
 use Rattle.text_lines.specs.Lines.{lines}
 use Rattle.run_refused.specs.Refused.{RunTold, refused_of, lines_order}
 use Rattle.run_refused.specs.declared.RunReply.{RunReply}
-use Rattle.run_refused.specs.declared.RunReply.TheVariants.{No, Lines, NoEnd, Refused}
+use Rattle.run_refused.specs.declared.RunReply.TheVariants.{No, Lines, NoEnd}
 use Rattle.run_refused.proofs.Bounds.{told_fits}
 use Rattle.run_refused.proofs.Numbers.{Replies, run_no}
-use Rattle.run_endings.specs.declared.Ends.TheVariants as end
 use Rattle.run_endings.specs.declared.EndsRun.{EndsRun}
 use Rattle.run_endings.specs.Endings.{ends_paper, Ended, settled, tries_of, told_by, tried_in, ends_of, ends_by, ends_in, ends_shown, or_next, tried_order, ends_order, takes_all, yes_no}
 
@@ -35,15 +34,15 @@ any_values (Ground.given q false ∷ gs) vs ws r e = any_values gs vs ws r e
 any_values (Ground.lacking q true ∷ gs) vs ws r e = any_values gs vs ws r e
 any_values (Ground.lacking q false ∷ gs) vs ws r e = e
 
-by_answer : (a : RunReply) (count : ℕ) (buf : List ℕ) (next : Ended) (gs hs : List Ground) (rest : Bool) → Replies a gs → ends_paper next.answer ≡ on_paper hs (cond rest 0 1 ∷ [])
+by_answer : (a : Result RunReply Refusal) (count : ℕ) (buf : List ℕ) (next : Ended) (gs hs : List Ground) (rest : Bool) → Replies a gs → ends_paper next.answer ≡ on_paper hs (cond rest 0 1 ∷ [])
     → ends_paper (told_by a count buf next).answer ≡ on_paper (or_next a count gs hs) (cond (not (takes_all a count) && rest) 0 1 ∷ [])
 unfolding on_paper
-by_answer (Refused r) count buf next gs hs rest e q = any_values gs [] (cond rest 0 1 ∷ []) r e
-by_answer (No m) count buf next gs hs rest e q = q
-by_answer NoEnd count buf next gs hs rest e q = q
-by_answer (Lines m) count buf next gs hs rest e q = go (eqb m count)
+by_answer (Err r) count buf next gs hs rest e q = any_values gs [] (cond rest 0 1 ∷ []) r e
+by_answer (Ok (No m)) count buf next gs hs rest e q = q
+by_answer (Ok NoEnd) count buf next gs hs rest e q = q
+by_answer (Ok (Lines m)) count buf next gs hs rest e q = go (eqb m count)
   where
-    go : (b : Bool) → ends_paper (cond b (settled end.Yes buf) next).answer ≡ on_paper (cond b [] hs) (cond (not b && rest) 0 1 ∷ [])
+    go : (b : Bool) → ends_paper (cond b (settled (Ok true) buf) next).answer ≡ on_paper (cond b [] hs) (cond (not b && rest) 0 1 ∷ [])
     go true = refl
     go false = q
 
@@ -63,7 +62,7 @@ tried_no buf (ls ∷ more) =
 pub ends_no : (buf t : List ℕ) → ends_paper (ends_in buf t).answer ≡ on_paper (ends_order buf t) (yes_no (length buf) (tries_of (lines t)))
 unfolding ends_in ends_of check_of
 ends_no buf t =
-    paper_by (λ o. ends_paper (ends_by buf t o).answer) outcome.Refused (yes_no (length buf) (tries_of (lines t))) (λ r. refl) (text_order t)
+    paper_by (λ o. ends_paper (ends_by buf t o).answer) Err (yes_no (length buf) (tries_of (lines t))) (λ r. refl) (text_order t)
     (tried_order buf (tries_of (lines t))) (tried_no buf (tries_of (lines t)))
 
 -- what is promised

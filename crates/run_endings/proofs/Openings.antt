@@ -1,5 +1,6 @@
 -- The search, line by line, makes the runs from the openings on.
 -- Assumes nothing.
+use Rattle.std.specs.Prelude.{Err, Ok, Result}
 use mathlib.Core.Path.{◌≡◌, refl, sym, ◌∙◌, ap}
 use mathlib.Core.Bool.{Bool, true, false, cond, ◌&&◌, not}
 use mathlib.Core.List.{List, [], ◌∷◌, ◌++◌, append-nil, append_assoc}
@@ -13,33 +14,32 @@ use Rattle.base_lists.proofs.More.{contra}
 use Rattle.text_lines.specs.Trim.{is_blank_line}
 use Rattle.run_refused.specs.Refused.{RunTold, refused_of}
 use Rattle.run_refused.specs.declared.RunReply.{RunReply}
-use Rattle.run_refused.specs.declared.RunReply.TheVariants.{No, Lines, NoEnd, Refused}
-use Rattle.run_endings.specs.declared.Ends as ends
-use Rattle.run_endings.specs.declared.Ends.TheVariants as end
+use Rattle.run_refused.specs.declared.RunReply.TheVariants.{No, Lines, NoEnd}
 use Rattle.run_endings.specs.declared.Verdict.TheVariants as verdict
 use Rattle.run_endings.specs.Endings.{Ended, settled, unbroken, openings, told_by, ahead, tried_in}
 use Rattle.run_endings.specs.Inner.{Back, next_or, verdict_of, tried_by, back_over, back_from, ended_by}
+use Rattle.base_refusals.specs.declared.Refusal.{Refusal}
 
 abbrev Runs : Type 0
 Runs = List (List (List ℕ))
 
-abbrev End : ends.Ends → ℕ → List ℕ → Ended
+abbrev End : Result Bool Refusal → ℕ → List ℕ → Ended
 End a look x = record { answer = a; lookahead = look; join = x }
 
 -- ---- an answer tells, or leaves it to the next run
 
-data Speaks (a : RunReply) (count : ℕ) : Type 0 where
-  tells : (e : ends.Ends) → ((again tried : Bool) → verdict_of a count again tried ≡ verdict.Told e) → ((y : List ℕ) (next : Ended) → told_by a count y next ≡ settled e y) → Speaks a count
+data Speaks (a : Result RunReply Refusal) (count : ℕ) : Type 0 where
+  tells : (e : Result Bool Refusal) → ((again tried : Bool) → verdict_of a count again tried ≡ verdict.Told e) → ((y : List ℕ) (next : Ended) → told_by a count y next ≡ settled e y) → Speaks a count
   goes : ((again tried : Bool) → verdict_of a count again tried ≡ next_or again tried) → ((y : List ℕ) (next : Ended) → told_by a count y next ≡ next) → Speaks a count
 
-speaks : (a : RunReply) (count : ℕ) → Speaks a count
-speaks (Refused r) count = Speaks.tells (end.Refused r) (λ again tried. refl) (λ y next. refl)
-speaks (No n) count = Speaks.goes (λ again tried. refl) (λ y next. refl)
-speaks NoEnd count = Speaks.goes (λ again tried. refl) (λ y next. refl)
-speaks (Lines n) count = go (eqb n count) refl
+speaks : (a : Result RunReply Refusal) (count : ℕ) → Speaks a count
+speaks (Err r) count = Speaks.tells (Err r) (λ again tried. refl) (λ y next. refl)
+speaks (Ok (No n)) count = Speaks.goes (λ again tried. refl) (λ y next. refl)
+speaks (Ok NoEnd) count = Speaks.goes (λ again tried. refl) (λ y next. refl)
+speaks (Ok (Lines n)) count = go (eqb n count) refl
   where
-    go : (b : Bool) → eqb n count ≡ b → Speaks (Lines n) count
-    go true q = Speaks.tells end.Yes (λ again tried. rw q) (λ y next. rw q)
+    go : (b : Bool) → eqb n count ≡ b → Speaks (Ok (Lines n)) count
+    go true q = Speaks.tells (Ok true) (λ again tried. rw q) (λ y next. rw q)
     go false q = Speaks.goes (λ again tried. rw q) (λ y next. rw q)
 
 -- ---- what is known behind the lines ls
@@ -67,16 +67,16 @@ and_false : (a : Bool) → (a && false) ≡ false
 and_false true = refl
 and_false false = refl
 
-none_made : (again : Bool) (buf : List ℕ) → tried_in buf (take (cond again 2 1) []) ≡ settled end.No buf
+none_made : (again : Bool) (buf : List ℕ) → tried_in buf (take (cond again 2 1) []) ≡ settled (Ok false) buf
 unfolding tried_in
 none_made true buf = refl
 none_made false buf = refl
 
-none_left : (look : ℕ) (x : List ℕ) → ahead look (tried_in x []) ≡ End end.No look x
+none_left : (look : ℕ) (x : List ℕ) → ahead look (tried_in x []) ≡ End (Ok false) look x
 unfolding tried_in
-none_left look x = ap (λ n. End end.No n x) (omega arith)
+none_left look x = ap (λ n. End (Ok false) n x) (omega arith)
 
-sum_first : (e : ends.Ends) (n : ℕ) (x : List ℕ) → End e n x ≡ End e (0 + n) x
+sum_first : (e : Result Bool Refusal) (n : ℕ) (x : List ℕ) → End e n x ≡ End e (0 + n) x
 sum_first e n x = ap (λ k. End e k x) (omega arith)
 
 module _ (buf : List ℕ) (l : List ℕ) (ls : List (List ℕ)) where
@@ -97,7 +97,7 @@ module _ (buf : List ℕ) (l : List ℕ) (ls : List (List ℕ)) where
   openings-same : new ≡ false → openings (l ∷ ls) ≡ openings ls
   openings-same q = openings_cons ∙ rw q (append-nil (openings ls))
 
-  told_on : (again : Bool) (a : ends.Ends) (look : ℕ) (x : List ℕ) → Says again buf ls (Back.told a look x) → Says again buf (l ∷ ls) (Back.told a look x)
+  told_on : (again : Bool) (a : Result Bool Refusal) (look : ℕ) (x : List ℕ) → Says again buf ls (Back.told a look x) → Says again buf (l ∷ ls) (Back.told a look x)
   told_on again a look x h more k =
       ap (λ z. tried_in buf (take (cond again 2 1) z)) (ap (λ z. z ++ more) openings_cons ∙ append_assoc (openings ls) added more) ∙ h (added ++ more) broken
     where
@@ -108,7 +108,7 @@ module _ (buf : List ℕ) (l : List ℕ) (ls : List (List ℕ)) where
           rw (n, k (unbroken_cons ∙ b))
 
   module _ (b : is_blank_line l ≡ true) where
-    at_blank : (again tried : Bool) (look : ℕ) (x : List ℕ) → Says again buf ls (Back.looking tried look x) → Says again buf (l ∷ ls) (Back.told end.No look x)
+    at_blank : (again tried : Bool) (look : ℕ) (x : List ℕ) → Says again buf ls (Back.looking tried look x) → Says again buf (l ∷ ls) (Back.told (Ok false) look x)
     at_blank again false look x h more k =
         let n : new ≡ false = rw b (and_false (opens l)) in
         rw (k (unbroken_cons ∙ rw b), openings-same n, h.none, h.unseen, h.left) (none_made again buf)
@@ -143,7 +143,7 @@ module _ (buf : List ℕ) (l : List ℕ) (ls : List (List ℕ)) where
         made more = refl
 
         -- the run tells, whatever comes behind it
-        made_tells : {e : ends.Ends} → ((next : Ended) → told_by R.answer (suc (length ls)) y next ≡ settled e y) → (more : Runs) → tried_in x ((l ∷ ls) ∷ more) ≡ End e R.lookahead y
+        made_tells : {e : Result Bool Refusal} → ((next : Ended) → told_by R.answer (suc (length ls)) y next ≡ settled e y) → (more : Runs) → tried_in x ((l ∷ ls) ∷ more) ≡ End e R.lookahead y
         made_tells {e} t more = made more ∙ rw (t (tried_in y more)) (ap (λ n. End e n y) (omega arith))
 
         made_goes : ((next : Ended) → told_by R.answer (suc (length ls)) y next ≡ next) → (more : Runs) → tried_in x ((l ∷ ls) ∷ more) ≡ ahead R.lookahead (tried_in y more)
@@ -158,7 +158,7 @@ module _ (buf : List ℕ) (l : List ℕ) (ls : List (List ℕ)) where
       first true w n (Speaks.tells e v t) = rw (v true false) (λ more k. rw (openings_more w, n) (made_tells buf (t (y buf)) (take 1 more) ∙ sum_first e (R buf).lookahead (y buf)))
       first false w n (Speaks.tells e v t) = rw (v false false) (λ more k. rw (openings_more w, n) (made_tells buf (t (y buf)) [] ∙ sum_first e (R buf).lookahead (y buf)))
       first true w n (Speaks.goes v t) = rw (v true false) (record { m = l ∷ ls; twice = refl; whole = whole_on w; one = openings_more w ∙ rw n; so = λ more. made_goes buf (t (y buf)) more ∙ ap (λ n. ahead n (tried_in (y buf) more)) (omega arith) })
-      first false w n (Speaks.goes v t) = rw (v false false) (λ more k. rw (openings_more w, n) (made_goes buf (t (y buf)) [] ∙ none_left (R buf).lookahead (y buf) ∙ sum_first end.No (R buf).lookahead (y buf)))
+      first false w n (Speaks.goes v t) = rw (v false false) (λ more k. rw (openings_more w, n) (made_goes buf (t (y buf)) [] ∙ none_left (R buf).lookahead (y buf) ∙ sum_first (Ok false) (R buf).lookahead (y buf)))
 
       at_opening : (again tried : Bool) (look : ℕ) (x : List ℕ) → Says again buf ls (Back.looking tried look x) → Tries x again tried look
       at_opening again false look x h = rw (h.unseen, h.left) (first again h.whole h.none (speaks (R buf).answer (suc (length ls))))
@@ -169,7 +169,7 @@ module _ (buf : List ℕ) (l : List ℕ) (ls : List (List ℕ)) where
   over_line again (Back.told a look x) h = told_on again a look x h
   over_line again (Back.looking tried look x) h = go (is_blank_line l) refl (opens l) refl
     where
-      go : (z : Bool) → is_blank_line l ≡ z → (w : Bool) → opens l ≡ w → Says again buf (l ∷ ls) (cond z (Back.told end.No look x) (cond w (tried_by (verdict_of (refused_of (length x) (l ∷ ls)).answer (suc (length ls)) again tried) (look + (refused_of (length x) (l ∷ ls)).lookahead) (over (refused_of (length x) (l ∷ ls)).text x)) (Back.looking tried look x)))
+      go : (z : Bool) → is_blank_line l ≡ z → (w : Bool) → opens l ≡ w → Says again buf (l ∷ ls) (cond z (Back.told (Ok false) look x) (cond w (tried_by (verdict_of (refused_of (length x) (l ∷ ls)).answer (suc (length ls)) again tried) (look + (refused_of (length x) (l ∷ ls)).lookahead) (over (refused_of (length x) (l ∷ ls)).text x)) (Back.looking tried look x)))
       go true b w o = at_blank b again tried look x h
       go false b true o = at_opening b o again tried look x h
       go false b false o = at_other b o again tried look x h

@@ -1,5 +1,6 @@
 -- From the last line upwards.
 -- Assumes nothing.
+use Rattle.std.specs.Prelude.{Ok, Result}
 use mathlib.Core.Path.{◌≡◌, refl, sym, ◌∙◌, ap}
 use mathlib.Core.Logic.{inl, inr}
 use mathlib.Core.Bool.{Bool, true, false, cond}
@@ -9,7 +10,9 @@ use native.Mathlib.Omega.{arith}
 use borrow.Author.Tests.{ne_eqb}
 use lib.Dec.{eqb}
 use lib.ListN.{length, get_or, take, drop, length-drop}
-use lib.Seq.{drop-cons}
+use lib.Seq.{drop-cons, length-take-le}
+use Rattle.std.proofs.Common.{Option, None, Some, MatchOption, ◌≢◌}
+use Rattle.std.proofs.lemmas.List.{get_or-take}
 use Rattle.block_payloads.specs.Payloads.{opens}
 use Rattle.base_lists.specs.Lists.{is_in, over}
 use Rattle.base_refusals.specs.Numbers.{max_text}
@@ -19,14 +22,13 @@ use Rattle.text_lines.specs.declared.LineEnd.{LineEnd}
 use Rattle.text_lines.proofs.First.{rest_of}
 use Rattle.text_lines.proofs.Lines.{lines_end}
 use Rattle.run_lines.proofs.Bounds.{sizes-lines, costs_lines}
+use Rattle.run_scanners.proofs.Quick.{IsLast}
 use Rattle.run_spots.specs.Spots.{closes_comment}
 use Rattle.run_refused.specs.declared.RefusedRun.{RefusedRun}
 use Rattle.run_refused.specs.Refused.{refused_at, handed_out}
 use Rattle.run_refused.proofs.Answers.{at_short}
 use Rattle.run_refused.proofs.Bounds.{told_ahead, told_text}
 use Rattle.run_refused.proofs.Walking.{line, line_in, line_first}
-use Rattle.run_endings.specs.declared.Ends as ends
-use Rattle.run_endings.specs.declared.Ends.TheVariants as end
 use Rattle.run_endings.specs.declared.EndsRun.{EndsRun}
 use Rattle.run_endings.specs.declared.Verdict as verdicts
 use Rattle.run_endings.specs.declared.Verdict.TheVariants as verdict
@@ -34,6 +36,7 @@ use Rattle.run_endings.specs.Endings.{openings, last_of, Ended, settled, tried_i
 use Rattle.run_endings.specs.Inner.{Edge, Before, Back, verdict_of, tried_by, back_over, back_from, ended_by}
 use Rattle.run_endings.proofs.Openings.{ended_same}
 use Rattle.run_endings.proofs.Bounds.{looking_le}
+use Rattle.base_refusals.specs.declared.Refusal.{Refusal}
 
 -- ---- where a line begins the lines part
 
@@ -94,9 +97,25 @@ module _ {t : List ℕ} {at i : ℕ} (inv : Climbs t at i) where
       let q = d ∙ ap (λ n. suc (eol (drop n t))) m in
       record { below = omega (arith, inv.below); within = inv.within; next = omega (arith, length-drop (i - 1) t, length-drop i t, q, inv.next, inv.below, inv.within) }
 
+-- what `line_start` asks the library: the last LF before the byte in front of `at`
+module _ {t : List ℕ} {at : ℕ} (top : Climbs t at (at - 1)) where
+  down : (m r e : ℕ) → e ≡ r + m → Climbs t at e → ((k : ℕ) → r ≤ k → k < e → get_or t k 0 ≢ 10) → Climbs t at r
+  down zero r e q inv h = let z : e ≡ r = omega arith in rw z at inv
+  down (suc m) r e q inv h = down m r (e - 1) (omega arith) (climb_go inv (omega arith) (h (e - 1) (omega arith) (omega arith))) (λ k a b. h k a (omega arith))
+
+  pub climb_found : (r : Option ℕ) {n : ℕ} → IsLast 10 (take (at - 1) t) r → MatchOption r (n ≡ 0) (λ i. n ≡ i + 1) → Before t at n
+  climb_found None h e =
+      let l = length-take-le (at - 1) t (omega (arith, top.within)) in
+      rw e (climb_end (down (at - 1) 0 (at - 1) (omega arith) top (λ k a b q. h k (omega arith) (get_or-take (at - 1) t k 0 b ∙ q))) (omega arith))
+  climb_found (Some i) {n} (w, (here, h)) e =
+      let l = length-take-le (at - 1) t (omega (arith, top.within)) in
+      let z : n - 1 ≡ i = omega arith in
+      let g : get_or t i 0 ≡ 10 = sym (get_or-take (at - 1) t i 0 (omega arith)) ∙ here in
+      climb_stop (down (at - 1 - n) n (at - 1) (omega arith) top (λ k a b q. h k (omega arith) (omega arith) (get_or-take (at - 1) t k 0 b ∙ q))) (rw z g)
+
 -- ---- the loop of `search_back`
 
-told_stays : (again : Bool) (buf : List ℕ) (pre ls : List (List ℕ)) {a : ends.Ends} {k : ℕ} {x : List ℕ} → back_from again buf ls ≡ Back.told a k x → back_from again buf (pre ++ ls) ≡ Back.told a k x
+told_stays : (again : Bool) (buf : List ℕ) (pre ls : List (List ℕ)) {a : Result Bool Refusal} {k : ℕ} {x : List ℕ} → back_from again buf ls ≡ Back.told a k x → back_from again buf (pre ++ ls) ≡ Back.told a k x
 unfolding back_from
 told_stays again buf [] ls q = q
 told_stays again buf (l ∷ pre) ls q = rw (told_stays again buf pre ls q)
@@ -122,10 +141,10 @@ module _ {t : List ℕ} {again : Bool} {buf₀ buf : List ℕ} {at count : ℕ} 
   abbrev Tells : EndsRun → List ℕ → Type 0
   Tells g x = (g ≡ ends_shown R) × (x ≡ R.join)
 
-  abbrev Gives : ends.Ends → ℕ → EndsRun → Type 0
+  abbrev Gives : Result Bool Refusal → ℕ → EndsRun → Type 0
   Gives a k g = g ≡ record { answer = a; lookahead = k }
 
-  pub backs_end : at ≡ 0 → {g : EndsRun} → Gives end.No look g → Tells g buf
+  pub backs_end : at ≡ 0 → {g : EndsRun} → Gives (Ok false) look g → Tells g buf
   backs_end z g = let q : back_from again buf₀ (lines t) ≡ Back.looking tried look buf = rw z at inv.so in rw q (g, refl)
 
   pub look_le : look ≤ length t
@@ -156,12 +175,12 @@ module _ {t : List ℕ} {again : Bool} {buf₀ buf : List ℕ} {at count : ℕ} 
     over_this = rw (first, inv.so)
 
     -- the search is at its end with this line
-    told_here : {a : ends.Ends} {k : ℕ} {x : List ℕ} → back_from again buf₀ (lines (drop p t)) ≡ Back.told a k x → {g : EndsRun} → Gives a k g → Tells g x
+    told_here : {a : Result Bool Refusal} {k : ℕ} {x : List ℕ} → back_from again buf₀ (lines (drop p t)) ≡ Back.told a k x → {g : EndsRun} → Gives a k g → Tells g x
     told_here q g =
         let z = ap (back_from again buf₀) (split t p (omega (arith, some)) b.edge) ∙ told_stays again buf₀ (lines (take p t)) (lines (drop p t)) q in
         rw z (g, refl)
 
-    pub backs_blank : true ≡ is_blank_line here → {g : EndsRun} → Gives end.No look g → Tells g buf
+    pub backs_blank : true ≡ is_blank_line here → {g : EndsRun} → Gives (Ok false) look g → Tells g buf
     backs_blank q = told_here (over_this ∙ rw (← q))
 
     module _ (q : false ≡ is_blank_line here) where
@@ -180,7 +199,7 @@ module _ {t : List ℕ} {again : Bool} {buf₀ buf : List ℕ} {at count : ℕ} 
         tried_this : back_from again buf₀ (lines (drop p t)) ≡ tried_by v (look + r.lookahead) buf'
         tried_this = let c : count + 1 ≡ suc (length (lines (drop at t))) = omega (arith, inv.counted) in over_this ∙ rw (u, w.1.0, w.0, at_short (length buf) t p short, c, first, ← q, ← o)
 
-        pub backs_told : {a : ends.Ends} → v ≡ verdict.Told a → {g : EndsRun} → Gives a (look + r.lookahead) g → Tells g buf'
+        pub backs_told : {a : Result Bool Refusal} → v ≡ verdict.Told a → {g : EndsRun} → Gives a (look + r.lookahead) g → Tells g buf'
         backs_told k = told_here (tried_this ∙ rw k)
 
         pub backs_next : v ≡ verdict.Next → Backs t again buf₀ buf' p (count + 1) true (look + r.lookahead)
@@ -194,7 +213,7 @@ last_is [] l = refl
 last_is (x ∷ []) l = refl
 last_is (x ∷ y ∷ pre) l = last_is (y ∷ pre) l
 
-pub ends_empty : (t buf : List ℕ) → length t ≡ 0 → ends_of buf (lines t) ≡ settled end.No buf
+pub ends_empty : (t buf : List ℕ) → length t ≡ 0 → ends_of buf (lines t) ≡ settled (Ok false) buf
 unfolding ends_of lines last_of is_in openings tried_in
 ends_empty [] buf h = refl
 ends_empty (b ∷ t) buf h = absurd (omega arith)
@@ -209,7 +228,7 @@ module _ (t buf : List ℕ) {p : ℕ} (b : Before t (length t) p) {l : LineEnd} 
       let z : lines (drop p t) ≡ last_line ∷ [] = line_first t p b.below e ∙ ap (λ x. last_line ∷ x) (rw n (lines_end t (length t) (omega arith))) in
       ap last_of (split t p (omega (arith, b.below)) b.edge) ∙ rw z (last_is (lines (take p t)) last_line)
 
-  pub ends_none : false ≡ is_in last_line 125 → ends_of buf (lines t) ≡ settled end.No buf
+  pub ends_none : false ≡ is_in last_line 125 → ends_of buf (lines t) ≡ settled (Ok false) buf
   unfolding ends_of tried_in
   ends_none q = rw (last, ← q)
 

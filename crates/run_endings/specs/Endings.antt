@@ -1,38 +1,35 @@
 -- "`ends_in_refused_brace_run` says yes or no": yes if one of the runs that are tried, at most two, is refused
 -- and takes all lines from its first to the text's last.
-use Rattle.std.specs.Prelude.{ℕ, ◌+◌, Bool, cond, ◌&&◌, not, List, [], ◌∷◌, ◌++◌, eqb, length, take, get_or}
+use Rattle.std.specs.Prelude.{ℕ, ◌+◌, Bool, cond, ◌&&◌, not, List, [], ◌∷◌, ◌++◌, eqb, length, take, get_or, Err, Ok, Result, true, false}
 use Rattle.block_payloads.specs.Payloads.{opens}
 use Rattle.base_lists.specs.Lists.{all, is_in, over}
 use Rattle.base_refusals.specs.Numbers.{Paper, refused_paper, passed_paper}
 use Rattle.base_refusals.specs.Orders.{Ground}
 use Rattle.text_checks.specs.Check.{text_order, check_of}
-use Rattle.base_refusals.specs.declared.Outcome as outcomes
-use Rattle.base_refusals.specs.declared.Outcome.TheVariants as outcome
 use Rattle.text_lines.specs.Trim.{is_blank_line}
 use Rattle.text_lines.specs.Lines.{lines}
 use Rattle.run_spots.specs.Spots.{closes_comment}
 use Rattle.run_refused.specs.Refused.{reply_paper, RunTold, refused_of, lines_order}
 use Rattle.run_refused.specs.declared.RunReply.{RunReply}
-use Rattle.run_refused.specs.declared.RunReply.TheVariants.{No, Lines, NoEnd, Refused}
-use Rattle.run_endings.specs.declared.Ends as ends
-use Rattle.run_endings.specs.declared.Ends.TheVariants as end
+use Rattle.run_refused.specs.declared.RunReply.TheVariants.{No, Lines, NoEnd}
 use Rattle.run_endings.specs.declared.EndsRun.{EndsRun}
 use Rattle.base_bytes.specs.Bytes.{close_brace}
+use Rattle.base_refusals.specs.declared.Refusal.{Refusal}
 
 -- "says yes or no, or 1, 2, 9": yes and no are 1 and 0
-abbrev pub ends_paper : ends.Ends → Paper
-ends_paper end.Yes = passed_paper (1 ∷ [])
-ends_paper end.No = passed_paper (0 ∷ [])
-ends_paper (end.Refused r) = refused_paper r
+abbrev pub ends_paper : Result Bool Refusal → Paper
+ends_paper (Ok true) = passed_paper (1 ∷ [])
+ends_paper (Ok false) = passed_paper (0 ∷ [])
+ends_paper (Err r) = refused_paper r
 
 -- with the lookahead, and what the join buffer holds at the end
 pub record Ended : Type 0 where
-  pub answer : ends.Ends
+  pub answer : Result Bool Refusal
   pub lookahead : ℕ
   pub join : List ℕ
 
 -- no run is made any more
-abbrev pub settled : ends.Ends → List ℕ → Ended
+abbrev pub settled : Result Bool Refusal → List ℕ → Ended
 settled a buf = record { answer = a; lookahead = 0; join = buf }
 
 -- ---- which runs are tried (000)
@@ -61,11 +58,11 @@ tries_of ls = take (tries (last_of ls)) (openings ls)
 -- ---- what they say
 
 -- the run has to take all lines, so many; if it doesn't, the next one tells
-abbrev pub told_by : RunReply → ℕ → List ℕ → Ended → Ended
-told_by (Refused r) count buf next = settled (end.Refused r) buf
-told_by (Lines n) count buf next = cond (eqb n count) (settled end.Yes buf) next
-told_by (No n) count buf next = next
-told_by NoEnd count buf next = next
+abbrev pub told_by : Result RunReply Refusal → ℕ → List ℕ → Ended → Ended
+told_by (Err r) count buf next = settled (Err r) buf
+told_by (Ok (Lines n)) count buf next = cond (eqb n count) (settled (Ok true) buf) next
+told_by (Ok (No n)) count buf next = next
+told_by (Ok NoEnd) count buf next = next
 
 -- "reports its runs' sum"
 abbrev pub ahead : ℕ → Ended → Ended
@@ -76,7 +73,7 @@ abbrev pub try_run : ℕ → List ℕ → RunTold → (List ℕ → Ended) → E
 try_run count buf r next = ahead r.lookahead (told_by r.answer count (over r.text buf) (next (over r.text buf)))
 
 unfoldable pub tried_in : List ℕ → List (List (List ℕ)) → Ended
-tried_in buf [] = settled end.No buf
+tried_in buf [] = settled (Ok false) buf
 tried_in buf (ls ∷ more) = try_run (length ls) buf (refused_of (length buf) ls) (λ x. tried_in x more)
 
 unfoldable pub ends_of : List ℕ → List (List ℕ) → Ended
@@ -84,9 +81,9 @@ ends_of buf ls = tried_in buf (tries_of ls)
 
 -- ---- the entry
 
-abbrev pub ends_by : List ℕ → List ℕ → outcomes.Outcome → Ended
-ends_by buf t (outcome.Refused r) = settled (end.Refused r) buf
-ends_by buf t outcome.Passed = ends_of buf (lines t)
+abbrev pub ends_by : List ℕ → List ℕ → Result (Unit {0}) Refusal → Ended
+ends_by buf t (Err r) = settled (Err r) buf
+ends_by buf t (Ok _) = ends_of buf (lines t)
 
 unfoldable pub ends_in : List ℕ → List ℕ → Ended
 ends_in buf t = ends_by buf t (check_of t)
@@ -97,11 +94,11 @@ ends_shown e = record { answer = e.answer; lookahead = e.lookahead }
 -- ---- the order: "says yes or no, or 1, 2, 9"
 
 -- that of a run, or that of the next ones where it doesn't settle the answer
-abbrev pub or_next : RunReply → ℕ → List Ground → List Ground → List Ground
-or_next (Refused r) count here next = here
-or_next (Lines n) count here next = cond (eqb n count) [] next
-or_next (No n) count here next = next
-or_next NoEnd count here next = next
+abbrev pub or_next : Result RunReply Refusal → ℕ → List Ground → List Ground → List Ground
+or_next (Err r) count here next = here
+or_next (Ok (Lines n)) count here next = cond (eqb n count) [] next
+or_next (Ok (No n)) count here next = next
+or_next (Ok NoEnd) count here next = next
 
 unfoldable pub tried_order : List ℕ → List (List (List ℕ)) → List Ground
 tried_order buf [] = []
@@ -112,7 +109,7 @@ abbrev pub ends_order : List ℕ → List ℕ → List Ground
 ends_order buf t = text_order t ++ tried_order buf (tries_of (lines t))
 
 -- the reply is Lines, and of all `count` lines: on paper 1 and that count
-abbrev pub takes_all : RunReply → ℕ → Bool
+abbrev pub takes_all : Result RunReply Refusal → ℕ → Bool
 takes_all a count = eqb (get_or (reply_paper a).values 0 0) 1 && eqb (get_or (reply_paper a).values 1 0) count
 
 -- no where none of the runs that are tried takes all lines, with a join buffer of `cap` bytes

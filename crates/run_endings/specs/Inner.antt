@@ -1,18 +1,17 @@
 -- What private functions promise on the way upwards: nothing that a reader of the public promise has to believe.
-use Rattle.std.specs.Prelude.{ℕ, suc, ◌+◌, ◌-◌, ◌<◌, ◌≡◌, Bool, true, false, cond, ◌&&◌, not, ◌⊎◌, List, [], ◌∷◌, eqb, length, get_or}
+use Rattle.std.specs.Prelude.{ℕ, suc, ◌+◌, ◌-◌, ◌<◌, ◌≡◌, Bool, true, false, cond, ◌&&◌, not, ◌⊎◌, List, [], ◌∷◌, eqb, length, get_or, Err, Ok, Result}
 use Rattle.block_payloads.specs.Payloads.{opens}
 use Rattle.base_lists.specs.Lists.{over}
 use Rattle.text_lines.specs.Trim.{is_blank_line}
 use Rattle.text_lines.specs.Lines.{line_from}
 use Rattle.run_refused.specs.Refused.{RunTold, refused_of}
 use Rattle.run_refused.specs.declared.RunReply.{RunReply}
-use Rattle.run_refused.specs.declared.RunReply.TheVariants.{No, Lines, NoEnd, Refused}
-use Rattle.run_endings.specs.declared.Ends as ends
-use Rattle.run_endings.specs.declared.Ends.TheVariants as end
+use Rattle.run_refused.specs.declared.RunReply.TheVariants.{No, Lines, NoEnd}
 use Rattle.run_endings.specs.declared.Verdict as verdicts
 use Rattle.run_endings.specs.declared.Verdict.TheVariants as verdict
 use Rattle.run_endings.specs.Endings.{Ended}
 use Rattle.base_bytes.specs.Bytes.{lf}
+use Rattle.base_refusals.specs.declared.Refusal.{Refusal}
 
 -- a line begins at the place, or the text ends there
 abbrev pub Edge : List ℕ → ℕ → Type 0
@@ -29,16 +28,16 @@ pub record Before (t : List ℕ) (at from : ℕ) : Type 0 where
 -- still looking, with one line tried already or none, or told; the lookahead of the runs made, and what the join buffer holds
 pub data Back : Type 0 where
   looking : Bool → ℕ → List ℕ → Back
-  told : ends.Ends → ℕ → List ℕ → Back
+  told : Result Bool Refusal → ℕ → List ℕ → Back
 
 abbrev pub next_or : Bool → Bool → verdicts.Verdict
-next_or again tried = cond (again && not tried) verdict.Next (verdict.Told end.No)
+next_or again tried = cond (again && not tried) verdict.Next (verdict.Told (Ok false))
 
-abbrev pub verdict_of : RunReply → ℕ → Bool → Bool → verdicts.Verdict
-verdict_of (Refused r) count again tried = verdict.Told (end.Refused r)
-verdict_of (Lines n) count again tried = cond (eqb n count) (verdict.Told end.Yes) (next_or again tried)
-verdict_of (No n) count again tried = next_or again tried
-verdict_of NoEnd count again tried = next_or again tried
+abbrev pub verdict_of : Result RunReply Refusal → ℕ → Bool → Bool → verdicts.Verdict
+verdict_of (Err r) count again tried = verdict.Told (Err r)
+verdict_of (Ok (Lines n)) count again tried = cond (eqb n count) (verdict.Told (Ok true)) (next_or again tried)
+verdict_of (Ok (No n)) count again tried = next_or again tried
+verdict_of (Ok NoEnd) count again tried = next_or again tried
 
 abbrev pub tried_by : verdicts.Verdict → ℕ → List ℕ → Back
 tried_by (verdict.Told a) look buf = Back.told a look buf
@@ -51,7 +50,7 @@ tried_line again tried count look buf r = tried_by (verdict_of r.answer count ag
 abbrev pub back_over : Bool → List ℕ → List (List ℕ) → Back → Back
 back_over again l ls (Back.told a look buf) = Back.told a look buf
 back_over again l ls (Back.looking tried look buf) =
-    cond (is_blank_line l) (Back.told end.No look buf)
+    cond (is_blank_line l) (Back.told (Ok false) look buf)
     (cond (opens l) (tried_line again tried (suc (length ls)) look buf (refused_of (length buf) (l ∷ ls)))
     (Back.looking tried look buf))
 
@@ -60,5 +59,5 @@ back_from again buf [] = Back.looking false 0 buf
 back_from again buf (l ∷ ls) = back_over again l ls (back_from again buf ls)
 
 abbrev pub ended_by : Back → Ended
-ended_by (Back.looking tried look buf) = record { answer = end.No; lookahead = look; join = buf }
+ended_by (Back.looking tried look buf) = record { answer = Ok false; lookahead = look; join = buf }
 ended_by (Back.told a look buf) = record { answer = a; lookahead = look; join = buf }

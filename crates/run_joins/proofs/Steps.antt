@@ -1,5 +1,6 @@
 -- One line of a run: its tests, its bytes in the lent memory, and the state behind it.
 -- Assumes nothing.
+use Rattle.std.specs.Prelude.{None, Option, Some}
 use mathlib.Core.Path.{◌≡◌, refl, sym, ◌∙◌, ap}
 use mathlib.Core.Bool.{Bool, true, false, cond, not}
 use mathlib.Core.List.{List, [], ◌∷◌, ◌++◌}
@@ -21,16 +22,12 @@ use Rattle.text_tabs.specs.Columns.{indent_from, capped, most}
 use Rattle.text_tabs.proofs.Laws.{capped_id, capped_top}
 use Rattle.block_payloads.specs.Payloads.{continues}
 use Rattle.run_scanners.specs.Scanners.{last_open_brace, open_quote_at_end, capped_at, hold_from, is_held}
-use Rattle.run_scanners.specs.declared.Hold.{Hold}
-use Rattle.block_grammar.specs.declared.Quote.{Quote}
-use Rattle.block_grammar.specs.declared.Quote.TheVariants.{Out, In}
-use Rattle.block_grammar.specs.declared.Place.{Place}
-use Rattle.block_grammar.specs.declared.Place.TheVariants.{Nothing, At}
 use Rattle.run_joins.specs.declared.State.{State}
 use Rattle.run_joins.specs.declared.Effect.{Effect}
 use Rattle.run_joins.specs.declared.Effect.TheVariants.{Broken, Full, Go, Closes}
 use Rattle.run_joins.specs.Joins.{at_pad, So, is_first, goes_on, passes, may_join, spaced, added, brace_after, after, is_full, is_closing, run_in, state_of, hold_after, join_step, join_after, effect_paper, join_order, join_values}
 use Rattle.run_joins.specs.Inner.{next_state}
+use Rattle.run_scanners.specs.declared.Held.{Held}
 
 -- ---- a line's own tests
 
@@ -45,10 +42,10 @@ module _ (st : State) (pad : ℕ) (l : List ℕ) where
     pub goes_low : n ≤ st.brace → On false
     goes_low k = rw (capped_id st.brace h, ← e, le-ltb st.brace n k)
 
-    pub goes_quoted : {k : ℕ} → st.brace < n → st.quote ≡ In k → On false
+    pub goes_quoted : {k : ℕ} → st.brace < n → st.quote ≡ Some k → On false
     goes_quoted i f = rw (capped_id st.brace h, ← e, lt-ltb st.brace n i, f)
 
-    pub goes_out : {r : Bool} {core : List ℕ} → st.brace < n → st.quote ≡ Out → core ≡ trim l → r ≡ continues core → On r
+    pub goes_out : {r : Bool} {core : List ℕ} → st.brace < n → st.quote ≡ None → core ≡ trim l → r ≡ continues core → On r
     goes_out i f c p = rw (capped_id st.brace h, ← e, lt-ltb st.brace n i, f, ← c) p
 
   module _ {core : List ℕ} (c : core ≡ trim l) where
@@ -108,14 +105,14 @@ module _ (buf : List ℕ) (len : ℕ) (core : List ℕ) where
 
 -- ---- the state behind a line
 
-module _ (l : List ℕ) (hold : Hold) where
+module _ (l : List ℕ) (hold : Option Held) where
   pub no_close : is_in l 125 ≡ false → false ≡ is_closing l (is_held hold)
   no_close e = rw e
 
   pub has_close : {h : Bool} → is_in l 125 ≡ true → h ≡ is_held hold → not h ≡ is_closing l (is_held hold)
   has_close e p = rw (e, p)
 
-module _ (hold : Hold) (core : List ℕ) where
+module _ (hold : Option Held) (core : List ℕ) where
   pub hold_first : {first : Bool} → first ≡ true → hold_from hold core ≡ hold_from hold (spaced first core)
   hold_first e = rw e
 
@@ -133,28 +130,28 @@ capped-sum base c = go (leb c most) refl
         let t : capped c ≡ most = capped_top c (omega arith) in
         rw t (capped_top (base + most) (omega arith) ∙ sym (capped_top (base + c) (omega arith)))
 
-abbrev behind : Place → ℕ
-behind Nothing = 0
-behind (At c) = suc c
+abbrev behind : Option ℕ → ℕ
+behind None = 0
+behind (Some c) = suc c
 
 -- the place that the scanner found, as far as a number holds it
-module _ (brace base : ℕ) (p : Place) {found : Place} (e : found ≡ capped_at p) where
-  pub brace_kept : brace ≤ most → found ≡ Nothing → brace ≡ capped (brace_after brace base p)
+module _ (brace base : ℕ) (p : Option ℕ) {found : Option ℕ} (e : found ≡ capped_at p) where
+  pub brace_kept : brace ≤ most → found ≡ None → brace ≡ capped (brace_after brace base p)
   brace_kept h f = go p (sym e ∙ f)
     where
-      go : (p : Place) → capped_at p ≡ Nothing → brace ≡ capped (brace_after brace base p)
-      go Nothing q = sym (capped_id brace h)
-      go (At c) q = absurd (omega (arith, ap behind q))
+      go : (p : Option ℕ) → capped_at p ≡ None → brace ≡ capped (brace_after brace base p)
+      go None q = sym (capped_id brace h)
+      go (Some c) q = absurd (omega (arith, ap behind q))
 
-  pub brace_sum : {c : ℕ} → found ≡ At c → capped (base + c) ≡ capped (brace_after brace base p)
+  pub brace_sum : {c : ℕ} → found ≡ Some c → capped (base + c) ≡ capped (brace_after brace base p)
   brace_sum {c} f = go p (sym e ∙ f)
     where
-      go : (p : Place) → capped_at p ≡ At c → capped (base + c) ≡ capped (brace_after brace base p)
-      go Nothing q = absurd (omega (arith, ap behind q))
-      go (At d) q = let z : c ≡ capped d = omega (arith, ap behind q) in rw z (capped-sum base d)
+      go : (p : Option ℕ) → capped_at p ≡ Some c → capped (base + c) ≡ capped (brace_after brace base p)
+      go None q = absurd (omega (arith, ap behind q))
+      go (Some d) q = let z : c ≡ capped d = omega (arith, ap behind q) in rw z (capped-sum base d)
 
 module _ (len : ℕ) (st : State) (pad : ℕ) (l : List ℕ) {core : List ℕ} (c : core ≡ trim l) where
-  pub state_is : {b : ℕ} {q : Quote} {hold : Hold} → b ≡ capped (brace_after st.brace st.base (last_open_brace Out pad l)) → q ≡ open_quote_at_end core
+  pub state_is : {b : ℕ} {q : Option ℕ} {hold : Option Held} → b ≡ capped (brace_after st.brace st.base (last_open_brace None pad l)) → q ≡ open_quote_at_end core
       → hold ≡ hold_from st.hold (spaced (eqb st.len 0) core) → record { len = len; brace = b; base = 0; quote = q; hold = hold } ≡ next_state len st pad l
   state_is x y z = rw (x, y, z, c)
 

@@ -1,15 +1,10 @@
 -- "Runs of lines": what a run has when a line comes, what is asked of the line, what it adds, and what it does to the run.
-use Rattle.std.specs.Prelude.{ℕ, suc, ◌+◌, Bool, cond, ◌&&◌, ◌||◌, not, List, [], ◌∷◌, ◌++◌, eqb, ltb, length, take}
+use Rattle.std.specs.Prelude.{ℕ, suc, ◌+◌, Bool, cond, ◌&&◌, ◌||◌, not, List, [], ◌∷◌, ◌++◌, eqb, ltb, length, take, None, Option, Some}
 use Rattle.base_lists.specs.Lists.{is_in, over}
 use Rattle.text_lines.specs.Trim.{trim, is_blank_line}
 use Rattle.text_tabs.specs.Columns.{indent_from, capped}
 use Rattle.block_payloads.specs.Payloads.{continues}
 use Rattle.run_scanners.specs.Scanners.{in_quote, open_quote_at_end, last_open_brace, hold_from, is_held}
-use Rattle.run_scanners.specs.declared.Hold.{Hold}
-use Rattle.block_grammar.specs.declared.Quote.{Quote}
-use Rattle.block_grammar.specs.declared.Quote.TheVariants.{Out}
-use Rattle.block_grammar.specs.declared.Place.{Place}
-use Rattle.block_grammar.specs.declared.Place.TheVariants.{Nothing, At}
 use Rattle.base_refusals.specs.Numbers.{Paper, refused_paper, passed_paper}
 use Rattle.base_refusals.specs.Orders.{Ground}
 use Rattle.base_refusals.specs.declared.Refusal.TheVariants.{NoReading, JoinFull}
@@ -17,6 +12,7 @@ use Rattle.run_joins.specs.declared.State.{State}
 use Rattle.run_joins.specs.declared.Effect.{Effect}
 use Rattle.run_joins.specs.declared.Effect.TheVariants.{Broken, Full, Go, Closes}
 use Rattle.base_bytes.specs.Bytes.{close_brace, space}
+use Rattle.run_scanners.specs.declared.Held.{Held}
 
 -- ---- a line and a run
 
@@ -38,7 +34,7 @@ pub record So : Type 0 where
   pub lookahead : ℕ
   pub brace : ℕ
   pub base : ℕ
-  pub quote : Quote
+  pub quote : Option ℕ
 
 abbrev pub is_first : So → Bool
 is_first so = eqb so.lines 0
@@ -47,11 +43,11 @@ is_first so = eqb so.lines 0
 
 -- "Each later line must be indented beyond the last open brace's column, pass `valid_wrapped_attr_continuation`, and follow no open quote."
 -- (They compare as what a `usize` holds of them. Where that holds the pad and four columns for each byte, the true numbers compare so.)
-abbrev pub goes_on : ℕ → Quote → ℕ → List ℕ → Bool
+abbrev pub goes_on : ℕ → Option ℕ → ℕ → List ℕ → Bool
 goes_on brace quote pad l = ltb (capped brace) (capped (indent_from pad l)) && (not (in_quote quote) && continues (trim l))
 
 -- 000: a blank line refuses the run; of the first line nothing else is asked
-unfoldable pub passes : Bool → ℕ → Quote → ℕ → List ℕ → Bool
+unfoldable pub passes : Bool → ℕ → Option ℕ → ℕ → List ℕ → Bool
 passes first brace quote pad l = not (is_blank_line l) && (first || goes_on brace quote pad l)
 
 abbrev pub may_join : So → Lined → Bool
@@ -68,9 +64,9 @@ abbrev pub added : Bool → List ℕ → List ℕ
 added first l = spaced first (trim l)
 
 -- "`attrs_block_len_at` adds its column to the first line's brace column, without wrapping."
-abbrev pub brace_after : ℕ → ℕ → Place → ℕ
-brace_after brace base Nothing = brace
-brace_after brace base (At c) = base + c
+abbrev pub brace_after : ℕ → ℕ → Option ℕ → ℕ
+brace_after brace base None = brace
+brace_after brace base (Some c) = base + c
 
 -- the run behind a line that is joined
 abbrev pub after : So → Lined → So
@@ -81,7 +77,7 @@ after so l =
       -- "the sum of the untrimmed lengths of the lines joined"
       lookahead = so.lookahead + l.size;
       -- outside quotes: 000 starts in the quote left open, but refuses a line behind one
-      brace = brace_after so.brace so.base (last_open_brace Out l.pad l.line);
+      brace = brace_after so.brace so.base (last_open_brace None l.pad l.line);
       base = 0;
       quote = open_quote_at_end (trim l.line);
     }
@@ -120,11 +116,11 @@ run_in buf st =
     }
 
 -- the state of a run, where its scan for an open block stands at `hold`
-abbrev pub state_of : So → Hold → State
+abbrev pub state_of : So → Option Held → State
 state_of so hold = record { len = length so.text; brace = capped so.brace; base = so.base; quote = so.quote; hold = hold }
 
 -- the state's scan goes on over what the line adds
-abbrev pub hold_after : List ℕ → State → List ℕ → Hold
+abbrev pub hold_after : List ℕ → State → List ℕ → Option Held
 hold_after buf st l = hold_from st.hold (added (is_first (run_in buf st)) l)
 
 -- a line that is joined to the run of a state

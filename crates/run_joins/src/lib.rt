@@ -1,18 +1,16 @@
 // One line joined behind those that a run has already, in lent memory.
 #![tactic(auto)]
 
-ghost use Rattle.std.specs.Prelude.{◌≡◌, ◌+◌, ◌≤◌, eqb, ltb, length};
+ghost use Rattle.std.specs.Prelude.{◌≡◌, ◌+◌, ◌≤◌, eqb, ltb, length, None};
 ghost use Rattle.std.proofs.lemmas.List.Edits.{sets};
 ghost use Rattle.base_refusals.specs.Orders.{on_paper};
 ghost use Rattle.text_lines.specs.Trim.{trim};
 ghost use Rattle.text_tabs.specs.Columns.{indent_from, capped};
 ghost use Rattle.run_scanners.specs.Scanners.{hold_from, is_held, last_open_brace};
-ghost use Rattle.block_grammar.specs.declared.Quote.TheVariants.{Out};
 ghost use Rattle.run_joins.specs.Joins.{goes_on, passes, spaced, brace_after, is_closing, join_step, join_after, effect_paper, join_order, join_values};
 ghost use Rattle.run_joins.specs.Inner.{next_state};
 
-use block_grammar::{Place, Quote};
-use run_scanners::Hold;
+use run_scanners::Held;
 
 // What a run has when the next line comes: the length of the joined text, the column of the last open brace, what is added to the
 // first line's brace column, the quote that is left open, and the scan of the joined text for an open block.
@@ -21,8 +19,8 @@ pub struct State {
     pub len: usize,
     pub brace: usize,
     pub base: usize,
-    pub quote: Quote,
-    pub hold: Hold,
+    pub quote: Option<u8>,
+    pub hold: Option<Held>,
 }
 
 // What a line does to a run: it refuses it, doesn't fit, is joined, or closes it.
@@ -39,13 +37,11 @@ fn indent_from(c: usize, s: &[u8]) -> usize
     ensures { result ≡ capped (indent_from c s.now) }
 {
     let mut column = c;
-    let mut i = 0;
-    while i < s.len() {
-        if !base_bytes::is_indent(s[i]) {
+    for b in s {
+        if !base_bytes::is_indent(*b) {
             return column;
         }
-        column = text_tabs::column_after(column, s[i]);
-        i += 1;
+        column = text_tabs::column_after(column, *b);
     }
     column
 }
@@ -60,8 +56,8 @@ fn goes_on(st: State, pad: usize, line: &[u8], core: &[u8]) -> bool
     }
     let quote = st.quote;
     match quote {
-        Quote::Out => block_payloads::continues_run(core),
-        Quote::In(_) => false,
+        None => block_payloads::continues_run(core),
+        Some(_) => false,
     }
 }
 
@@ -108,7 +104,7 @@ fn put_line(join: &mut [u8], len: usize, core: &[u8]) -> usize
 }
 
 // The scan for an open block goes on over the trimmed bytes and the space before them.
-fn hold_line(hold: Hold, first: bool, core: &[u8]) -> Hold
+fn hold_line(hold: Option<Held>, first: bool, core: &[u8]) -> Option<Held>
     ensures { result ≡ hold_from hold (spaced first core.now) }
 {
     if first {
@@ -121,11 +117,11 @@ fn hold_line(hold: Hold, first: bool, core: &[u8]) -> Hold
 
 // The column of the last open brace behind a line.
 fn brace_after(brace: usize, base: usize, pad: usize, line: &[u8]) -> usize
-    ensures { result ≡ capped (brace_after brace base (last_open_brace Out pad line.now)) }
+    ensures { result ≡ capped (brace_after brace base (last_open_brace None pad line.now)) }
 {
-    match run_scanners::last_open_brace_column(line, Quote::Out, pad) {
-        Place::Nothing => brace,
-        Place::At(c) => {
+    match run_scanners::last_open_brace_column(line, None, pad) {
+        None => brace,
+        Some(c) => {
             if text_tabs::MOST - base < c {
                 return text_tabs::MOST;
             }
@@ -135,7 +131,7 @@ fn brace_after(brace: usize, base: usize, pad: usize, line: &[u8]) -> usize
 }
 
 // Whether a line ends the run, where its scan stands at `hold`.
-fn is_last(line: &[u8], hold: Hold) -> bool
+fn is_last(line: &[u8], hold: Option<Held>) -> bool
     ensures { result ≡ is_closing line.now (is_held hold) }
 {
     if !run_scanners::contains_close(line) {

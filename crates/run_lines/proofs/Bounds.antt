@@ -1,5 +1,6 @@
 -- What a run counts and how long its text grows.
 -- Assumes nothing.
+use Rattle.std.specs.Prelude.{Err, Ok, Option, Result}
 use mathlib.Core.Path.{◌≡◌, refl, sym, ◌∙◌, ap}
 use mathlib.Core.Bool.{Bool, true, false, cond, not, ◌&&◌}
 use mathlib.Core.List.{List, [], ◌∷◌, map}
@@ -21,20 +22,18 @@ use Rattle.text_tabs.specs.Columns.{indent_from, capped, most}
 use Rattle.text_tabs.proofs.Laws.{capped_id, capped_le, capped_top, indent_front, columns_le}
 use Rattle.block_payloads.specs.Payloads.{continues}
 use Rattle.run_scanners.specs.Scanners.{in_quote, holds_open}
-use Rattle.block_grammar.specs.declared.Quote.{Quote}
 use Rattle.base_refusals.specs.Numbers.{number_of, outcome_no}
 use Rattle.base_refusals.specs.declared.Refusal.TheVariants.{NoReading, JoinFull}
-use Rattle.base_refusals.specs.declared.Outcome.{Outcome}
-use Rattle.base_refusals.specs.declared.Outcome.TheVariants.{Passed, Refused}
 use Rattle.run_lines.specs.Runs.{as_is, start, Run, ended, run_from, run_of, run_at, sizes}
 use Rattle.run_joins.specs.Joins.{Lined, So, is_first, goes_on, may_join, spaced, after}
+use Rattle.base_refusals.specs.declared.Refusal.{Refusal}
 
 -- ---- induction along a run: it ends, or a line doesn't fit, or a line is joined and it goes on or ends behind that one
 
 module _ (cap : ℕ) (P : So → List Lined → Run → Type 0)
-    (stops : (so : So) (ls : List Lined) → P so ls (ended (Refused NoReading) so))
-    (full : (so : So) (l : Lined) (ls : List Lined) → cap < length (after so l).text → P so (l ∷ ls) (ended (Refused JoinFull) so))
-    (closes : (so : So) (ls : List Lined) → P so ls (ended Passed so))
+    (stops : (so : So) (ls : List Lined) → P so ls (ended (Err NoReading) so))
+    (full : (so : So) (l : Lined) (ls : List Lined) → cap < length (after so l).text → P so (l ∷ ls) (ended (Err JoinFull) so))
+    (closes : (so : So) (ls : List Lined) → P so ls (ended (Ok tt) so))
     (joins : (so : So) (l : Lined) (ls : List Lined) (R : Run) → may_join so l ≡ true → length (after so l).text ≤ cap → P (after so l) ls R → P so (l ∷ ls) R) where
   pub run_by_lem : (so : So) (ls : List Lined) → P so ls (run_from cap so ls)
   unfolding run_from
@@ -42,7 +41,7 @@ module _ (cap : ℕ) (P : So → List Lined → Run → Type 0)
   run_by_lem so (l ∷ ls) = go (may_join so l) (ltb cap (length (after so l).text)) (is_in l.line 125 && not (holds_open (after so l).text)) refl refl (run_by_lem (after so l) ls)
     where
       go : (x y z : Bool) → may_join so l ≡ x → ltb cap (length (after so l).text) ≡ y → P (after so l) ls (run_from cap (after so l) ls)
-          → P so (l ∷ ls) (cond x (cond y (ended (Refused JoinFull) so) (cond z (ended Passed (after so l)) (run_from cap (after so l) ls))) (ended (Refused NoReading) so))
+          → P so (l ∷ ls) (cond x (cond y (ended (Err JoinFull) so) (cond z (ended (Ok tt) (after so l)) (run_from cap (after so l) ls))) (ended (Err NoReading) so))
       go false y z p q ih = stops so (l ∷ ls)
       go true true z p q ih = full so l ls (ltb-true cap _ q)
       go true false true p q ih = joins so l ls _ p (ltb-false cap _ q) (closes (after so l) ls)
@@ -57,14 +56,14 @@ pub record Took (so : So) (ls : List Lined) (R : Run) : Type 0 where
   pub counted : R.lines ≡ so.lines + n
   pub ahead : R.lookahead ≡ so.lookahead + sizes (take n ls)
 
-none : (x : Outcome) (so : So) (ls : List Lined) → Took so ls (ended x so)
+none : (x : Result (Unit {0}) Refusal) (so : So) (ls : List Lined) → Took so ls (ended x so)
 unfolding sizes
 none x so ls = record { n = 0; within = omega arith; counted = sym (add-zero so.lines); ahead = sym (add-zero so.lookahead) }
 
 pub took : (cap : ℕ) (so : So) (ls : List Lined) → Took so ls (run_from cap so ls)
 unfolding sizes
 took cap =
-    run_by_lem cap Took (none (Refused NoReading)) (λ so l ls h. none (Refused JoinFull) so (l ∷ ls)) (none Passed)
+    run_by_lem cap Took (none (Err NoReading)) (λ so l ls h. none (Err JoinFull) so (l ∷ ls)) (none (Ok tt))
     (λ so l ls R p h w. record { n = suc w.n; within = omega (arith, w.within); counted = omega (arith, w.counted); ahead = omega (arith, w.ahead) })
 
 module _ (cap base : ℕ) (ls : List Lined) where
@@ -185,7 +184,7 @@ never_full cap base t at h = roomy cap (start base) (map as_is (lines (drop at t
 
 -- ---- columns are true numbers, where a number counts the line four times over, and a brace past all numbers is passed by no line
 
-pub goes_true : (brace : ℕ) (q : Quote) (pad : ℕ) (l : List ℕ) → pad + 4 * length l ≤ most
+pub goes_true : (brace : ℕ) (q : Option ℕ) (pad : ℕ) (l : List ℕ) → pad + 4 * length l ≤ most
     → goes_on brace q pad l ≡ (ltb brace (indent_from pad l) && (not (in_quote q) && continues (trim l)))
 goes_true brace q pad l h = rw (capped_id (indent_from pad l) low) (ap (λ x. x && (not (in_quote q) && continues (trim l))) (go (leb brace most) refl))
   where
@@ -198,5 +197,5 @@ goes_true brace q pad l h = rw (capped_id (indent_from pad l) low) (ap (λ x. x 
         let k = leb-false brace most e in
         rw (capped_top brace (omega arith)) (le-ltb most (indent_from pad l) low ∙ sym (le-ltb brace (indent_from pad l) (omega (arith, low))))
 
-pub far_refuses : (brace : ℕ) (q : Quote) (pad : ℕ) (l : List ℕ) → most ≤ brace → goes_on brace q pad l ≡ false
+pub far_refuses : (brace : ℕ) (q : Option ℕ) (pad : ℕ) (l : List ℕ) → most ≤ brace → goes_on brace q pad l ≡ false
 far_refuses brace q pad l h = rw (capped_top brace h, le-ltb most (capped (indent_from pad l)) (capped_le (indent_from pad l)))

@@ -1,5 +1,6 @@
 -- The loop of `join_run`: the state that code keeps shows the definition's, and the lent memory holds the joined text.
 -- Assumes nothing.
+use Rattle.std.specs.Prelude.{Err, None, Ok, Option, Result, Some}
 use mathlib.Core.Path.{◌≡◌, refl, sym, ◌∙◌, ap}
 use mathlib.Core.Bool.{Bool, true, false, cond}
 use mathlib.Core.List.{List, [], ◌∷◌, ◌++◌, map}
@@ -19,16 +20,10 @@ use Rattle.text_lines.proofs.Lines.{lines_end, line_at_lem, to_from, to_next, ne
 use Rattle.text_tabs.specs.Columns.{capped}
 use Rattle.text_tabs.proofs.Laws.{capped_id}
 use Rattle.run_scanners.specs.Scanners.{last_open_brace, hold_from, hold_start, is_held, holds_open}
-use Rattle.run_scanners.specs.declared.Hold.{Hold}
 use Rattle.run_scanners.proofs.Laws.{hold_append, capped_twice}
-use Rattle.block_grammar.specs.declared.Quote.TheVariants.{Out}
-use Rattle.block_grammar.specs.declared.Place.{Place}
-use Rattle.block_grammar.specs.declared.Place.TheVariants.{Nothing, At}
 use Rattle.base_refusals.specs.Numbers.{outcome_no}
 use Rattle.base_refusals.specs.Orders.{Ground, order_no}
 use Rattle.base_refusals.specs.declared.Refusal.TheVariants.{NoReading, JoinFull}
-use Rattle.base_refusals.specs.declared.Outcome.{Outcome}
-use Rattle.base_refusals.specs.declared.Outcome.TheVariants.{Passed, Refused}
 use Rattle.run_joins.specs.declared.State.{State}
 use Rattle.run_joins.specs.declared.Effect.{Effect}
 use Rattle.run_joins.specs.declared.Effect.TheVariants.{Broken, Full, Go, Closes}
@@ -36,6 +31,8 @@ use Rattle.run_lines.specs.declared.Joined.{Joined}
 use Rattle.run_lines.specs.Runs.{as_is, start, Run, ended, run_from, run_at, order_from, run_order, past_lines, joined_of}
 use Rattle.run_joins.specs.Joins.{Lined, at_pad, So, is_first, passes, may_join, added, brace_after, after, is_closing, run_in, state_of, hold_after, join_step, join_after}
 use Rattle.run_joins.proofs.Steps.{adds_some, first_of, laid, laid_is}
+use Rattle.base_refusals.specs.declared.Refusal.{Refusal}
+use Rattle.run_scanners.specs.declared.Held.{Held}
 
 -- ---- one line, by code and by definition
 
@@ -48,13 +45,13 @@ pub record Shows (so : So) (st : State) : Type 0 where
   pub quote : st.quote ≡ so.quote
   pub hold : st.hold ≡ hold_from hold_start so.text
 
-pub shows_start : (base : ℕ) {h : Hold} → h ≡ hold_start → Shows (start base) (record { len = 0; brace = 0; base = base; quote = Out; hold = h })
+pub shows_start : (base : ℕ) {h : Option Held} → h ≡ hold_start → Shows (start base) (record { len = 0; brace = 0; base = base; quote = None; hold = h })
 unfolding hold_from
 shows_start base e = record { len = refl; first = refl; brace = sym (capped_id 0 (omega arith)); base = refl; quote = refl; hold = e }
 
-capped_brace : (b base : ℕ) (p : Place) → capped (brace_after (capped b) base p) ≡ capped (brace_after b base p)
-capped_brace b base Nothing = capped_twice b
-capped_brace b base (At c) = refl
+capped_brace : (b base : ℕ) (p : Option ℕ) → capped (brace_after (capped b) base p) ≡ capped (brace_after b base p)
+capped_brace b base None = capped_twice b
+capped_brace b base (Some c) = refl
 
 -- what a step does to a state that shows the run `so`, whose text stands at the front of `buf`
 module _ {so : So} {st : State} (buf : List ℕ) (s : Shows so st) (t : take st.len buf ≡ so.text) (l : Lined) where
@@ -89,7 +86,7 @@ module _ {so : So} {st : State} (buf : List ℕ) (s : Shows so st) (t : take st.
         len = ap length shows_text;
         first = ne_eqb (length behind.text) 0 (λ z. absurd (omega (arith, z, ap length shows_text, adds_some so l.pad l.line (is_first so) p, length-append so.text (added (is_first so) l.line))))
             ∙ sym (ne_eqb (suc so.lines) 0 (λ z. absurd (omega arith)));
-        brace = rw (s.brace, s.base) (capped_brace so.brace so.base (last_open_brace Out l.pad l.line));
+        brace = rw (s.brace, s.base) (capped_brace so.brace so.base (last_open_brace None l.pad l.line));
         base = refl;
         quote = refl;
         hold = shows_hold;
@@ -112,9 +109,9 @@ module _ (cap : ℕ) (so : So) (l : Lined) (ls : List Lined) where
 
   -- what the definition says where code takes a step
   abbrev pub Meets : Effect → Type 0
-  Meets Broken = run_from cap so (l ∷ ls) ≡ ended (Refused NoReading) so
-  Meets Full = run_from cap so (l ∷ ls) ≡ ended (Refused JoinFull) so
-  Meets (Closes v) = (run_from cap so (l ∷ ls) ≡ ended Passed (after so l)) × Joined-by v
+  Meets Broken = run_from cap so (l ∷ ls) ≡ ended (Err NoReading) so
+  Meets Full = run_from cap so (l ∷ ls) ≡ ended (Err JoinFull) so
+  Meets (Closes v) = (run_from cap so (l ∷ ls) ≡ ended (Ok tt) (after so l)) × Joined-by v
   Meets (Go v) = (run_from cap so (l ∷ ls) ≡ run_from cap (after so l) ls) × Joined-by v
 
 pub meets : {so : So} {st : State} (buf : List ℕ) → Shows so st → take st.len buf ≡ so.text → (l : Lined) (ls : List Lined)
@@ -137,7 +134,7 @@ stop_no cap so [] = refl
 stop_no cap so (l ∷ ls) = go (may_join so l) (ltb cap (length (after so l).text)) (is_closing l.line (holds_open (after so l).text)) (stop_no cap (after so l) ls)
   where
     go : (x y z : Bool) → outcome_no (run_from cap (after so l) ls).stop ≡ order_no (order_from cap (after so l) ls)
-        → outcome_no (cond x (cond y (ended (Refused JoinFull) so) (cond z (ended Passed (after so l)) (run_from cap (after so l) ls))) (ended (Refused NoReading) so)).stop
+        → outcome_no (cond x (cond y (ended (Err JoinFull) so) (cond z (ended (Ok tt) (after so l)) (run_from cap (after so l) ls))) (ended (Err NoReading) so)).stop
         ≡ order_no (Ground.lacking NoReading x ∷ Ground.given JoinFull y ∷ cond z [] (order_from cap (after so l) ls))
     go false y z ih = refl
     go true true z ih = refl
@@ -190,7 +187,7 @@ module _ {t : List ℕ} {at : ℕ} {buf₀ buf : List ℕ} {st : State} {count l
   has_long = rw has.content (over_long so.text buf₀ has.room)
 
   -- the run ends here
-  pub has_ended : (R : Run) (x : Outcome) {r : Joined} → ended x so ≡ R → r ≡ record { stop = x; len = st.len; lines = count; lookahead = lookahead; next = from }
+  pub has_ended : (R : Run) (x : Result (Unit {0}) Refusal) {r : Joined} → ended x so ≡ R → r ≡ record { stop = x; len = st.len; lines = count; lookahead = lookahead; next = from }
       → (r ≡ joined_of t at R) × (buf ≡ over R.text buf₀)
   has_ended R x e q = rw (← e) (q ∙ rw (has.shows.len, has.past, has.counted, has.ahead), has.content)
 
@@ -231,8 +228,8 @@ pub record Joins (t : List ℕ) (at : ℕ) (buf₀ : List ℕ) (R : Run) (buf : 
   pub has : Has t at buf₀ buf st count lookahead from so
   pub rest : run_from (length buf₀) so (map as_is (lines (drop from t))) ≡ R
 
-pub joins_start : (t : List ℕ) (at base : ℕ) (buf : List ℕ) {h : Hold} → h ≡ hold_start
-    → Joins t at buf (run_at (length buf) base t at) buf (record { len = 0; brace = 0; base = base; quote = Out; hold = h }) 0 0 at
+pub joins_start : (t : List ℕ) (at base : ℕ) (buf : List ℕ) {h : Option Held} → h ≡ hold_start
+    → Joins t at buf (run_at (length buf) base t at) buf (record { len = 0; brace = 0; base = base; quote = None; hold = h }) 0 0 at
 unfolding run_at past_lines
 joins_start t at base buf e =
     record {
@@ -242,13 +239,13 @@ joins_start t at base buf e =
     }
 
 module _ {t : List ℕ} {at : ℕ} {buf₀ : List ℕ} {R : Run} {buf : List ℕ} {st : State} {count lookahead from : ℕ} (inv : Joins t at buf₀ R buf st count lookahead from) where
-  abbrev Gives : Outcome → State → ℕ → ℕ → ℕ → Joined → Type 0
+  abbrev Gives : Result (Unit {0}) Refusal → State → ℕ → ℕ → ℕ → Joined → Type 0
   Gives x v n a k r = r ≡ record { stop = x; len = v.len; lines = n; lookahead = a; next = k }
 
   abbrev Answers : Joined → List ℕ → Type 0
   Answers r b = (r ≡ joined_of t at R) × (b ≡ over R.text buf₀)
 
-  pub joins_end : length t ≤ from → {r : Joined} → Gives (Refused NoReading) st count lookahead from r → Answers r buf
+  pub joins_end : length t ≤ from → {r : Joined} → Gives (Err NoReading) st count lookahead from r → Answers r buf
   unfolding run_from
   joins_end h = has_ended inv.has R _ (rw (lines_end t from h) at inv.rest)
 
@@ -278,17 +275,17 @@ module _ {t : List ℕ} {at : ℕ} {buf₀ : List ℕ} {R : Run} {buf : List ℕ
       whole : run_from (length buf₀) inv.so (as_is here ∷ map as_is (lines (drop r.next t))) ≡ R
       whole = rw (line_first inv.has h e) at inv.rest
 
-      pub joins_broken : step ≡ Broken → {g : Joined} → Gives (Refused NoReading) st count lookahead from g → Answers g buf'
+      pub joins_broken : step ≡ Broken → {g : Joined} → Gives (Err NoReading) st count lookahead from g → Answers g buf'
       joins_broken q g = rw (rw q at left) (has_ended inv.has R _ (sym (rw q at met) ∙ whole) g)
 
-      pub joins_full : step ≡ Full → {g : Joined} → Gives (Refused JoinFull) st count lookahead from g → Answers g buf'
+      pub joins_full : step ≡ Full → {g : Joined} → Gives (Err JoinFull) st count lookahead from g → Answers g buf'
       joins_full q g = rw (rw q at left) (has_ended inv.has R _ (sym (rw q at met) ∙ whole) g)
 
       next : {v : State} → Joined-by (length buf₀) inv.so (as_is here) [] v → buf' ≡ over (after inv.so (as_is here)).text buf₀
           → Has t at buf₀ buf' v (count + 1) (lookahead + (r.to - from)) r.next (after inv.so (as_is here))
       next = has_next inv.has h e
 
-      pub joins_closed : {v : State} → step ≡ Closes v → {g : Joined} → Gives Passed v (count + 1) (lookahead + (r.to - from)) r.next g → Answers g buf'
+      pub joins_closed : {v : State} → step ≡ Closes v → {g : Joined} → Gives (Ok tt) v (count + 1) (lookahead + (r.to - from)) r.next g → Answers g buf'
       joins_closed q g = has_ended (next (rw q at met).1 (rw q at left)) R _ (sym (rw q at met).0 ∙ whole) g
 
       pub joins_go : {v : State} → step ≡ Go v → Joins t at buf₀ R buf' v (count + 1) (lookahead + (r.to - from)) r.next

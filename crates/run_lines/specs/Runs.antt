@@ -1,14 +1,12 @@
 -- "Runs of lines": "trimmed lines joined by one space", up to the line that closes the run or refuses it.
-use Rattle.std.specs.Prelude.{ℕ, zero, suc, ◌+◌, true, cond, List, [], ◌∷◌, ◌++◌, map, length, drop}
+use Rattle.std.specs.Prelude.{ℕ, zero, suc, ◌+◌, true, cond, List, [], ◌∷◌, ◌++◌, map, length, drop, Err, None, Ok, Result}
 use Rattle.text_lines.specs.Lines.{lines, line_from}
 use Rattle.run_scanners.specs.Scanners.{holds_open}
-use Rattle.block_grammar.specs.declared.Quote.TheVariants.{Out}
 use Rattle.base_refusals.specs.Orders.{Ground}
 use Rattle.base_refusals.specs.declared.Refusal.TheVariants.{NoReading, JoinFull}
-use Rattle.base_refusals.specs.declared.Outcome.{Outcome}
-use Rattle.base_refusals.specs.declared.Outcome.TheVariants.{Passed, Refused}
 use Rattle.run_joins.specs.Joins.{Lined, at_pad, So, after, is_closing, by_line, by_line_order}
 use Rattle.run_lines.specs.declared.Joined.{Joined}
+use Rattle.base_refusals.specs.declared.Refusal.{Refusal}
 
 -- ---- a run
 
@@ -18,22 +16,22 @@ as_is l = at_pad 0 l
 
 -- before its first line
 abbrev pub start : ℕ → So
-start base = record { text = []; lines = 0; lookahead = 0; brace = 0; base = base; quote = Out }
+start base = record { text = []; lines = 0; lookahead = 0; brace = 0; base = base; quote = None }
 
 pub record Run : Type 0 where
-  pub stop : Outcome
+  pub stop : Result (Unit {0}) Refusal
   pub text : List ℕ
   pub lines : ℕ
   pub lookahead : ℕ
 
-abbrev pub ended : Outcome → So → Run
+abbrev pub ended : Result (Unit {0}) Refusal → So → Run
 ended x so = record { stop = x; text = so.text; lines = so.lines; lookahead = so.lookahead }
 
 -- the run over the lines to come, with a join buffer of `cap` bytes: the line that doesn't fit is not joined, and not counted
 unfoldable pub run_from : ℕ → So → List Lined → Run
-run_from cap so [] = ended (Refused NoReading) so
+run_from cap so [] = ended (Err NoReading) so
 run_from cap so (l ∷ ls) =
-    by_line cap so l (holds_open (after so l).text) (ended (Refused NoReading) so) (ended (Refused JoinFull) so) (ended Passed) (λ s. run_from cap s ls)
+    by_line cap so l (holds_open (after so l).text) (ended (Err NoReading) so) (ended (Err JoinFull) so) (ended (Ok tt)) (λ s. run_from cap s ls)
 
 abbrev pub run_of : ℕ → ℕ → List Lined → Run
 run_of cap base ls = run_from cap (start base) ls

@@ -1,21 +1,19 @@
 // The lines of a wrapped run, joined into lent memory.
 #![tactic(auto)]
 
-ghost use Rattle.std.specs.Prelude.{◌≡◌, length};
+ghost use Rattle.std.specs.Prelude.{◌≡◌, length, Err, Ok};
 ghost use Rattle.base_lists.specs.Lists.{over};
 ghost use Rattle.base_refusals.specs.Numbers.{outcome_no};
 ghost use Rattle.base_refusals.specs.Orders.{order_no};
-ghost use Rattle.base_refusals.specs.declared.Outcome.TheVariants.{Passed, Refused};
 ghost use Rattle.run_lines.specs.Runs.{run_at, run_order, joined_of};
 
-use base_refusals::{Outcome, Refusal};
-use block_grammar::Quote;
+use base_refusals::Refusal;
 use run_joins::{Effect, State};
 
 // How many bytes and lines are joined, of how many untrimmed bytes, and where the line behind them begins.
 #[derive(Clone, Copy)]
 pub struct Joined {
-    pub stop: Outcome,
+    pub stop: Result<(), Refusal>,
     pub len: usize,
     pub lines: usize,
     pub lookahead: usize,
@@ -23,10 +21,10 @@ pub struct Joined {
 }
 
 fn closed(len: usize, lines: usize, lookahead: usize, next: usize) -> Joined
-    ensures { result ≡ record { stop = Passed; len = len; lines = lines; lookahead = lookahead; next = next } }
+    ensures { result ≡ record { stop = Ok tt; len = len; lines = lines; lookahead = lookahead; next = next } }
 {
     Joined {
-        stop: Outcome::Passed,
+        stop: Ok(()),
         len,
         lines,
         lookahead,
@@ -35,10 +33,10 @@ fn closed(len: usize, lines: usize, lookahead: usize, next: usize) -> Joined
 }
 
 fn refused(no: Refusal, len: usize, lines: usize, lookahead: usize, next: usize) -> Joined
-    ensures { result ≡ record { stop = Refused no; len = len; lines = lines; lookahead = lookahead; next = next } }
+    ensures { result ≡ record { stop = Err no; len = len; lines = lines; lookahead = lookahead; next = next } }
 {
     Joined {
-        stop: Outcome::Refused(no),
+        stop: Err(no),
         len,
         lines,
         lookahead,
@@ -56,7 +54,7 @@ pub fn join_run(text: &[u8], at: usize, base: usize, join: &mut [u8]) -> Joined
         len: 0,
         brace: 0,
         base,
-        quote: Quote::Out,
+        quote: None,
         hold: run_scanners::hold_start(),
     };
     let mut count = 0;

@@ -1,5 +1,6 @@
 -- What a run is told to be, from the first walk and the run over padded lines.
 -- Assumes nothing.
+use Rattle.std.specs.Prelude.{Err, None, Ok, Option, Result, Some}
 use mathlib.Core.Path.{◌≡◌, refl, sym, ◌∙◌, ap}
 use mathlib.Core.Bool.{Bool, true, false, cond, ◌&&◌}
 use mathlib.Core.List.{List}
@@ -13,25 +14,21 @@ use Rattle.block_payloads.specs.Payloads.{opens}
 use Rattle.base_lists.specs.Lists.{over, begins_pair}
 use Rattle.base_lists.proofs.More.{contra}
 use Rattle.text_utf8.specs.Computed.{is_utf8}
-use Rattle.base_refusals.specs.Numbers.{max_text}
+use Rattle.base_refusals.specs.Numbers.{max_text, passed}
 use Rattle.base_refusals.specs.declared.Refusal.{Refusal}
 use Rattle.base_refusals.specs.declared.Refusal.TheVariants.{TextTooLong, NotUtf8}
 use Rattle.text_checks.specs.Check.{check_of}
-use Rattle.base_refusals.specs.declared.Outcome as outcomes
-use Rattle.base_refusals.specs.declared.Outcome.TheVariants as outcome
 use Rattle.text_lines.specs.Trim.{trim_start}
 use Rattle.text_lines.specs.Lines.{lines, line_from, line_of}
 use Rattle.text_lines.specs.declared.LineEnd.{LineEnd}
 use Rattle.text_lines.specs.declared.Range.{Range}
-use Rattle.text_lines.specs.declared.Line as places
-use Rattle.text_lines.specs.declared.Line.TheVariants as place
 use Rattle.text_lines.proofs.Lines.{lines_end, line_found}
 use Rattle.text_tabs.specs.Columns.{indent_columns, capped}
 use Rattle.text_tabs.proofs.Laws.{indent_le, indent_whole}
 use Rattle.block_chain.specs.Chain.{good_line}
 use Rattle.run_lines.specs.Runs.{Run, run_of}
 use Rattle.run_refused.specs.declared.RunReply.{RunReply}
-use Rattle.run_refused.specs.declared.RunReply.TheVariants.{No, Refused}
+use Rattle.run_refused.specs.declared.RunReply.TheVariants.{No}
 use Rattle.run_refused.specs.declared.RefusedRun.{RefusedRun}
 use Rattle.run_refused.specs.declared.Ran.{Ran}
 use Rattle.run_refused.specs.declared.RefusedWalk.{RefusedWalk}
@@ -49,12 +46,12 @@ good_over xs buf = rw (take_at xs (drop (length xs) buf) (length xs) refl, take-
 abbrev pub Tells : RunTold → List ℕ → RefusedRun → List ℕ → Type 0
 Tells T buf g buf' = (g ≡ handed_out T) × (buf' ≡ over T.text buf)
 
-pub block_told : (P : Run) (count : ℕ) (buf : List ℕ) {r : Ran} {buf' : List ℕ} {a : RunReply} → (r ≡ ran_of P) × (buf' ≡ over P.text buf)
+pub block_told : (P : Run) (count : ℕ) (buf : List ℕ) {r : Ran} {buf' : List ℕ} {a : Result RunReply Refusal} → (r ≡ ran_of P) × (buf' ≡ over P.text buf)
     → a ≡ run_answer r.stop (eqb r.lines count && good_line buf' 0 r.len) count
     → Tells (judged count P) buf (record { answer = a; lookahead = r.lookahead; joined = r.len }) buf'
 block_told P count buf w q = (rw (q, w.1, w.0, good_over P.text buf), w.1)
 
-pub unjoined_told : (T : RunTold) (buf : List ℕ) {a : RunReply} {g : RefusedRun} → T ≡ unjoined a → g ≡ handed_out (unjoined a) → Tells T buf g buf
+pub unjoined_told : (T : RunTold) (buf : List ℕ) {a : Result RunReply Refusal} {g : RefusedRun} → T ≡ unjoined a → g ≡ handed_out (unjoined a) → Tells T buf g buf
 unjoined_told T buf q e = rw q (e, refl)
 
 -- ---- what the first walk shows
@@ -72,12 +69,12 @@ shallow_of (walks.No n) = false
 shallow_of (walks.Block n s) = s
 
 module _ (cap : ℕ) where
-  shown_no : (f : Stretch) {n : ℕ} → walks.No n ≡ shown_walk f → found_in cap f ≡ unjoined (No n)
+  shown_no : (f : Stretch) {n : ℕ} → walks.No n ≡ shown_walk f → found_in cap f ≡ unjoined (Ok (No n))
   unfolding found_in
-  shown_no Stretch.none e = ap (λ w. unjoined (No (count_of w))) (sym e)
+  shown_no Stretch.none e = ap (λ w. unjoined (Ok (No (count_of w)))) (sym e)
   shown_no (Stretch.block s ls) e = contra (is_no (shown_walk (Stretch.block s ls))) (sym (ap is_no e)) refl
 
-  shown_deep : (f : Stretch) {n : ℕ} → walks.Block n false ≡ shown_walk f → found_in cap f ≡ unjoined (No 0)
+  shown_deep : (f : Stretch) {n : ℕ} → walks.Block n false ≡ shown_walk f → found_in cap f ≡ unjoined (Ok (No 0))
   unfolding found_in
   shown_deep Stretch.none e = refl
   shown_deep (Stretch.block s ls) e = rw (sym (ap shallow_of e))
@@ -96,7 +93,7 @@ module _ (cap : ℕ) (t : List ℕ) (at : ℕ) (h : at < length t) {l : LineEnd}
   abbrev pub told_at : RunTold
   told_at = refused_of cap (lines (drop at t))
 
-  pub told_none : false ≡ opens here → told_at ≡ unjoined (No 0)
+  pub told_none : false ≡ opens here → told_at ≡ unjoined (Ok (No 0))
   unfolding refused_of
   told_none q = rw (line_first t at h e, ← q)
 
@@ -107,7 +104,7 @@ module _ (cap : ℕ) (t : List ℕ) (at : ℕ) (h : at < length t) {l : LineEnd}
     pub opener_low : c ≤ max_column
     opener_low = omega (arith, column, indent_le here, line_long t at h e, line_in t at h e)
 
-    pub told_comment : true ≡ begins_pair 123 37 (trim_start here) → {a : RunReply} → a ≡ comment_from c 0 false (lines (drop at t)) → told_at ≡ unjoined a
+    pub told_comment : true ≡ begins_pair 123 37 (trim_start here) → {a : Result RunReply Refusal} → a ≡ comment_from c 0 false (lines (drop at t)) → told_at ≡ unjoined a
     unfolding refused_of
     told_comment k z = rw (z, column, line_first t at h e, ← q, ← k)
 
@@ -116,10 +113,10 @@ module _ (cap : ℕ) (t : List ℕ) (at : ℕ) (h : at < length t) {l : LineEnd}
       unfolding refused_of walk_at
       told_walk = rw (column, line_first t at h e, ← q, ← k)
 
-      pub told_no : {n : ℕ} → walks.No n ≡ shown_walk (walk_at c t at) → told_at ≡ unjoined (No n)
+      pub told_no : {n : ℕ} → walks.No n ≡ shown_walk (walk_at c t at) → told_at ≡ unjoined (Ok (No n))
       told_no z = told_walk ∙ shown_no cap (walk_at c t at) z
 
-      pub told_deep : {n : ℕ} {s : Bool} → s ≡ false → walks.Block n s ≡ shown_walk (walk_at c t at) → told_at ≡ unjoined (No 0)
+      pub told_deep : {n : ℕ} {s : Bool} → s ≡ false → walks.Block n s ≡ shown_walk (walk_at c t at) → told_at ≡ unjoined (Ok (No 0))
       told_deep x z = told_walk ∙ shown_deep cap (walk_at c t at) (rw x at z)
 
       pub told_block : {n : ℕ} {s : Bool} → s ≡ true → walks.Block n s ≡ shown_walk (walk_at c t at) → (is_stretch (walk_at c t at) ≡ true) × (told_at ≡ judged n (padded_run cap c t at))
@@ -129,7 +126,7 @@ module _ (cap : ℕ) (t : List ℕ) (at : ℕ) (h : at < length t) {l : LineEnd}
 -- ---- the entry by a place
 
 module _ (cap : ℕ) (t : List ℕ) (at : ℕ) where
-  pub at_long : max_text < length t → refused_at cap t at ≡ unjoined (Refused TextTooLong)
+  pub at_long : max_text < length t → refused_at cap t at ≡ unjoined (Err TextTooLong)
   unfolding refused_at
   at_long h = rw (lt-ltb max_text (length t) h)
 
@@ -137,31 +134,31 @@ module _ (cap : ℕ) (t : List ℕ) (at : ℕ) where
   unfolding refused_at
   at_short h = rw (le-ltb max_text (length t) h)
 
-  pub at_end : length t ≤ max_text → length t ≤ at → refused_at cap t at ≡ unjoined (No 0)
+  pub at_end : length t ≤ max_text → length t ≤ at → refused_at cap t at ≡ unjoined (Ok (No 0))
   unfolding refused_of
   at_end h k = at_short h ∙ rw (lines_end t at k)
 
 -- ---- the entry by line number
 
-pub passes_short : (t : List ℕ) {c : outcomes.Outcome} → c ≡ check_of t → c ≡ outcome.Passed → length t ≤ max_text
+pub passes_short : (t : List ℕ) {c : Result (Unit {0}) Refusal} → c ≡ check_of t → c ≡ Ok tt → length t ≤ max_text
 unfolding check_of
 passes_short t e q = go (ltb max_text (length t)) refl (sym q ∙ e)
   where
-    go : (x : Bool) → ltb max_text (length t) ≡ x → outcome.Passed ≡ cond x (outcome.Refused TextTooLong) (cond (is_utf8 t) outcome.Passed (outcome.Refused NotUtf8)) → length t ≤ max_text
+    go : (x : Bool) → ltb max_text (length t) ≡ x → passed ≡ cond x (Err TextTooLong) (cond (is_utf8 t) (Ok tt) (Err NotUtf8)) → length t ≤ max_text
     go true p z = let y : ◌≡◌ {A = ℕ} 0 1 = cc in absurd (omega arith)
     go false p z = ltb-false max_text (length t) p
 
-module _ (cap : ℕ) (t : List ℕ) (n : ℕ) {c : outcomes.Outcome} (e : c ≡ check_of t) where
-  pub run_refused : {r : Refusal} → c ≡ outcome.Refused r → refused_run cap t n ≡ unjoined (Refused r)
+module _ (cap : ℕ) (t : List ℕ) (n : ℕ) {c : Result (Unit {0}) Refusal} (e : c ≡ check_of t) where
+  pub run_refused : {r : Refusal} → c ≡ Err r → refused_run cap t n ≡ unjoined (Err r)
   unfolding refused_run
   run_refused q = rw (sym e ∙ q)
 
-  module _ (q : c ≡ outcome.Passed) {p : places.Line} (w : p ≡ line_of n t) where
-    pub run_missing : p ≡ place.Missing → refused_run cap t n ≡ unjoined (No 0)
+  module _ (q : c ≡ Ok tt) {p : Option Range} (w : p ≡ line_of n t) where
+    pub run_missing : p ≡ None → refused_run cap t n ≡ unjoined (Ok (No 0))
     unfolding refused_run
     run_missing z = rw (sym e ∙ q, sym w ∙ z)
 
-    module _ {r : Range} (z : p ≡ place.At r) where
+    module _ {r : Range} (z : p ≡ Some r) where
       pub run_at : refused_run cap t n ≡ refused_of cap (lines (drop r.from t))
       unfolding refused_run
       run_at = rw (sym e ∙ q, sym w ∙ z)

@@ -1,5 +1,6 @@
 -- How far a refused run looks ahead, and how long its joined text grows.
 -- Assumes nothing.
+use Rattle.std.specs.Prelude.{Ok}
 use mathlib.Core.Path.{◌≡◌, refl}
 use mathlib.Core.Bool.{Bool, true, false, cond}
 use mathlib.Core.List.{List, [], ◌∷◌, ◌++◌, map, append-nil}
@@ -124,7 +125,7 @@ module _ (cap : ℕ) (l : List ℕ) (ls : List (List ℕ)) (P : RunTold → Type
   unfolding refused_of
   told_by = go (opens l) (begins_pair 123 37 (trim_start l))
     where
-      go : (x y : Bool) → P (cond x (cond y (unjoined (comment_from (indent_columns l) 0 false (l ∷ ls))) (found_in cap (walk_from (indent_columns l) (on_first (indent_columns l)) (l ∷ ls)))) (unjoined (No 0)))
+      go : (x y : Bool) → P (cond x (cond y (unjoined (comment_from (indent_columns l) 0 false (l ∷ ls))) (found_in cap (walk_from (indent_columns l) (on_first (indent_columns l)) (l ∷ ls)))) (unjoined (Ok (No 0))))
       go false y = none _
       go true true = none _
       go true false = found

@@ -1,5 +1,6 @@
 -- The loop over a comment.
 -- Assumes nothing.
+use Rattle.std.specs.Prelude.{Ok, Result}
 use mathlib.Core.Path.{◌≡◌, ◌∙◌}
 use mathlib.Core.Bool.{Bool, true, false}
 use mathlib.Core.List.{List}
@@ -20,19 +21,20 @@ use Rattle.run_refused.specs.declared.RunReply.TheVariants.{NoEnd}
 use Rattle.run_spots.specs.Spots.{shallow_or, closes_comment}
 use Rattle.run_refused.specs.Refused.{comment_by, comment_from}
 use Rattle.run_refused.proofs.Walking.{line, line_in, line_first, line_long}
+use Rattle.base_refusals.specs.declared.Refusal.{Refusal}
 
 -- before the line that begins at `at`, behind n lines
-pub record Comments (t : List ℕ) (r : RunReply) (opener n at : ℕ) (sh : Bool) : Type 0 where
+pub record Comments (t : List ℕ) (r : Result RunReply Refusal) (opener n at : ℕ) (sh : Bool) : Type 0 where
   pub few : n ≤ at
   pub rest : comment_from opener n sh (lines (drop at t)) ≡ r
 
-module _ {t : List ℕ} {r : RunReply} {opener n at : ℕ} {sh : Bool} (inv : Comments t r opener n at sh) where
-  pub comment_end : length t ≤ at → NoEnd ≡ r
+module _ {t : List ℕ} {r : Result RunReply Refusal} {opener n at : ℕ} {sh : Bool} (inv : Comments t r opener n at sh) where
+  pub comment_end : length t ≤ at → Ok NoEnd ≡ r
   unfolding comment_from
   comment_end h = rw (lines_end t at h) at inv.rest
 
   module _ (h : at < length t) {l : LineEnd} (e : l ≡ line_from t at) where
-    pub comment_blank : true ≡ is_blank_line (line t at h e) → NoEnd ≡ r
+    pub comment_blank : true ≡ is_blank_line (line t at h e) → Ok NoEnd ≡ r
     unfolding comment_from
     comment_blank q = rw (line_first t at h e, ← q) at inv.rest
 
@@ -41,7 +43,7 @@ module _ {t : List ℕ} {r : RunReply} {opener n at : ℕ} {sh : Bool} (inv : Co
       column : c ≡ indent_columns (line t at h e)
       column = w ∙ indent_whole (line t at h e) (omega (arith, line_long t at h e, line_in t at h e))
 
-      pub comment_closes : true ≡ closes_comment (line t at h e) → {a : RunReply} → a ≡ comment_by sh' (n + 1) → a ≡ r
+      pub comment_closes : true ≡ closes_comment (line t at h e) → {a : Result RunReply Refusal} → a ≡ comment_by sh' (n + 1) → a ≡ r
       unfolding comment_from
       comment_closes k z = z ∙ rw (x, column, add-one n) (rw (line_first t at h e, ← q, ← k) at inv.rest)
 

@@ -1,5 +1,6 @@
 -- The second walk: the run over the padded lines of a block.
 -- Assumes nothing.
+use Rattle.std.specs.Prelude.{Err, None, Ok, Result}
 use mathlib.Core.Path.{◌≡◌, refl, sym, ◌∙◌, ap}
 use mathlib.Core.Bool.{Bool, true, false, cond}
 use mathlib.Core.List.{List, [], ◌∷◌}
@@ -22,10 +23,7 @@ use Rattle.text_lines.specs.declared.LineEnd.{LineEnd}
 use Rattle.text_lines.proofs.Lines.{lines_end}
 use Rattle.text_tabs.proofs.Laws.{indent_le, capped_id}
 use Rattle.run_scanners.specs.Scanners.{hold_from, hold_start}
-use Rattle.block_grammar.specs.declared.Quote.TheVariants.{Out}
 use Rattle.base_refusals.specs.declared.Refusal.TheVariants.{NoReading, JoinFull}
-use Rattle.base_refusals.specs.declared.Outcome.{Outcome}
-use Rattle.base_refusals.specs.declared.Outcome.TheVariants.{Passed, Refused}
 use Rattle.run_joins.specs.declared.State.{State}
 use Rattle.run_joins.specs.declared.Effect.{Effect}
 use Rattle.run_joins.specs.declared.Effect.TheVariants.{Broken, Full, Go, Closes}
@@ -40,6 +38,7 @@ use Rattle.run_refused.specs.Refused.{Stretch, onto_stretch, walk_line, On, halt
 use Rattle.run_refused.specs.Inner.{spots_from, walk_at, is_stretch, lines_taken, padded_run, ran_of, max_column}
 use Rattle.run_refused.proofs.Leaves.{spot_column}
 use Rattle.run_refused.proofs.Walking.{line, line_in, line_first, line_long, line_rest, rest_in, later, on}
+use Rattle.base_refusals.specs.declared.Refusal.{Refusal}
 
 -- ---- a block has no stray brace
 
@@ -112,7 +111,7 @@ pub record Pads (t : List ℕ) (opener : ℕ) (buf₀ : List ℕ) (R : Run) (buf
   pub block : is_stretch (walk_from opener (on n sh br) (lines (drop at t))) ≡ true
   pub rest : run_from (length buf₀) so (lines_taken (walk_from opener (on n sh br) (lines (drop at t)))) ≡ R
 
-pub pads_start : (t : List ℕ) (at opener : ℕ) (buf : List ℕ) {st : State} → st ≡ record { len = 0; brace = 0; base = 0; quote = Out; hold = hold_start } → opener ≤ max_column → is_stretch (walk_at opener t at) ≡ true
+pub pads_start : (t : List ℕ) (at opener : ℕ) (buf : List ℕ) {st : State} → st ≡ record { len = 0; brace = 0; base = 0; quote = None; hold = hold_start } → opener ≤ max_column → is_stretch (walk_at opener t at) ≡ true
     → Pads t opener buf (padded_run (length buf) opener t at) buf st 0 0 at opener
 unfolding padded_run walk_at hold_from
 pads_start t at opener buf e k b =
@@ -200,19 +199,19 @@ module _ {t : List ℕ} {opener : ℕ} {buf₀ : List ℕ} {R : Run} {buf : List
               go (Go v) m = over_long (after inv.so lined).text buf₀ m.1.1
               go (Closes v) m = over_long (after inv.so lined).text buf₀ m.1.1
 
-          abbrev Gives : Outcome → State → ℕ → ℕ → Ran → Type 0
+          abbrev Gives : Result (Unit {0}) Refusal → State → ℕ → ℕ → Ran → Type 0
           Gives x v k a r = r ≡ record { stop = x; len = v.len; lines = k; lookahead = a }
 
           abbrev Answers : Ran → Type 0
           Answers r = (r ≡ ran_of R) × (buf' ≡ over R.text buf₀)
 
-          stopped : (x : Outcome) → run_from (length buf₀) inv.so (lined ∷ lines_taken next_found) ≡ ended x inv.so → buf' ≡ buf → {g : Ran} → Gives x st n lookahead g → Answers g
+          stopped : (x : Result (Unit {0}) Refusal) → run_from (length buf₀) inv.so (lined ∷ lines_taken next_found) ≡ ended x inv.so → buf' ≡ buf → {g : Ran} → Gives x st n lookahead g → Answers g
           stopped x m q g = rw (sym whole ∙ m) (g ∙ rw (inv.shows.len, inv.counted, inv.ahead), q ∙ inv.content)
 
-          pub pads_broken : step ≡ Broken → {g : Ran} → Gives (Refused NoReading) st n lookahead g → Answers g
+          pub pads_broken : step ≡ Broken → {g : Ran} → Gives (Err NoReading) st n lookahead g → Answers g
           pads_broken q = stopped _ (rw q at met) (rw q at left)
 
-          pub pads_full : step ≡ Full → {g : Ran} → Gives (Refused JoinFull) st n lookahead g → Answers g
+          pub pads_full : step ≡ Full → {g : Ran} → Gives (Err JoinFull) st n lookahead g → Answers g
           pads_full q = stopped _ (rw q at met) (rw q at left)
 
           module _ {v : State} (j : Shows (after inv.so lined) v × (length (after inv.so lined).text ≤ length buf₀))
@@ -223,10 +222,10 @@ module _ {t : List ℕ} {opener : ℕ} {buf₀ : List ℕ} {R : Run} {buf : List
             count_next : n + 1 ≡ (after inv.so lined).lines
             count_next = rw (add-one n) (ap suc inv.counted)
 
-            joined : (x : Outcome) → run_from (length buf₀) inv.so (lined ∷ lines_taken next_found) ≡ ended x (after inv.so lined) → {g : Ran} → Gives x v (n + 1) (lookahead + (l.to - at)) g → Answers g
+            joined : (x : Result (Unit {0}) Refusal) → run_from (length buf₀) inv.so (lined ∷ lines_taken next_found) ≡ ended x (after inv.so lined) → {g : Ran} → Gives x v (n + 1) (lookahead + (l.to - at)) g → Answers g
             joined x m g = rw (sym whole ∙ m) (g ∙ rw (j.0.len, count_next, ahead_next), holds)
 
-          pub pads_closed : {v : State} → step ≡ Closes v → {g : Ran} → Gives Passed v (n + 1) (lookahead + (l.to - at)) g → Answers g
+          pub pads_closed : {v : State} → step ≡ Closes v → {g : Ran} → Gives (Ok tt) v (n + 1) (lookahead + (l.to - at)) g → Answers g
           pads_closed q = joined (rw q at met).1 (rw q at left) _ (rw q at met).0
 
           module _ {v : State} (q : step ≡ Go v) {z : Spot} (o : z ≡ spots_from p (take (l.to - i) (drop i t))) where
@@ -237,7 +236,7 @@ module _ {t : List ℕ} {opener : ℕ} {buf₀ : List ℕ} {R : Run} {buf : List
             goes = sym (rw q at met).0 ∙ whole
 
             -- no line is left
-            pub pads_last : z.inside ≡ false → {g : Ran} → Gives (Refused NoReading) v (n + 1) (lookahead + (l.to - at)) g → Answers g
+            pub pads_last : z.inside ≡ false → {g : Ran} → Gives (Err NoReading) v (n + 1) (lookahead + (l.to - at)) g → Answers g
             unfolding run_from
             pads_last u = joined (rw q at met).1 (rw q at left) _ ((rw q at met).0 ∙ rw (sym (ap (λ y. y.inside) spot_is) ∙ u))
 

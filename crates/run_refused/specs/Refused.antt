@@ -1,16 +1,12 @@
 -- "`refused_brace_run` answers Lines, No with a count, or No to the end": a run is refused if its only fault is a line too far left.
-use Rattle.std.specs.Prelude.{ℕ, suc, ◌-◌, max, Bool, true, false, cond, ◌&&◌, ◌||◌, not, List, [], ◌∷◌, ◌++◌, eqb, ltb, length, drop}
+use Rattle.std.specs.Prelude.{ℕ, suc, ◌-◌, max, Bool, true, false, cond, ◌&&◌, ◌||◌, not, List, [], ◌∷◌, ◌++◌, eqb, ltb, length, drop, Err, None, Ok, Option, Result, Some}
 use Rattle.block_payloads.specs.Payloads.{opens}
 use Rattle.text_checks.specs.Check.{text_order, check_of}
-use Rattle.base_refusals.specs.declared.Outcome as outcomes
-use Rattle.base_refusals.specs.declared.Outcome.TheVariants as outcome
 use Rattle.base_refusals.specs.Numbers.{too_long, number_of, outcome_no, Paper, refused_paper, passed_paper}
 use Rattle.base_refusals.specs.Orders.{Ground}
 use Rattle.base_refusals.specs.declared.Refusal.TheVariants.{TextTooLong, JoinFull}
 use Rattle.text_lines.specs.Trim.{trim_start, is_blank_line}
 use Rattle.text_lines.specs.Lines.{lines, line_of}
-use Rattle.text_lines.specs.declared.Line as places
-use Rattle.text_lines.specs.declared.Line.TheVariants as place
 use Rattle.text_tabs.specs.Columns.{indent_columns, most}
 use Rattle.block_grammar.specs.Close.{fresh}
 use Rattle.block_chain.specs.Chain.{good_line}
@@ -19,17 +15,19 @@ use Rattle.run_lines.specs.Runs.{Run, run_of}
 use Rattle.run_spots.specs.declared.Spot.{Spot}
 use Rattle.run_spots.specs.Spots.{is_stray, spot_after, shallow_or, closes_comment, opens_comment}
 use Rattle.run_refused.specs.declared.RunReply.{RunReply}
-use Rattle.run_refused.specs.declared.RunReply.TheVariants.{No, Lines, NoEnd, Refused}
+use Rattle.run_refused.specs.declared.RunReply.TheVariants.{No, Lines, NoEnd}
 use Rattle.run_refused.specs.declared.RefusedRun.{RefusedRun}
+use Rattle.base_refusals.specs.declared.Refusal.{Refusal}
+use Rattle.text_lines.specs.declared.Range.{Range}
 
 -- ---- this paper's number and values
 
 -- "gives its own answers, or 1, 2, 9": "Lines, No with a count, or No to the end (`usize::MAX` in 000)" are 1, 0 and 2, with the count
-abbrev pub reply_paper : RunReply → Paper
-reply_paper (Lines n) = passed_paper (1 ∷ n ∷ [])
-reply_paper (No n) = passed_paper (0 ∷ n ∷ [])
-reply_paper NoEnd = passed_paper (2 ∷ most ∷ [])
-reply_paper (Refused r) = refused_paper r
+abbrev pub reply_paper : Result RunReply Refusal → Paper
+reply_paper (Ok (Lines n)) = passed_paper (1 ∷ n ∷ [])
+reply_paper (Ok (No n)) = passed_paper (0 ∷ n ∷ [])
+reply_paper (Ok NoEnd) = passed_paper (2 ∷ most ∷ [])
+reply_paper (Err r) = refused_paper r
 
 -- ---- the walk over lines
 
@@ -90,17 +88,17 @@ on_first opener = record { first = true; shallow = false; brace = opener }
 
 -- with the lookahead and the joined text
 pub record RunTold : Type 0 where
-  pub answer : RunReply
+  pub answer : Result RunReply Refusal
   pub lookahead : ℕ
   pub text : List ℕ
 
-abbrev pub unjoined : RunReply → RunTold
+abbrev pub unjoined : Result RunReply Refusal → RunTold
 unjoined a = record { answer = a; lookahead = 0; text = [] }
 
 -- the padded lines, so many, must be a good run that takes them all; of "1, 2, 9" only 9 can arise here, where a line doesn't fit the join buffer
-abbrev pub run_answer : outcomes.Outcome → Bool → ℕ → RunReply
-run_answer outcome.Passed good count = cond good (Lines count) (No 0)
-run_answer (outcome.Refused r) good count = cond (eqb (number_of r) (number_of JoinFull)) (Refused r) (No 0)
+abbrev pub run_answer : Result (Unit {0}) Refusal → Bool → ℕ → Result RunReply Refusal
+run_answer (Ok _) good count = cond good (Ok (Lines count)) (Ok (No 0))
+run_answer (Err r) good count = cond (eqb (number_of r) (number_of JoinFull)) (Err r) (Ok (No 0))
 
 abbrev pub judged : ℕ → Run → RunTold
 judged count r =
@@ -112,42 +110,42 @@ judged count r =
 
 -- a run with no line too far left isn't refused, and nothing of it is joined
 unfoldable pub found_in : ℕ → Stretch → RunTold
-found_in cap Stretch.none = unjoined (No 0)
-found_in cap (Stretch.block shallow ls) = cond shallow (judged (length ls) (run_of cap 0 ls)) (unjoined (No 0))
+found_in cap Stretch.none = unjoined (Ok (No 0))
+found_in cap (Stretch.block shallow ls) = cond shallow (judged (length ls) (run_of cap 0 ls)) (unjoined (Ok (No 0)))
 
 -- ---- comments (000): `{%` up to the first line with `%}`, or to a blank line or the text's end, which both answer No to the end
 
-abbrev pub comment_by : Bool → ℕ → RunReply
-comment_by shallow n = cond shallow (Lines n) (No n)
+abbrev pub comment_by : Bool → ℕ → Result RunReply Refusal
+comment_by shallow n = cond shallow (Ok (Lines n)) (Ok (No n))
 
 -- behind n lines
-unfoldable pub comment_from : ℕ → ℕ → Bool → List (List ℕ) → RunReply
-comment_from opener n shallow [] = NoEnd
+unfoldable pub comment_from : ℕ → ℕ → Bool → List (List ℕ) → Result RunReply Refusal
+comment_from opener n shallow [] = Ok NoEnd
 comment_from opener n shallow (l ∷ ls) =
-    cond (is_blank_line l) NoEnd
+    cond (is_blank_line l) (Ok NoEnd)
     (cond (closes_comment l) (comment_by (shallow_or shallow (eqb n 0) (indent_columns l) opener) (suc n))
     (comment_from opener (suc n) (shallow_or shallow (eqb n 0) (indent_columns l) opener) ls))
 
 -- ---- the run from the first of lines on
 
 unfoldable pub refused_of : ℕ → List (List ℕ) → RunTold
-refused_of cap [] = unjoined (No 0)
+refused_of cap [] = unjoined (Ok (No 0))
 refused_of cap (l ∷ ls) =
     cond (opens l)
     (cond (opens_comment l) (unjoined (comment_from (indent_columns l) 0 false (l ∷ ls)))
     (found_in cap (walk_from (indent_columns l) (on_first (indent_columns l)) (l ∷ ls))))
-    (unjoined (No 0))
+    (unjoined (Ok (No 0)))
 
 -- by the place at which the first line begins; "text above 65,535 bytes" is refused, and where the text ends no line begins
 unfoldable pub refused_at : ℕ → List ℕ → ℕ → RunTold
-refused_at cap t at = cond (too_long t) (unjoined (Refused TextTooLong)) (refused_of cap (lines (drop at t)))
+refused_at cap t at = cond (too_long t) (unjoined (Err TextTooLong)) (refused_of cap (lines (drop at t)))
 
 -- ---- the entry by line number: "a missing line is No(0)"
 
-abbrev pub refused_by : ℕ → List ℕ → outcomes.Outcome → places.Line → RunTold
-refused_by cap t (outcome.Refused r) l = unjoined (Refused r)
-refused_by cap t outcome.Passed place.Missing = unjoined (No 0)
-refused_by cap t outcome.Passed (place.At r) = refused_of cap (lines (drop r.from t))
+abbrev pub refused_by : ℕ → List ℕ → Result (Unit {0}) Refusal → Option Range → RunTold
+refused_by cap t (Err r) l = unjoined (Err r)
+refused_by cap t (Ok _) None = unjoined (Ok (No 0))
+refused_by cap t (Ok _) (Some r) = refused_of cap (lines (drop r.from t))
 
 unfoldable pub refused_run : ℕ → List ℕ → ℕ → RunTold
 refused_run cap t n = refused_by cap t (check_of t) (line_of n t)
@@ -175,9 +173,9 @@ lines_order cap (l ∷ ls) =
 abbrev pub place_order : ℕ → List ℕ → ℕ → List Ground
 place_order cap t at = Ground.given TextTooLong (too_long t) ∷ lines_order cap (lines (drop at t))
 
-abbrev pub from_line : ℕ → List ℕ → places.Line → List Ground
-from_line cap t place.Missing = []
-from_line cap t (place.At r) = lines_order cap (lines (drop r.from t))
+abbrev pub from_line : ℕ → List ℕ → Option Range → List Ground
+from_line cap t None = []
+from_line cap t (Some r) = lines_order cap (lines (drop r.from t))
 
 abbrev pub refused_order : ℕ → List ℕ → ℕ → List Ground
 refused_order cap t n = text_order t ++ from_line cap t (line_of n t)

@@ -1,25 +1,22 @@
 // Brace runs and comment runs that are refused only for a line too far left.
 #![tactic(auto)]
 
-ghost use Rattle.std.specs.Prelude.{◌≡◌, true, false, ◌&&◌, ◌+◌, ◌-◌, ◌*◌, ◌<◌, ◌≤◌, max, eqb, length, drop};
+ghost use Rattle.std.specs.Prelude.{◌≡◌, true, false, ◌&&◌, ◌+◌, ◌-◌, ◌*◌, ◌<◌, ◌≤◌, max, eqb, length, drop, Err, None, Ok};
 ghost use Rattle.base_lists.specs.Lists.{over};
 ghost use Rattle.base_refusals.specs.Numbers.{max_text};
 ghost use Rattle.base_refusals.specs.Orders.{on_paper};
 ghost use Rattle.text_lines.specs.Lines.{lines};
 ghost use Rattle.block_chain.specs.Chain.{good_line};
-ghost use Rattle.base_refusals.specs.declared.Outcome.TheVariants.{Passed, Refused};
 ghost use Rattle.run_scanners.specs.Scanners.{hold_start};
-ghost use Rattle.block_grammar.specs.declared.Quote.TheVariants.{Out};
 ghost use Rattle.run_spots.specs.Spots.{spot_after};
 ghost use Rattle.run_refused.specs.Refused.{reply_paper, halts, pad_of, entered_at, comment_by, comment_from, run_answer, unjoined, judged, refused_of, refused_at, refused_run, handed_out, place_order, refused_order};
 ghost use Rattle.run_refused.specs.declared.RefusedWalk.TheVariants.{No};
 ghost use Rattle.run_refused.specs.Inner.{spots_from, walk_at, shown_walk, is_stretch, padded_run, ran_of, far_column, max_column};
 
-use base_refusals::{Outcome, Refusal};
-use block_grammar::{Quote, Scan};
+use base_refusals::Refusal;
+use block_grammar::Scan;
 use run_joins::{Effect, State};
 use run_spots::Spot;
-use text_lines::Line;
 
 // What is said of a run: it is refused and takes so many lines; it isn't, and a comment run was looked at over so many lines, or to the
 // end; or a refusal.
@@ -28,13 +25,12 @@ pub enum RunReply {
     No(usize),
     Lines(usize),
     NoEnd,
-    Refused(Refusal),
 }
 
 // The answer, with the lookahead and how many bytes are joined.
 #[derive(Clone, Copy)]
 pub struct RefusedRun {
-    pub answer: RunReply,
+    pub answer: Result<RunReply, Refusal>,
     pub lookahead: usize,
     pub joined: usize,
 }
@@ -49,7 +45,7 @@ enum RefusedWalk {
 // How the run over padded lines ends, and what it joined.
 #[derive(Clone, Copy)]
 struct Ran {
-    stop: Outcome,
+    stop: Result<(), Refusal>,
     len: usize,
     lines: usize,
     lookahead: usize,
@@ -75,10 +71,8 @@ fn pass_over(s: &[u8], p: Spot) -> Spot
     ensures { result ≡ spots_from p s.now }
 {
     let mut spot = p;
-    let mut i = 0;
-    while i < s.len() {
-        spot = spot_after(spot, s[i]);
-        i += 1;
+    for b in s {
+        spot = spot_after(spot, *b);
     }
     spot
 }
@@ -136,7 +130,7 @@ fn spot_at(n: usize, brace: usize, line: &[u8]) -> Spot
 {
     Spot {
         scan: Scan {
-            quote: Quote::Out,
+            quote: None,
             escaped: false,
         },
         column: text_tabs::indent_columns(line),
@@ -161,6 +155,7 @@ fn walk_run(text: &[u8], start: usize, opener: usize) -> RefusedWalk
     let mut at = start;
     let mut brace = opener;
     let mut shallow = false;
+    // A loop: a step is a whole line, as long as that line is.
     'lines: loop {
         if text.len() <= at {
             break 'lines no_block();
@@ -172,13 +167,12 @@ fn walk_run(text: &[u8], start: usize, opener: usize) -> RefusedWalk
         }
         let mut spot = spot_at(n, brace, &text[at..to]);
         shallow = run_spots::shallow_or(shallow, n, spot.column, brace);
-        let mut i = at + text_lines::trim_ascii_start(&text[at..to]);
-        while i < to {
+        let from = at + text_lines::trim_ascii_start(&text[at..to]);
+        for i in from..to {
             if run_spots::is_stray(spot, text[i]) {
                 break 'lines RefusedWalk::No(0);
             }
             spot = spot_after(spot, text[i]);
-            i += 1;
         }
         n += 1;
         if !spot.inside {
@@ -190,31 +184,32 @@ fn walk_run(text: &[u8], start: usize, opener: usize) -> RefusedWalk
 }
 
 // What is said of a comment that closes in line n.
-fn comment_answer(shallow: bool, n: usize) -> RunReply
+fn comment_answer(shallow: bool, n: usize) -> Result<RunReply, Refusal>
     ensures { result ≡ comment_by shallow n }
 {
     if shallow {
-        return RunReply::Lines(n);
+        return Ok(RunReply::Lines(n));
     }
-    RunReply::No(n)
+    Ok(RunReply::No(n))
 }
 
 // The walk over a comment, up to the line with its close.
-fn comment_run(text: &[u8], start: usize, opener: usize) -> RunReply
+fn comment_run(text: &[u8], start: usize, opener: usize) -> Result<RunReply, Refusal>
     requires { length text.now ≤ max_text }
     ensures { result ≡ comment_from opener 0 false (lines (drop start text.now)) }
 {
     let mut n = 0;
     let mut at = start;
     let mut shallow = false;
+    // A loop: a step is a whole line, as long as that line is.
     'lines: loop {
         if text.len() <= at {
-            break 'lines RunReply::NoEnd;
+            break 'lines Ok(RunReply::NoEnd);
         }
         let l = text_lines::line_from(text, at);
         let to = l.to;
         if text_lines::is_blank_line(&text[at..to]) {
-            break 'lines RunReply::NoEnd;
+            break 'lines Ok(RunReply::NoEnd);
         }
         let column = text_tabs::indent_columns(&text[at..to]);
         shallow = run_spots::shallow_or(shallow, n, column, opener);
@@ -228,10 +223,10 @@ fn comment_run(text: &[u8], start: usize, opener: usize) -> RunReply
 
 // The run is closed.
 fn closed_run(len: usize, lines: usize, lookahead: usize) -> Ran
-    ensures { result ≡ record { stop = Passed; len = len; lines = lines; lookahead = lookahead } }
+    ensures { result ≡ record { stop = Ok tt; len = len; lines = lines; lookahead = lookahead } }
 {
     Ran {
-        stop: Outcome::Passed,
+        stop: Ok(()),
         len,
         lines,
         lookahead,
@@ -240,10 +235,10 @@ fn closed_run(len: usize, lines: usize, lookahead: usize) -> Ran
 
 // The run is refused.
 fn stopped(no: Refusal, len: usize, lines: usize, lookahead: usize) -> Ran
-    ensures { result ≡ record { stop = Refused no; len = len; lines = lines; lookahead = lookahead } }
+    ensures { result ≡ record { stop = Err no; len = len; lines = lines; lookahead = lookahead } }
 {
     Ran {
-        stop: Outcome::Refused(no),
+        stop: Err(no),
         len,
         lines,
         lookahead,
@@ -252,13 +247,13 @@ fn stopped(no: Refusal, len: usize, lines: usize, lookahead: usize) -> Ran
 
 // Before the first line of a run.
 fn run_start() -> State
-    ensures { result ≡ record { len = 0; brace = 0; base = 0; quote = Out; hold = hold_start } }
+    ensures { result ≡ record { len = 0; brace = 0; base = 0; quote = None; hold = hold_start } }
 {
     State {
         len: 0,
         brace: 0,
         base: 0,
-        quote: Quote::Out,
+        quote: None,
         hold: run_scanners::hold_start(),
     }
 }
@@ -274,6 +269,7 @@ fn join_padded(text: &[u8], start: usize, opener: usize, join: &mut [u8]) -> Ran
     let mut lookahead = 0;
     let mut at = start;
     let mut brace = opener;
+    // A loop: a step is a whole line, as long as that line is.
     'lines: loop {
         let l = text_lines::line_from(text, at);
         let to = l.to;
@@ -301,31 +297,31 @@ fn join_padded(text: &[u8], start: usize, opener: usize, join: &mut [u8]) -> Ran
 }
 
 // What the run over the padded lines, so many, says of it.
-fn answer_of(r: Ran, count: usize, join: &[u8]) -> RunReply
+fn answer_of(r: Ran, count: usize, join: &[u8]) -> Result<RunReply, Refusal>
     ensures { result ≡ run_answer r.stop (eqb r.lines count && good_line join.now 0 r.len) count }
 {
     let stop = r.stop;
     match stop {
-        Outcome::Passed => {
+        Ok(()) => {
             if r.lines != count {
-                return RunReply::No(0);
+                return Ok(RunReply::No(0));
             }
             if block_chain::good_line(join, 0, r.len) {
-                return RunReply::Lines(count);
+                return Ok(RunReply::Lines(count));
             }
-            RunReply::No(0)
+            Ok(RunReply::No(0))
         }
-        Outcome::Refused(x) => {
-            if base_refusals::number(x) == base_refusals::number(Refusal::JoinFull) {
-                return RunReply::Refused(x);
+        Err(x) => {
+            if x == Refusal::JoinFull {
+                return Err(x);
             }
-            RunReply::No(0)
+            Ok(RunReply::No(0))
         }
     }
 }
 
 // Nothing is joined.
-fn unjoined_run(answer: RunReply) -> RefusedRun
+fn unjoined_run(answer: Result<RunReply, Refusal>) -> RefusedRun
     ensures { result ≡ handed_out (unjoined answer) }
 {
     RefusedRun {
@@ -358,19 +354,19 @@ fn refused_at(text: &[u8], at: usize, join: &mut [u8]) -> RefusedRun
     let l = text_lines::line_from(text, at);
     let to = l.to;
     if !run_spots::opens_brace(&text[at..to]) {
-        return unjoined_run(RunReply::No(0));
+        return unjoined_run(Ok(RunReply::No(0)));
     }
     let opener = text_tabs::indent_columns(&text[at..to]);
     if run_spots::opens_comment(&text[at..to]) {
         return unjoined_run(comment_run(text, at, opener));
     }
     match walk_run(text, at, opener) {
-        RefusedWalk::No(n) => unjoined_run(RunReply::No(n)),
+        RefusedWalk::No(n) => unjoined_run(Ok(RunReply::No(n))),
         RefusedWalk::Block(count, shallow) => {
             if shallow {
                 return refused_block(text, at, opener, count, join);
             }
-            unjoined_run(RunReply::No(0))
+            unjoined_run(Ok(RunReply::No(0)))
         }
     }
 }
@@ -382,10 +378,10 @@ pub fn refused_run_at(text: &[u8], at: usize, join: &mut [u8]) -> RefusedRun
     ensures answer_value { reply_paper result.answer ≡ on_paper (place_order (length join.old) text.now at) (reply_paper (refused_at (length join.old) text.now at).answer).values }
 {
     if base_refusals::MAX_TEXT < text.len() {
-        return unjoined_run(RunReply::Refused(Refusal::TextTooLong));
+        return unjoined_run(Err(Refusal::TextTooLong));
     }
     if text.len() <= at {
-        return unjoined_run(RunReply::No(0));
+        return unjoined_run(Ok(RunReply::No(0)));
     }
     refused_at(text, at, join)
 }
@@ -397,10 +393,10 @@ pub fn refused_brace_run(text: &[u8], line: usize, join: &mut [u8]) -> RefusedRu
     ensures answer_value { reply_paper result.answer ≡ on_paper (refused_order (length join.old) text.now line) (reply_paper (refused_run (length join.old) text.now line).answer).values }
 {
     match text_checks::check_text(text) {
-        Outcome::Refused(r) => unjoined_run(RunReply::Refused(r)),
-        Outcome::Passed => match text_lines::line_of(text, line) {
-            Line::Missing => unjoined_run(RunReply::No(0)),
-            Line::At(r) => refused_at(text, r.from, join),
+        Err(r) => unjoined_run(Err(r)),
+        Ok(()) => match text_lines::line_of(text, line) {
+            None => unjoined_run(Ok(RunReply::No(0))),
+            Some(r) => refused_at(text, r.from, join),
         },
     }
 }

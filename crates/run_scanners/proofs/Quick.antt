@@ -1,24 +1,22 @@
 -- Where a scan can be told without going byte by byte: no quote is there, or no open brace.
 -- Assumes nothing.
-use mathlib.Core.Path.{◌≡◌, refl, sym, ◌∙◌, ap, subst}
+use mathlib.Core.Path.{◌≡◌, refl, sym, ◌∙◌, ap}
 use mathlib.Core.Bool.{Bool, true, false, cond, not, ◌&&◌, ◌||◌}
 use mathlib.Core.List.{List, [], ◌∷◌, ◌++◌}
 use Prim.Native.Nat.{ℕ, suc, ◌+◌, ◌-◌, ◌<◌, ◌≤◌}
 use native.Mathlib.Numerals.{add-one}
 use native.Mathlib.Omega.{arith}
 use lib.Dec.{eqb}
-use lib.ListN.{length, get_or, take, drop, drop_of_length-le}
-use lib.Seq.{drop-cons, drop-length, split_at}
+use lib.ListN.{length, get_or, take, drop, length-drop, drop_of_length-le}
+use lib.Seq.{drop-cons, get_or-drop, split_at}
+use borrow.Author.Tests.{ne_eqb}
+use Rattle.std.proofs.Common.{Option, None, Some, MatchOption, ◌≢◌}
 use Rattle.base_lists.specs.Lists.{all, is_in}
 use Rattle.base_lists.proofs.More.{contra, eqb_sym}
 use Rattle.base_bytes.specs.Bytes.{is_quote, open_brace}
 use Rattle.text_tabs.specs.Columns.{columns_from}
 use Rattle.block_grammar.specs.Close.{fresh, turned}
-use Rattle.block_grammar.specs.declared.Quote.{Quote}
-use Rattle.block_grammar.specs.declared.Quote.TheVariants.{Out, In}
 use Rattle.block_grammar.specs.declared.Scan.{Scan}
-use Rattle.block_grammar.specs.declared.Place.{Place}
-use Rattle.block_grammar.specs.declared.Place.TheVariants.{Nothing, At}
 use Rattle.run_scanners.specs.declared.Seek.{Seek}
 use Rattle.run_scanners.specs.Scanners.{honoured, in_quote, passed, scan_from, open_quote_at_end, is_bare, seek_step, seek_from, seek_start, last_open_brace}
 use Rattle.run_scanners.specs.Inner.{LastBrace}
@@ -61,21 +59,21 @@ module _ {s : List ℕ} {i : ℕ} {met : Bool} (inv : Meets s i met) where
       go false = refl
 
 -- ---- without a quote none is left open
-out_step : (st : Scan) (b : ℕ) → st.quote ≡ Out → is_quote b ≡ false → (passed honoured st b).quote ≡ Out
+out_step : (st : Scan) (b : ℕ) → st.quote ≡ None → is_quote b ≡ false → (passed honoured st b).quote ≡ None
 unfolding passed turned
 out_step st b e q = rw (e, q) (go st.escaped (eqb b 92))
   where
-    go : (x y : Bool) → (cond {A = Scan} x (record { quote = Out; escaped = false }) (cond y (record { quote = Out; escaped = true }) (record { quote = Out; escaped = false }))).quote ≡ Out
+    go : (x y : Bool) → (cond {A = Scan} x (record { quote = None; escaped = false }) (cond y (record { quote = None; escaped = true }) (record { quote = None; escaped = false }))).quote ≡ None
     go true y = refl
     go false true = refl
     go false false = refl
 
-stays : (st : Scan) (s : List ℕ) → st.quote ≡ Out → all no_quote s ≡ true → (scan_from honoured st s).quote ≡ Out
+stays : (st : Scan) (s : List ℕ) → st.quote ≡ None → all no_quote s ≡ true → (scan_from honoured st s).quote ≡ None
 unfolding scan_from all
 stays st [] e h = e
 stays st (b ∷ s) e h = let z = both (no_quote b) _ h in stays (passed honoured st b) s (out_step st b e (no _ z.0)) z.1
 
-pub none_open : (s : List ℕ) → all no_quote s ≡ true → Out ≡ open_quote_at_end s
+pub none_open : (s : List ℕ) → all no_quote s ≡ true → None ≡ open_quote_at_end s
 unfolding open_quote_at_end
 none_open s h = sym (stays fresh s refl h)
 
@@ -116,57 +114,50 @@ calm k (b ∷ s) e h =
     let r = calm (seek_step k b) s (calm_scan k b e (no _ z.0)) z.1 in
     (r.0, r.1 ∙ ap (λ c. columns_from c s) (calm_column k b e))
 
-at_brace : (k : Seek) → k.scan ≡ fresh → (seek_step k open_brace).found ≡ At k.column
+at_brace : (k : Seek) → k.scan ≡ fresh → (seek_step k open_brace).found ≡ Some k.column
 unfolding seek_step
 at_brace k e = rw e
 
--- ---- the last open brace, told by its place
-pub record Backs (s : List ℕ) (i : ℕ) : Type 0 where
-  pub within : i ≤ length s
-  pub none : is_in (drop i s) open_brace ≡ false
-
-pub backs_start : (s : List ℕ) → Backs s (length s)
+-- ---- `behind_brace` asks the library for the last brace
+not_in : (b : ℕ) (s : List ℕ) → ((k : ℕ) → k < length s → get_or s k 0 ≢ b) → is_in s b ≡ false
 unfolding is_in
-backs_start s = record { within = omega arith; none = rw (drop-length s) }
+not_in b [] h = refl
+not_in b (a ∷ s) h = rw (ne_eqb b a (λ e. h 0 (omega arith) (sym e)), not_in b s (λ k l. h (suc k) (omega arith)))
 
-module _ {s : List ℕ} {i : ℕ} (inv : Backs s i) (h : 0 < i) where
-  pub backs_stop : get_or s (i - 1) 0 ≡ open_brace → LastBrace s i
-  backs_stop e = record { within = inv.within; none = inv.none; there = λ l. e }
+-- b stands at the place, and nowhere behind it; where there is none, nowhere
+abbrev pub IsLast : ℕ → List ℕ → Option ℕ → Type 0
+IsLast b s r = MatchOption r ((k : ℕ) → k < length s → get_or s k 0 ≢ b) (λ i. (i < length s) × ((get_or s i 0 ≡ b) × ((k : ℕ) → i < k → k < length s → get_or s k 0 ≢ b)))
 
-  pub backs_go : eqb (get_or s (i - 1) 0) open_brace ≡ false → Backs s (i - 1)
-  unfolding is_in
-  backs_go e =
-      let z : i ≡ suc (i - 1) = omega arith in
-      let l : i - 1 < length s = omega (arith, inv.within) in
-      let q : eqb open_brace (get_or s (i - 1) 0) ≡ false = eqb_sym open_brace (get_or s (i - 1) 0) ∙ e in
-      let n : is_in (drop (suc (i - 1)) s) open_brace ≡ false = subst (λ j. is_in (drop j s) open_brace ≡ false) z inv.none in
-      record { within = omega (arith, inv.within); none = ap (λ t. is_in t open_brace) (drop-cons s (i - 1) 0 l) ∙ (rw q n) }
+pub brace_found : (s : List ℕ) (r : Option ℕ) {n : ℕ} → IsLast open_brace s r → MatchOption r (n ≡ 0) (λ i. n ≡ i + 1) → LastBrace s n
+brace_found s None h e = rw e (record { within = omega arith; none = not_in open_brace s h; there = λ l. absurd (omega arith) })
+brace_found s (Some i) {n} (w, (at, h)) e =
+    let z : n - 1 ≡ i = omega arith in
+    record {
+      within = omega arith;
+      none = not_in open_brace (drop n s) (λ k l. rw (get_or-drop n s k 0) (h (n + k) (omega arith) (omega (arith, length-drop n s))));
+      there = λ l. rw z at;
+    }
 
-pub backs_end : {s : List ℕ} {i : ℕ} → Backs s i → i ≤ 0 → LastBrace s 0
-backs_end {s} {i} inv h =
-    let z : i ≡ 0 = omega arith in
-    record { within = omega arith; none = subst (λ j. is_in (drop j s) open_brace ≡ false) z inv.none; there = λ l. absurd (omega arith) }
-
-module _ {line : List ℕ} {e : ℕ} (b : LastBrace line e) (q : Quote) (start : ℕ) where
-  pub no_brace : e ≡ 0 → Nothing ≡ last_open_brace q start line
+module _ {line : List ℕ} {e : ℕ} (b : LastBrace line e) (q : Option ℕ) (start : ℕ) where
+  pub no_brace : e ≡ 0 → None ≡ last_open_brace q start line
   unfolding last_open_brace
   no_brace z = sym (none_found (seek_start q start) line (rw z at b.none))
 
-  pub last_brace : 0 < e → (not (in_quote q) && all no_quote (take (e - 1) line)) ≡ true → At (columns_from start (take (e - 1) line)) ≡ last_open_brace q start line
+  pub last_brace : 0 < e → (not (in_quote q) && all no_quote (take (e - 1) line)) ≡ true → Some (columns_from start (take (e - 1) line)) ≡ last_open_brace q start line
   unfolding last_open_brace seek_from
   last_brace h o = let a = both (not (in_quote q)) (all no_quote (take (e - 1) line)) o in outside q a.0 a.1
     where
       whole : line ≡ take (e - 1) line ++ (open_brace ∷ drop e line)
       whole = let z : suc (e - 1) ≡ e = omega arith in rw (b.there h, z) at (split_at line (e - 1) 0 (omega (arith, b.within)))
 
-      found : (k : Seek) → k.scan ≡ fresh → all no_quote (take (e - 1) line) ≡ true → (seek_from k (take (e - 1) line ++ (open_brace ∷ drop e line))).found ≡ At (columns_from k.column (take (e - 1) line))
+      found : (k : Seek) → k.scan ≡ fresh → all no_quote (take (e - 1) line) ≡ true → (seek_from k (take (e - 1) line ++ (open_brace ∷ drop e line))).found ≡ Some (columns_from k.column (take (e - 1) line))
       found k f a =
           let m = calm k (take (e - 1) line) f a in
           ap (λ j. j.found) (seek_append k (take (e - 1) line) (open_brace ∷ drop e line))
           ∙ none_found (seek_step (seek_from k (take (e - 1) line)) open_brace) (drop e line) b.none
           ∙ at_brace (seek_from k (take (e - 1) line)) m.0
-          ∙ ap (λ c. At c) m.1
+          ∙ ap (λ c. Some c) m.1
 
-      outside : (q : Quote) → not (in_quote q) ≡ true → all no_quote (take (e - 1) line) ≡ true → At (columns_from start (take (e - 1) line)) ≡ last_open_brace q start line
-      outside Out o a = sym (ap (λ l. (seek_from (seek_start Out start) l).found) whole ∙ found (seek_start Out start) refl a)
-      outside (In k) o a = contra false o refl
+      outside : (q : Option ℕ) → not (in_quote q) ≡ true → all no_quote (take (e - 1) line) ≡ true → Some (columns_from start (take (e - 1) line)) ≡ last_open_brace q start line
+      outside None o a = sym (ap (λ l. (seek_from (seek_start None start) l).found) whole ∙ found (seek_start None start) refl a)
+      outside (Some k) o a = contra false o refl

@@ -9,14 +9,14 @@ ghost use Rattle.run_scanners.specs.Scanners.{in_quote, takes, passed, is_bare, 
 ghost use Rattle.run_scanners.specs.Inner.{capped_seek, LastBrace};
 ghost use Rattle.base_bytes.specs.Bytes.{is_quote, close_brace};
 
-use block_grammar::{Place, Quote, Scan};
+use block_grammar::Scan;
 
 // Where the search for the last open brace stands: the column of the next byte, and the brace found so far.
 #[derive(Clone, Copy)]
 pub struct Seek {
     pub scan: Scan,
     pub column: usize,
-    pub found: Place,
+    pub found: Option<usize>,
 }
 
 // Whether a block is open, and where its scanner stands.
@@ -26,45 +26,38 @@ pub struct Held {
     pub inside: bool,
 }
 
-// Dead: what was read is no run of blocks, whatever follows.
-#[derive(Clone, Copy)]
-pub enum Hold {
-    Dead,
-    Live(Held),
-}
-
 // What a byte that no backslash covers does to a quote.
-fn turn(q: Quote, b: u8) -> Quote
+fn turn(q: Option<u8>, b: u8) -> Option<u8>
     ensures { result ≡ turned q b }
 {
     match q {
-        Quote::Out => {
+        None => {
             if base_bytes::is_quote(b) {
-                return Quote::In(b);
+                return Some(b);
             }
-            Quote::Out
+            None
         }
-        Quote::In(k) => {
+        Some(k) => {
             if b == k {
-                return Quote::Out;
+                return None;
             }
-            Quote::In(k)
+            Some(k)
         }
     }
 }
 
 // Whether b is a backslash that covers the next byte: in quotes and, if `outside` says so, anywhere.
-fn covers(outside: bool, q: Quote, b: u8) -> bool
+fn covers(outside: bool, q: Option<u8>, b: u8) -> bool
     ensures { result ≡ takes outside q b }
 {
     match q {
-        Quote::Out => {
+        None => {
             if outside {
                 return b == b'\\';
             }
             false
         }
-        Quote::In(_) => b == b'\\',
+        Some(_) => b == b'\\',
     }
 }
 
@@ -101,8 +94,8 @@ pub fn is_bare(st: Scan, b: u8, c: u8) -> bool
         return false;
     }
     match q {
-        Quote::Out => b == c,
-        Quote::In(_) => false,
+        None => b == c,
+        Some(_) => false,
     }
 }
 
@@ -121,37 +114,33 @@ fn lacks_quotes(s: &[u8]) -> bool
     ensures { result ≡ all (λ b. not (is_quote b)) s.now }
 {
     let mut met = false;
-    let mut i = 0;
-    while i < s.len() {
-        met = or_quote(met, s[i]);
-        i += 1;
+    for b in s {
+        met = or_quote(met, *b);
     }
     !met
 }
 
 // The quote that is left open at the end, byte by byte.
-fn scan_quotes(s: &[u8]) -> Quote
+fn scan_quotes(s: &[u8]) -> Option<u8>
     ensures { result ≡ open_quote_at_end s.now }
 {
     let mut st = Scan {
-        quote: Quote::Out,
+        quote: None,
         escaped: false,
     };
-    let mut i = 0;
-    while i < s.len() {
-        st = pass(true, st, s[i]);
-        i += 1;
+    for b in s {
+        st = pass(true, st, *b);
     }
     st.quote
 }
 
 // The quote that is left open at the end; where there is no quote, none is.
-pub fn open_quote_at_end(s: &[u8]) -> Quote
+pub fn open_quote_at_end(s: &[u8]) -> Option<u8>
     ensures value { result ≡ open_quote_at_end s.now }
     ensures result_value { quote_paper result ≡ quote_paper (open_quote_at_end s.now) }
 {
     if lacks_quotes(s) {
-        return Quote::Out;
+        return None;
     }
     scan_quotes(s)
 }
@@ -182,7 +171,7 @@ fn seek_step(k: Seek, b: u8) -> Seek
         return Seek {
             scan,
             column,
-            found: Place::At(k.column),
+            found: Some(k.column),
         };
     }
     Seek {
@@ -193,7 +182,7 @@ fn seek_step(k: Seek, b: u8) -> Seek
 }
 
 // The column of the last `{` outside quotes, byte by byte.
-fn seek_brace(line: &[u8], quote: Quote, start: usize) -> Place
+fn seek_brace(line: &[u8], quote: Option<u8>, start: usize) -> Option<usize>
     ensures { result ≡ capped_at (last_open_brace quote start line.now) }
 {
     let mut k = Seek {
@@ -202,12 +191,10 @@ fn seek_brace(line: &[u8], quote: Quote, start: usize) -> Place
             escaped: false,
         },
         column: start,
-        found: Place::Nothing,
+        found: None,
     };
-    let mut i = 0;
-    while i < line.len() {
-        k = seek_step(k, line[i]);
-        i += 1;
+    for b in line {
+        k = seek_step(k, *b);
     }
     k.found
 }
@@ -216,101 +203,94 @@ fn seek_brace(line: &[u8], quote: Quote, start: usize) -> Place
 fn behind_brace(s: &[u8]) -> usize
     ensures { LastBrace s.now result }
 {
-    let mut i = s.len();
-    while 0 < i {
-        if s[i - 1] == b'{' {
-            return i;
-        }
-        i -= 1;
-    }
-    0
+    s.iter()
+        .rposition(|b| *b == b'{')
+        .map_or(0, |brace| brace + 1)
 }
 
 // Whether a scan that begins in the quote `quote` is outside quotes behind every byte of `front`, since no quote is there.
-fn stays_out(quote: Quote, front: &[u8]) -> bool
+fn stays_out(quote: Option<u8>, front: &[u8]) -> bool
     ensures { result ≡ (not (in_quote quote) && all (λ b. not (is_quote b)) front.now) }
 {
     match quote {
-        Quote::Out => lacks_quotes(front),
-        Quote::In(_open) => false,
+        None => lacks_quotes(front),
+        Some(_open) => false,
     }
 }
 
 // The column of the last `{` outside quotes, where the line's first byte stands in column `start` and in the quote `quote`. Only bytes before the last `{`
 // matter, and where no quote is among them it is the one.
-pub fn last_open_brace_column(line: &[u8], quote: Quote, start: usize) -> Place
+pub fn last_open_brace_column(line: &[u8], quote: Option<u8>, start: usize) -> Option<usize>
     ensures value { result ≡ capped_at (last_open_brace quote start line.now) }
     ensures result_value { column_paper result ≡ column_paper (capped_at (last_open_brace quote start line.now)) }
 {
     let e = behind_brace(line);
     if e == 0 {
-        return Place::Nothing;
+        return None;
     }
     let front = &line[..e - 1];
     if stays_out(quote, front) {
-        return Place::At(text_tabs::columns(start, front));
+        return Some(text_tabs::columns(start, front));
     }
     seek_brace(line, quote, start)
 }
 
 // A byte of the scan for an open block.
-fn held_step(h: Held, b: u8) -> Hold
+fn held_step(h: Held, b: u8) -> Option<Held>
     ensures { result ≡ held_step h b }
 {
     let st = h.scan;
     let inside = h.inside;
     if is_bare(st, b, b'{') {
         if inside {
-            return Hold::Dead;
+            return None;
         }
-        return Hold::Live(Held {
+        return Some(Held {
             scan: st,
             inside: true,
         });
     }
     if is_bare(st, b, b'}') {
         if inside {
-            return Hold::Live(Held {
+            return Some(Held {
                 scan: st,
                 inside: false,
             });
         }
-        return Hold::Dead;
+        return None;
     }
-    Hold::Live(Held {
+    Some(Held {
         scan: pass(false, st, b),
         inside,
     })
 }
 
 // The scan goes on over s.
-pub fn hold_on(s: &[u8], from: Hold) -> Hold
+pub fn hold_on(s: &[u8], from: Option<Held>) -> Option<Held>
     ensures value { result ≡ hold_from from s.now }
     ensures result_value { hold_paper result ≡ hold_paper (hold_from from s.now) }
 {
-    let Hold::Live(first) = from else {
-        return Hold::Dead;
+    let Some(first) = from else {
+        return None;
     };
     let mut h = first;
-    let mut i = 0;
-    while i < s.len() {
-        match held_step(h, s[i]) {
-            Hold::Dead => return Hold::Dead,
-            Hold::Live(v) => h = v,
+    for b in s {
+        match held_step(h, *b) {
+            None => return None,
+            Some(v) => h = v,
         }
-        i += 1;
     }
-    Hold::Live(h)
+    Some(h)
 }
 
 // Nothing was read yet.
-pub fn hold_start() -> Hold
+pub fn hold_start() -> Option<Held>
     ensures value { result ≡ hold_start }
     ensures result_value { hold_paper result ≡ hold_paper hold_start }
 {
-    Hold::Live(Held {
+    Some(Held {
         scan: Scan {
-            quote: Quote::Out,
+            quote: None,
             escaped: false,
         },
         inside: false,
@@ -318,12 +298,12 @@ pub fn hold_start() -> Hold
 }
 
 // Whether a block is open where the scan stands.
-pub fn is_held(h: Hold) -> bool
+pub fn is_held(h: Option<Held>) -> bool
     ensures { result ≡ is_held h }
 {
     match h {
-        Hold::Dead => false,
-        Hold::Live(v) => v.inside,
+        None => false,
+        Some(v) => v.inside,
     }
 }
 
@@ -338,12 +318,5 @@ pub fn holds_open_attr_block(run: &[u8]) -> bool
 pub fn contains_close(s: &[u8]) -> bool
     ensures { result ≡ is_in s.now close_brace }
 {
-    let mut i = 0;
-    while i < s.len() {
-        if s[i] == b'}' {
-            return true;
-        }
-        i += 1;
-    }
-    false
+    s.contains(&b'}')
 }

@@ -1,15 +1,16 @@
 -- A line's front, and comments.
 -- Assumes nothing.
 use mathlib.Core.Path.{◌≡◌, refl, sym, ◌∙◌, ap}
-use mathlib.Core.Bool.{Bool, true, false, ◌&&◌, ◌||◌}
+use mathlib.Core.Bool.{Bool, true, false, ◌&&◌}
 use mathlib.Core.List.{List, [], ◌∷◌}
-use Prim.Native.Nat.{ℕ, suc, ◌+◌, ◌-◌, ◌<◌, ◌≤◌}
+use Prim.Native.Nat.{ℕ, zero, suc, ◌+◌, ◌-◌, ◌<◌, ◌≤◌}
 use native.Mathlib.Numerals.{add-one}
 use native.Mathlib.Omega.{arith}
 use borrow.Author.Tests.{eq-eqb, ne_eqb}
 use lib.Dec.{eqb}
 use lib.ListN.{length, get_or, drop, drop_of_length-le, length-drop}
 use lib.Seq.{drop-cons}
+use Rattle.std.specs.List.{list_any, range_with_len}
 use Rattle.base_lists.specs.Lists.{run, begins_pair}
 use Rattle.base_bytes.specs.Bytes.{is_space}
 use Rattle.text_lines.specs.Trim.{trim_start}
@@ -54,22 +55,10 @@ module _ (s : List ℕ) (i b c : ℕ) where
     pub pair_is : get_or s i 0 ≡ b → eqb (get_or s (i + 1) 0) c ≡ begins_pair b c (drop i s)
     pair_is q = rw (pair_both, eq-eqb (get_or s i 0) b q)
 
--- the loop of `closes_comment`
-pub record Closes (s : List ℕ) (r : Bool) (i : ℕ) : Type 0 where
-  pub rest : closes_comment (drop i s) ≡ r
-
-module _ {s : List ℕ} {r : Bool} {i : ℕ} (inv : Closes s r i) where
-  module _ (h : i < length s) where
-    here : (begins_pair 37 125 (drop i s) || closes_comment (drop (suc i) s)) ≡ r
-    unfolding closes_comment
-    here = rw (drop-cons s i 0 h) (rw (drop-cons s i 0 h) at inv.rest)
-
-    pub closes_stop : true ≡ begins_pair 37 125 (drop i s) → true ≡ r
-    closes_stop q = rw (← q) at here
-
-    pub closes_go : false ≡ begins_pair 37 125 (drop i s) → Closes s r (i + 1)
-    closes_go q = record { rest = rw add-one (rw (← q) at here) }
-
-  pub closes_end : length s ≤ i → false ≡ r
-  unfolding closes_comment
-  closes_end h = rw (drop_of_length-le s h) at inv.rest
+-- `closes_comment` asks each place from k on
+pub closes_any : (s : List ℕ) (n k : ℕ) → k + n ≡ length s → list_any (λ i. begins_pair 37 125 (drop i s)) (range_with_len k n) ≡ closes_comment (drop k s)
+unfolding closes_comment
+closes_any s zero k h = rw (drop_of_length-le s {i = k} (omega arith))
+closes_any s (suc n) k h =
+    let l : k < length s = omega arith in
+    rw (closes_any s n (k + 1) (omega arith), add-one, drop-cons s k 0 l)

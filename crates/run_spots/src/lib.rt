@@ -94,14 +94,7 @@ pub fn opens_comment(line: &[u8]) -> bool
 pub fn closes_comment(s: &[u8]) -> bool
     ensures { result ≡ closes_comment s.now }
 {
-    let mut i = 0;
-    while i < s.len() {
-        if pair_at(s, i, b'%', b'}') {
-            return true;
-        }
-        i += 1;
-    }
-    false
+    (0..s.len()).any(|i| pair_at(s, i, b'%', b'}'))
 }
 
 // Whether the line is too far left, or one before it was.

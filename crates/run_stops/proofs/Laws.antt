@@ -1,8 +1,9 @@
 -- The loops of run_stops, and what its tests say.
 -- Assumes nothing.
+use Rattle.std.specs.Prelude.{Err, None, Ok, Option, Result, Some}
 use mathlib.Core.Path.{◌≡◌, refl, sym, ◌∙◌, ap}
 use mathlib.Core.Bool.{Bool, true, false, cond}
-use mathlib.Core.List.{List, [], ◌∷◌}
+use mathlib.Core.List.{List}
 use Prim.Native.Nat.{ℕ, zero, suc, ◌+◌, ◌-◌, ◌<◌, ◌≤◌}
 use native.Mathlib.Numerals.{add-one}
 use native.Mathlib.Omega.{arith}
@@ -13,20 +14,14 @@ use lib.Seq.{drop-cons, take_all}
 use Rattle.base_lists.proofs.More.{contra}
 use Rattle.base_lists.proofs.Parts.{slice_part}
 use Rattle.base_bytes.specs.declared.Mode.TheVariants.{Loose}
-use Rattle.text_names.specs.declared.Tested.{Tested}
-use Rattle.text_names.specs.declared.Tested.TheVariants.{Whole, Stops}
 use Rattle.text_lines.specs.Lines.{line_from, line_at}
-use Rattle.text_lines.specs.Trim.{trim, trim_range, is_blank_line}
+use Rattle.text_lines.specs.Trim.{trim_range, is_blank_line}
 use Rattle.text_lines.specs.declared.LineEnd.{LineEnd}
 use Rattle.text_lines.specs.declared.Range.{Range}
 use Rattle.text_lines.proofs.Trim.{trim_from, core_from, core_to}
 use Rattle.text_tabs.specs.Columns.{indent_columns, capped}
 use Rattle.block_grammar.specs.Computed.{read_payload}
-use Rattle.block_grammar.specs.declared.Quote.{Quote}
-use Rattle.block_grammar.specs.declared.Quote.TheVariants.{Out, In}
 use Rattle.block_grammar.specs.declared.Scan.{Scan}
-use Rattle.block_grammar.specs.declared.Place.{Place}
-use Rattle.block_grammar.specs.declared.Place.TheVariants.{Nothing, At}
 use Rattle.block_places.specs.Computed.{payload_place}
 use Rattle.block_places.proofs.Place.{place_longest}
 use Rattle.block_tokens.specs.Shown.{accepted, payload_tested}
@@ -36,26 +31,25 @@ use Rattle.block_trimmed_line.specs.declared.Front.{Front}
 use Rattle.block_trimmed_line.proofs.Trimmed.{line_is, line_none, front_to}
 use Rattle.run_scanners.specs.Scanners.{honoured, passed}
 use Rattle.run_stops.specs.declared.Edge.{Edge}
-use Rattle.run_stops.specs.declared.Stop.{Stop}
 use Rattle.run_stops.specs.declared.Source.{Source}
 use Rattle.run_stops.specs.declared.Why as whys
 use Rattle.run_stops.specs.declared.Why.TheVariants as why
-use Rattle.run_stops.specs.Stops.{kept_at, quote_from, quote_left, edge_after, edge_past, edge_of, why_of, stops_at, last_from, closes_at, past_close, entries_in, stop_by, stop_at, source_from, source_of}
+use Rattle.run_stops.specs.Stops.{kept_at, quote_from, edge_after, edge_past, edge_of, why_of, stops_at, last_from, closes_at, past_close, entries_in, stop_by, stop_at, source_from, source_of}
 
 -- ---- the loop of `quote_left`: the bytes from i on lead to the answer r
-pub record Quotes (s : List ℕ) (r : Place) (st : Scan) (at i : ℕ) : Type 0 where
+pub record Quotes (s : List ℕ) (r : Option ℕ) (st : Scan) (at i : ℕ) : Type 0 where
   pub rest : quote_from st at i (drop i s) ≡ r
 
-module _ {s : List ℕ} {r : Place} {st : Scan} {at i : ℕ} (inv : Quotes s r st at i) where
+module _ {s : List ℕ} {r : Option ℕ} {st : Scan} {at i : ℕ} (inv : Quotes s r st at i) where
   pub quotes_go : {v : Scan} {p : ℕ} → i < length s → p ≡ kept_at st.quote at i → v ≡ passed honoured st (get_or s i 0) → Quotes s r v p (i + 1)
   unfolding quote_from
   quotes_go h k e = record { rest = rw (k, e, add-one) (rw (drop-cons s i 0 h) at inv.rest) }
 
-  pub quotes_none : length s ≤ i → st.quote ≡ Out → Nothing ≡ r
+  pub quotes_none : length s ≤ i → st.quote ≡ None → None ≡ r
   unfolding quote_from
   quotes_none h e = rw (drop_of_length-le s h, e) at inv.rest
 
-  pub quotes_some : length s ≤ i → {q : ℕ} → st.quote ≡ In q → At at ≡ r
+  pub quotes_some : length s ≤ i → {q : ℕ} → st.quote ≡ Some q → Some at ≡ r
   unfolding quote_from
   quotes_some h e = rw (drop_of_length-le s h, e) at inv.rest
 
@@ -97,11 +91,11 @@ module _ {t : List ℕ} {r : Edge} {n : ℕ} {e : Edge} (inv : Edges t r n e) wh
 
 -- ---- why a line isn't joined
 module _ (t : List ℕ) (e : Edge) where
-  pub why_quoted : {k : ℕ} → e.quote ≡ In k → why.Quoted ≡ why_of t e
+  pub why_quoted : {k : ℕ} → e.quote ≡ Some k → why.Quoted ≡ why_of t e
   unfolding why_of
   why_quoted z = rw z
 
-  module _ (z : e.quote ≡ Out) where
+  module _ (z : e.quote ≡ None) where
     pub why_end : length t ≤ e.at → why.End ≡ why_of t e
     unfolding why_of
     why_end h = rw (z, le-leb (length t) e.at h)
@@ -125,16 +119,16 @@ module _ (t : List ℕ) (e : Edge) where
 pub last_is : (s : List ℕ) {from : ℕ} → from ≤ length s → drop from s ≡ behind_last s → from ≡ last_from s
 last_is s {from} h e = omega (arith, length-drop from s, ap length e)
 
-pub stops_whole : (s : List ℕ) {u : Tested} → u ≡ payload_tested Loose s → u ≡ Whole → 0 ≡ stops_at (payload_tested Loose s)
+pub stops_whole : (s : List ℕ) {u : Result (Unit {0}) ℕ} → u ≡ payload_tested Loose s → u ≡ Ok tt → 0 ≡ stops_at (payload_tested Loose s)
 stops_whole s e z = rw (← e, z)
 
-pub stops_stop : (s : List ℕ) {u : Tested} → u ≡ payload_tested Loose s → {n : ℕ} → u ≡ Stops n → n ≡ stops_at (payload_tested Loose s)
+pub stops_stop : (s : List ℕ) {u : Result (Unit {0}) ℕ} → u ≡ payload_tested Loose s → {n : ℕ} → u ≡ Err n → n ≡ stops_at (payload_tested Loose s)
 stops_stop s e z = rw (← e, z)
 
 pub stops_within : (s : List ℕ) → stops_at (payload_tested Loose s) ≤ length s
 stops_within s = go (accepted (read_payload Loose 0 s))
   where
-    go : (y : Bool) → stops_at (cond y Whole (Stops (payload_place Loose s))) ≤ length s
+    go : (y : Bool) → stops_at (cond y (Ok tt) (Err (payload_place Loose s))) ≤ length s
     go true = omega arith
     go false = (place_longest Loose s).within
 
@@ -193,44 +187,41 @@ pub entries_short : (s : List ℕ) {r : Range} → r ≡ trim_range s → {n : �
 entries_short s {r} e q = omega (arith, core_from s e, core_to s e, q, entries_within (take (r.to - r.from) (drop r.from s)), length-take (r.to - r.from) (drop r.from s))
 
 -- ---- the loop of `source_place`
-pub record Sources (t : List ℕ) (r : Source) (n left from k : ℕ) : Type 0 where
-  pub few : left ≤ n
-  pub rest : source_from t left (n - left) from k ≡ r
+pub record Sources (t : List ℕ) (r : Source) (n row from k : ℕ) : Type 0 where
+  pub few : row ≤ n
+  pub rest : source_from t (n - row) row from k ≡ r
 
 pub front_order : (t : List ℕ) (at : ℕ) → (front_of t at).from ≤ (front_of t at).to
 unfolding front_of
 front_order t at = omega (arith, trim_from (line_at t at))
 
-module _ {t : List ℕ} {r : Source} {n left from k : ℕ} (inv : Sources t r n left from k) where
-  pub sources_end : left ≡ 0 → record { row = n; place = from } ≡ r
+module _ {t : List ℕ} {r : Source} {n row from k : ℕ} (inv : Sources t r n row from k) where
+  pub sources_end : n ≤ row → record { row = n; place = from } ≡ r
   unfolding source_from
-  sources_end e = let z : n - 0 ≡ n = omega arith in rw (e, z) at inv.rest
+  sources_end h =
+      let y : n - row ≡ 0 = omega arith in
+      let z : row ≡ n = omega (arith, inv.few) in
+      rw (← z) (rw y at inv.rest)
 
-  module _ (some : left ≡ 0 → ⊥) {f : Front} (e : f ≡ front_of t from) where
-    there : cond (leb k (f.to - f.from)) (record { row = n - left; place = f.from + k }) (source_from t (left - 1) (suc (n - left)) f.next (k - suc (f.to - f.from))) ≡ r
+  module _ (some : row < n) {f : Front} (e : f ≡ front_of t from) where
+    there : cond (leb k (f.to - f.from)) (record { row = row; place = f.from + k }) (source_from t (n - suc row) (suc row) f.next (k - suc (f.to - f.from))) ≡ r
     unfolding source_from
-    there = go left some inv.rest
-      where
-        go : (m : ℕ) → (m ≡ 0 → ⊥) → source_from t m (n - m) from k ≡ r
-            → cond (leb k (f.to - f.from)) (record { row = n - m; place = f.from + k }) (source_from t (m - 1) (suc (n - m)) f.next (k - suc (f.to - f.from))) ≡ r
-        go zero s q = absurd (s refl)
-        go (suc m) s q = let z : suc m - 1 ≡ m = omega arith in rw (z, e) q
+    there = let z : n - row ≡ suc (n - suc row) = omega arith in rw e (rw z at inv.rest)
 
-    pub sources_here : k ≤ f.to - f.from → record { row = n - left; place = f.from + k } ≡ r
+    pub sources_here : k ≤ f.to - f.from → record { row = row; place = f.from + k } ≡ r
     sources_here h = rw (le-leb k (f.to - f.from) h) at there
 
-    pub sources_on : f.to - f.from < k → Sources t r n (left - 1) f.next (k - (f.to - f.from) - 1)
+    pub sources_on : f.to - f.from < k → Sources t r n (row + 1) f.next (k - (f.to - f.from) - 1)
     sources_on h =
-        let z : n - (left - 1) ≡ suc (n - left) = omega (arith, some, inv.few) in
         let y : k - (f.to - f.from) - 1 ≡ k - suc (f.to - f.from) = omega arith in
-        record { few = omega (arith, inv.few); rest = rw (z, y) (rw (lt-leb k (f.to - f.from) h) at there) }
+        record { few = omega arith; rest = rw (add-one, y) (rw (lt-leb k (f.to - f.from) h) at there) }
 
     pub sources_order : f.from ≤ f.to
     sources_order = rw e (front_order t from)
 
-pub sources_start : (t : List ℕ) (at n k : ℕ) → Sources t (source_of t at n k) n n at k
+pub sources_start : (t : List ℕ) (at n k : ℕ) → Sources t (source_of t at n k) n 0 at k
 unfolding source_of
-sources_start t at n k = let z : n - n ≡ 0 = omega arith in record { few = omega arith; rest = rw z }
+sources_start t at n k = let z : n - 0 ≡ n = omega arith in record { few = omega arith; rest = rw z }
 
 -- ---- what is promised of a stop
 pub stop_is : (t : List ℕ) (at n : ℕ) {e : Edge} {w v : whys.Why} → e ≡ edge_of t at n → w ≡ why_of t e → w ≡ v → stop_by t at n e v ≡ stop_at t at n

@@ -1,22 +1,16 @@
 -- "Each later line must be indented beyond the last open brace's column, pass `valid_wrapped_attr_continuation`, and follow no open quote": which of these a line fails
 -- that isn't joined, and where; and where a place of the joined text stands in the sheet.
-use Rattle.std.specs.Prelude.{ℕ, zero, suc, ◌+◌, ◌-◌, Bool, cond, ◌&&◌, ◌||◌, List, [], ◌∷◌, eqb, leb, length, get_or, take, drop}
+use Rattle.std.specs.Prelude.{ℕ, zero, suc, ◌+◌, ◌-◌, Bool, cond, ◌&&◌, ◌||◌, List, [], ◌∷◌, eqb, leb, length, get_or, take, drop, Err, None, Ok, Option, Result, Some}
 use Rattle.std.proofs.Math.Seq.{slice}
 use Rattle.base_bytes.specs.declared.Mode.TheVariants.{Loose}
 use Rattle.base_bytes.specs.Bytes.{close_brace}
 use Rattle.base_refusals.specs.Numbers.{Paper, passed_paper}
-use Rattle.text_names.specs.declared.Tested.{Tested}
-use Rattle.text_names.specs.declared.Tested.TheVariants.{Whole, Stops}
 use Rattle.text_lines.specs.Lines.{line_from, line_at}
 use Rattle.text_lines.specs.Trim.{trim, trim_range, is_blank_line}
 use Rattle.text_tabs.specs.Columns.{indent_columns, capped}
 use Rattle.block_grammar.specs.Close.{fresh}
 use Rattle.block_grammar.specs.Computed.{read_payload}
-use Rattle.block_grammar.specs.declared.Quote.{Quote}
-use Rattle.block_grammar.specs.declared.Quote.TheVariants.{Out, In}
 use Rattle.block_grammar.specs.declared.Scan.{Scan}
-use Rattle.block_grammar.specs.declared.Place.{Place}
-use Rattle.block_grammar.specs.declared.Place.TheVariants.{Nothing, At}
 use Rattle.block_tokens.specs.Shown.{accepted, payload_tested}
 use Rattle.block_payloads.specs.Payloads.{behind_last}
 use Rattle.block_trimmed_line.specs.Fronts.{front_of}
@@ -30,31 +24,31 @@ use Rattle.run_stops.specs.declared.Why.TheVariants as why
 -- ---- the quote that is left open
 
 -- where it stands: outside quotes each byte may be the one that opens it
-abbrev pub kept_at : Quote → ℕ → ℕ → ℕ
-kept_at Out at i = i
-kept_at (In q) at i = at
+abbrev pub kept_at : Option ℕ → ℕ → ℕ → ℕ
+kept_at None at i = i
+kept_at (Some q) at i = at
 
 -- "`open_quote_at_end`", with the place: the list's first byte stands at i
-unfoldable pub quote_from : Scan → ℕ → ℕ → List ℕ → Place
-quote_from st at i [] = cond (in_quote st.quote) (At at) Nothing
+unfoldable pub quote_from : Scan → ℕ → ℕ → List ℕ → Option ℕ
+quote_from st at i [] = cond (in_quote st.quote) (Some at) None
 quote_from st at i (b ∷ s) = quote_from (passed honoured st b) (kept_at st.quote at i) (suc i) s
 
-unfoldable pub quote_left : List ℕ → ℕ → Place
+unfoldable pub quote_left : List ℕ → ℕ → Option ℕ
 quote_left s from = quote_from fresh from from (drop from s)
 
 -- ---- what lines leave
 
 -- "the last open brace's column"
-abbrev pub brace_or : ℕ → Place → ℕ
-brace_or brace Nothing = brace
-brace_or brace (At c) = c
+abbrev pub brace_or : ℕ → Option ℕ → ℕ
+brace_or brace None = brace
+brace_or brace (Some c) = c
 
 unfoldable pub edge_after : List ℕ → Edge → Edge
 edge_after t e =
     record {
       at = (line_from t e.at).next;
       last = e.at;
-      brace = brace_or e.brace (capped_at (last_open_brace Out 0 (line_at t e.at)));
+      brace = brace_or e.brace (capped_at (last_open_brace None 0 (line_at t e.at)));
       quote = open_quote_at_end (trim (line_at t e.at));
     }
 
@@ -65,7 +59,7 @@ edge_past t (suc n) e = edge_past t n (edge_after t e)
 
 -- behind n lines, the first of which begins at `at`
 unfoldable pub edge_of : List ℕ → ℕ → ℕ → Edge
-edge_of t at n = edge_past t n (record { at = at; last = at; brace = 0; quote = Out })
+edge_of t at n = edge_past t n (record { at = at; last = at; brace = 0; quote = None })
 
 -- ---- why the line behind them isn't joined
 
@@ -80,17 +74,17 @@ why_of t e =
 
 -- ---- where that is told
 
-abbrev pub place_or : ℕ → Place → ℕ
-place_or at Nothing = at
-place_or at (At p) = p
+abbrev pub place_or : ℕ → Option ℕ → ℕ
+place_or at None = at
+place_or at (Some p) = p
 
 -- at the quote that the line leaves open
 unfoldable pub quote_place : List ℕ → ℕ → ℕ
 quote_place t at = place_or at (quote_left (take (line_from t at).to t) at)
 
-abbrev pub stops_at : Tested → ℕ
-stops_at Whole = 0
-stops_at (Stops n) = n
+abbrev pub stops_at : Result (Unit {0}) ℕ → ℕ
+stops_at (Ok _) = 0
+stops_at (Err n) = n
 
 -- 000 asks of a trimmed line that doesn't end in `}` that what stands behind its last `}{` is entries; it begins here, at the front where there is none
 abbrev pub last_from : List ℕ → ℕ

@@ -12,8 +12,7 @@ ghost use Rattle.run_scanners.specs.Scanners.{open_quote_at_end};
 ghost use Rattle.run_stops.specs.Stops.{quote_left, kept_at, brace_or, edge_after, edge_of, why_of, quote_place, stops_at, last_from, closes_at, entries_in, entries_place, stop_at, stop_paper, source_of};
 
 use base_bytes::Mode;
-use block_grammar::{Place, Quote, Scan};
-use text_names::Tested;
+use block_grammar::Scan;
 
 // What the lines joined so far leave: where the next begins and where the last of them begins, the column of the last brace that opened, and the quote left open.
 #[derive(Clone, Copy)]
@@ -21,7 +20,7 @@ pub struct Edge {
     pub at: usize,
     pub last: usize,
     pub brace: usize,
-    pub quote: Quote,
+    pub quote: Option<u8>,
 }
 
 // Why a run isn't joined further: a quote is left open in the line before; else no line is left; the next is blank; it isn't indented far enough; or it isn't whole entries.
@@ -51,46 +50,44 @@ pub struct Source {
 }
 
 // The place of the quote that is open; outside quotes it is the present one.
-fn kept(q: Quote, at: usize, i: usize) -> usize
+fn kept(q: Option<u8>, at: usize, i: usize) -> usize
     ensures { result ≡ kept_at q at i }
 {
     match q {
-        Quote::Out => i,
-        Quote::In(_) => at,
+        None => i,
+        Some(_) => at,
     }
 }
 
 // The place of the quote that is left open at the end, from `from` on.
-pub fn quote_left(s: &[u8], from: usize) -> Place
+pub fn quote_left(s: &[u8], from: usize) -> Option<usize>
     ensures value { result ≡ quote_left s.now from }
     ensures result_value { close_paper result ≡ close_paper (quote_left s.now from) }
 {
     let mut st = Scan {
-        quote: Quote::Out,
+        quote: None,
         escaped: false,
     };
     let mut at = from;
-    let mut i = from;
-    while i < s.len() {
+    for i in from..s.len() {
         let q = st.quote;
         at = kept(q, at, i);
         st = run_scanners::pass(true, st, s[i]);
-        i += 1;
     }
     let q = st.quote;
     match q {
-        Quote::Out => Place::Nothing,
-        Quote::In(_) => Place::At(at),
+        None => None,
+        Some(_) => Some(at),
     }
 }
 
 // The column of the last brace that opened, where the one found in a line counts.
-fn brace_or(brace: usize, found: Place) -> usize
+fn brace_or(brace: usize, found: Option<usize>) -> usize
     ensures { result ≡ brace_or brace found }
 {
     match found {
-        Place::Nothing => brace,
-        Place::At(c) => c,
+        None => brace,
+        Some(c) => c,
     }
 }
 
@@ -107,7 +104,7 @@ fn line_at(text: &[u8], at: usize) -> &[u8]
 }
 
 // The quote that a line leaves open.
-fn quote_behind(line: &[u8]) -> Quote
+fn quote_behind(line: &[u8]) -> Option<u8>
     ensures { result ≡ open_quote_at_end (trim line.now) }
 {
     let r = text_lines::trim_ascii(line);
@@ -123,10 +120,7 @@ fn edge_after(text: &[u8], e: Edge) -> Edge
     let l = text_lines::line_from(text, e.at);
     let line = line_at(text, e.at);
     let quote = quote_behind(line);
-    let brace = brace_or(
-        e.brace,
-        run_scanners::last_open_brace_column(line, Quote::Out, 0),
-    );
+    let brace = brace_or(e.brace, run_scanners::last_open_brace_column(line, None, 0));
     Edge {
         at: l.next,
         last: e.at,
@@ -143,12 +137,10 @@ fn edge_of(text: &[u8], at: usize, lines: usize) -> Edge
         at,
         last: at,
         brace: 0,
-        quote: Quote::Out,
+        quote: None,
     };
-    let mut left = lines;
-    while 0 < left {
+    for _ in 0..lines {
         e = edge_after(text, e);
-        left -= 1;
     }
     e
 }
@@ -159,8 +151,8 @@ fn why_of(text: &[u8], e: Edge) -> Why
 {
     let q = e.quote;
     match q {
-        Quote::In(_) => Why::Quoted,
-        Quote::Out => {
+        Some(_) => Why::Quoted,
+        None => {
             if text.len() <= e.at {
                 return Why::End;
             }
@@ -192,8 +184,8 @@ fn quote_place(text: &[u8], at: usize) -> usize
 {
     let l = text_lines::line_from(text, at);
     match quote_left(front(text, l.to), at) {
-        Place::Nothing => at,
-        Place::At(p) => p,
+        None => at,
+        Some(p) => p,
     }
 }
 
@@ -202,13 +194,11 @@ fn behind(s: &[u8], i: usize, best: usize) -> usize
     requires { i + 1 < length s.now }
     ensures { result ≡ cond (eqb (get_or s.now i 0) close_brace && eqb (get_or s.now (i + 1) 0) open_brace) (i + 2) best }
 {
-    if s[i] != b'}' {
-        return best;
+    if s[i] == b'}' && s[i + 1] == b'{' {
+        i + 2
+    } else {
+        best
     }
-    if s[i + 1] != b'{' {
-        return best;
-    }
-    i + 2
 }
 
 // Where what stands behind the last `}{` begins; 0 where there is none.
@@ -216,10 +206,8 @@ fn behind_last(s: &[u8]) -> usize
     ensures { result ≡ last_from s.now }
 {
     let mut best = 0;
-    let mut i = 1;
-    while i < s.len() {
+    for i in 1..s.len() {
         best = behind(s, i - 1, best);
-        i += 1;
     }
     best
 }
@@ -229,8 +217,8 @@ fn stops_at(s: &[u8]) -> usize
     ensures { result ≡ stops_at (payload_tested Loose s.now) }
 {
     match block_tokens::payload_test(s, Mode::Loose) {
-        Tested::Whole => 0,
-        Tested::Stops(n) => n,
+        Ok(()) => 0,
+        Err(n) => n,
     }
 }
 
@@ -328,27 +316,22 @@ pub fn run_stop(text: &[u8], at: usize, lines: usize) -> Stop
 pub fn source_place(text: &[u8], at: usize, lines: usize, k: usize) -> Source
     ensures { result ≡ source_of text.now at lines k }
 {
-    let mut left = lines;
     let mut from = at;
     let mut rest = k;
-    'lines: loop {
-        if left == 0 {
-            return Source {
-                row: lines,
-                place: from,
-            };
-        }
+    for row in 0..lines {
         let f = block_trimmed_line::trimmed_line(text, from);
         let size = f.to - f.from;
         if rest <= size {
             return Source {
-                row: lines - left,
+                row,
                 place: f.from + rest,
             };
         }
         rest = rest - size - 1;
-        left -= 1;
         from = f.next;
-        continue 'lines;
+    }
+    Source {
+        row: lines,
+        place: from,
     }
 }

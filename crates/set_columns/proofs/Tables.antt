@@ -1,5 +1,6 @@
 -- The columns laid down list by list are those of the definition.
 -- Assumes nothing.
+use Rattle.std.specs.Prelude.{Err, None, Ok, Option, Result, Some}
 use mathlib.Core.Path.{◌≡◌, refl, sym, ◌∙◌, ap}
 use mathlib.Core.Bool.{Bool, true, false, cond}
 use mathlib.Core.List.{List, [], ◌∷◌, map}
@@ -15,8 +16,6 @@ use Rattle.base_refusals.specs.Numbers.{outcome_no}
 use Rattle.base_refusals.specs.Orders.{Ground, in_order, order_no}
 use Rattle.base_refusals.specs.declared.Refusal.{Refusal}
 use Rattle.base_refusals.specs.declared.Refusal.TheVariants.{NotWellFormed, TooManyColumns}
-use Rattle.base_refusals.specs.declared.Outcome.{Outcome}
-use Rattle.base_refusals.specs.declared.Outcome.TheVariants as outcome
 use Rattle.base_refusals.proofs.Orders.{order_no_lem}
 use Rattle.base_refusals.proofs.Said.{said}
 use Rattle.text_checks.specs.Check.{both_order, both_of}
@@ -34,8 +33,6 @@ use Rattle.set_table.specs.declared.Text.TheVariants as text
 use Rattle.set_table.proofs.Table.{padded_get, padded-length}
 use Rattle.set_wellformed.specs.WellFormed.{table_ok}
 use Rattle.set_keyed.specs.Keyed.{values_by, key_found}
-use Rattle.set_keyed.specs.declared.Keyed.{Keyed}
-use Rattle.set_keyed.specs.declared.Keyed.TheVariants.{Missing, Given}
 use Rattle.set_keyed.proofs.Means.{key_means}
 use Rattle.set_commas.specs.Commas.{comma_pieces, cuts_of}
 use Rattle.set_commas.proofs.Pieces.{cut, cuts_pieces}
@@ -103,13 +100,13 @@ on_align [] k = refl
 on_align (p ∷ al) zero = refl
 on_align (p ∷ al) (suc k) = on_align al k
 
-on_valign : (va : List (List ℕ)) (k : ℕ) (a : Align) → on (word_by true) va k (align_on a zero_column) ≡ valign_on (valign_of (get_or va k [])) (align_on a zero_column)
+on_valign : (va : List (List ℕ)) (k : ℕ) (a : Option Align) → on (word_by true) va k (align_on a zero_column) ≡ valign_on (valign_of (get_or va k [])) (align_on a zero_column)
 unfolding valign_of same word_by
 on_valign [] k a = refl
 on_valign (p ∷ va) zero a = refl
 on_valign (p ∷ va) (suc k) a = on_valign va k a
 
-on_width : (wi : List Width) (k : ℕ) (a : Align) (v : Valign) → on width_on wi k (valign_on v (align_on a zero_column)) ≡ width_on (get_or wi k width.Unset) (valign_on v (align_on a zero_column))
+on_width : (wi : List (Option Width)) (k : ℕ) (a : Option Align) (v : Option Valign) → on width_on wi k (valign_on v (align_on a zero_column)) ≡ width_on (get_or wi k None) (valign_on v (align_on a zero_column))
 on_width [] k a v = refl
 on_width (w ∷ wi) zero a v = refl
 on_width (w ∷ wi) (suc k) a v = on_width wi k a v
@@ -137,11 +134,11 @@ pub padded_past : {A : Type 0} (n : ℕ) (z : A) (xs : List A) (k : ℕ) → len
 unfolding padded
 padded_past n z xs k h = let e : k ≡ length xs + (k - length xs) = omega arith in rw (e, get_or-append-add xs (replicate (n - length xs) z) (k - length xs) z) (get_replicate (n - length xs) (k - length xs) z)
 
-module _ (al va : List (List ℕ)) (wi : List Width) (n : ℕ) (la : length al ≤ n) (lv : length va ≤ n) (lw : length wi ≤ n) (few : n ≤ max_columns) where
+module _ (al va : List (List ℕ)) (wi : List (Option Width)) (n : ℕ) (la : length al ≤ n) (lv : length va ≤ n) (lw : length wi ≤ n) (few : n ≤ max_columns) where
   pub column_past : (k : ℕ) → n ≤ k → column_at al va wi k ≡ zero_column
   unfolding align_of valign_of same
   column_past k h =
-      rw (get_or-eq_default al [] {n = k} (omega arith), get_or-eq_default va [] {n = k} (omega arith), get_or-eq_default wi width.Unset {n = k} (omega arith))
+      rw (get_or-eq_default al [] {n = k} (omega arith), get_or-eq_default va [] {n = k} (omega arith), get_or-eq_default wi None {n = k} (omega arith))
 
   sized : length (tabled (column_at al va wi) n 0) ≡ n
   sized = tabled-length (column_at al va wi) n 0
@@ -182,18 +179,18 @@ pub list_found : (t : Texts) (a : Attrs) (w : List ℕ) → is_free w ≡ true �
 unfolding found_pieces
 list_found t a w f = rw (← key_means t a w f) (go (key_found t a w))
   where
-    go : (k : Keyed) → list_of (values_by t k) ≡ found_pieces t k
-    go Missing = refl
-    go (Given v) = refl
+    go : (k : Option Value) → list_of (values_by t k) ≡ found_pieces t k
+    go None = refl
+    go (Some v) = refl
 
 -- as many widths as pieces
 cuts_long : (q : Bool) (u : List ℕ) (o : Origin) (base : ℕ) → length (map (width_at o base) (cuts_of q u)) ≡ length (comma_pieces (bytes_in q u))
 cuts_long q u o base = length-map (cuts_of q u) (width_at o base) ∙ simp length-map at (ap length (cuts_pieces q u))
 
-pub widths_long : (t : Texts) (f : Keyed) → length (found_widths t f) ≡ length (found_pieces t f)
+pub widths_long : (t : Texts) (f : Option Value) → length (found_widths t f) ≡ length (found_pieces t f)
 unfolding found_widths found_pieces value_bytes comma_pieces
-widths_long t Missing = refl
-widths_long t (Given v) = go v.text
+widths_long t None = refl
+widths_long t (Some v) = go v.text
   where
     go : (x : texts.Text) → length (widths_by t x) ≡ length (comma_pieces (text_bytes t x))
     go (text.Plain o from to) = cuts_long false (range_bytes t o from to) o from
@@ -202,7 +199,7 @@ widths_long t (Given v) = go v.text
 
 -- ---- the table
 
-table_made : (t : Texts) (a v w : Keyed) (n : ℕ) → longest_of (found_pieces t a) (found_pieces t v) (found_pieces t w) ≡ n
+table_made : (t : Texts) (a v w : Option Value) (n : ℕ) → longest_of (found_pieces t a) (found_pieces t v) (found_pieces t w) ≡ n
     → found_table t a v w ≡ cond (ltb max_columns n) (none_made TooManyColumns) (made_of (tabled (column_at (found_pieces t a) (found_pieces t v) (found_widths t w)) n 0))
 unfolding found_columns
 table_made t a v w n e = rw (e, tabled-length (column_at (found_pieces t a) (found_pieces t v) (found_widths t w)) n 0) (go (ltb max_columns n) refl)
@@ -211,8 +208,8 @@ table_made t a v w n e = rw (e, tabled-length (column_at (found_pieces t a) (fou
     cs = tabled (column_at (found_pieces t a) (found_pieces t v) (found_widths t w)) n 0
 
     go : (b : Bool) → ltb max_columns n ≡ b
-        → cond b (none_made TooManyColumns) (record { outcome = outcome.Passed; table = record { columns = found_columns t a v w; count = n } })
-        ≡ cond b (none_made TooManyColumns) (record { outcome = outcome.Passed; table = record { columns = padded max_columns zero_column cs; count = n } })
+        → cond b (none_made TooManyColumns) (record { outcome = Ok tt; table = record { columns = found_columns t a v w; count = n } })
+        ≡ cond b (none_made TooManyColumns) (record { outcome = Ok tt; table = record { columns = padded max_columns zero_column cs; count = n } })
     go true q = refl
     go false q =
         rw (columns_laid (found_pieces t a) (found_pieces t v) (found_widths t w) n (omega (arith, e)) (omega (arith, e)) (omega (arith, e, widths_long t w)) (ltb-false max_columns n q))
@@ -238,7 +235,7 @@ module _ (t : Texts) (v : Value) {q : Bool} {raw : List ℕ} (e : q ≡ is_quote
 pub widths_laid : (o : Origin) (base : ℕ) (rs : List PieceAt) (cs : List Column) → laid_on (range_at o base) rs 0 cs ≡ laid_on width_on (map (width_at o base) rs) 0 cs
 widths_laid o base rs cs = laid_map (width_at o base) width_on rs 0 cs
 
-module _ (t : Texts) (s : Attrs) {a v w : Keyed} {x y z m n : ℕ}
+module _ (t : Texts) (s : Attrs) {a v w : Option Value} {x y z m n : ℕ}
     (ea : a ≡ key_found t s aligns_name) (ev : v ≡ key_found t s valigns_name) (ew : w ≡ key_found t s widths_name)
     (ex : x ≡ length (found_pieces t a)) (ey : y ≡ length (found_pieces t v)) (ez : z ≡ length (found_pieces t w)) (em : m ≡ max y z) (en : n ≡ max x m) where
   count_is : longest_of (found_pieces t a) (found_pieces t v) (found_pieces t w) ≡ n
@@ -248,7 +245,7 @@ module _ (t : Texts) (s : Attrs) {a v w : Keyed} {x y z m n : ℕ}
   unfolding found_made
   many h = rw (← ea, ← ev, ← ew, count_is, lt-ltb max_columns n h)
 
-  pub some_made : {cs : List Column} → n ≤ max_columns → cs ≡ found_columns t a v w → record { outcome = outcome.Passed; table = record { columns = cs; count = n } } ≡ found_made t s
+  pub some_made : {cs : List Column} → n ≤ max_columns → cs ≡ found_columns t a v w → record { outcome = Ok tt; table = record { columns = cs; count = n } } ≡ found_made t s
   unfolding found_made
   some_made {cs} h d = rw (← ea, ← ev, ← ew, count_is, le-ltb max_columns n h, d)
 
@@ -263,18 +260,18 @@ seen false c t a = refl
 pub columns_no : (t : Texts) (a : Attrs) → outcome_no (columns_of t a).outcome ≡ order_no (columns_order t a)
 unfolding columns_of both_of
 columns_no t a =
-    order_no_lem (λ o. outcome_no (columns_by o t a).outcome) outcome.Refused (λ r. refl) (both_order t.first t.second) (Ground.lacking NotWellFormed (table_ok t a) ∷ Ground.given TooManyColumns (ltb max_columns (count_in (meaning_of t a))) ∷ [])
+    order_no_lem (λ o. outcome_no (columns_by o t a).outcome) Err (λ r. refl) (both_order t.first t.second) (Ground.lacking NotWellFormed (table_ok t a) ∷ Ground.given TooManyColumns (ltb max_columns (count_in (meaning_of t a))) ∷ [])
     (seen (table_ok t a) (ltb max_columns (count_in (meaning_of t a))) t a)
 
-module _ (t : Texts) (a : Attrs) {f : Made} {c : Outcome} (e : c ≡ both_of t.first t.second) where
+module _ (t : Texts) (a : Attrs) {f : Made} {c : Result (Unit {0}) Refusal} (e : c ≡ both_of t.first t.second) where
   tells : f ≡ columns_of t a → (f ≡ columns_of t a) × (outcome_no f.outcome ≡ order_no (columns_order t a))
   tells g = let r = said (λ (x : Made). outcome_no x.outcome) (columns_no t a) g in (r.value, r.result_value)
 
-  pub by_check : {r : Refusal} → c ≡ outcome.Refused r → f ≡ none_made r → (f ≡ columns_of t a) × (outcome_no f.outcome ≡ order_no (columns_order t a))
+  pub by_check : {r : Refusal} → c ≡ Err r → f ≡ none_made r → (f ≡ columns_of t a) × (outcome_no f.outcome ≡ order_no (columns_order t a))
   unfolding columns_of
   by_check q g = tells (g ∙ rw (← e, q))
 
-  module _ (p : c ≡ outcome.Passed) where
+  module _ (p : c ≡ Ok tt) where
     pub not_formed : table_ok t a ≡ false → f ≡ none_made NotWellFormed → (f ≡ columns_of t a) × (outcome_no f.outcome ≡ order_no (columns_order t a))
     unfolding columns_of
     not_formed x g = tells (g ∙ rw (← e, p, x))

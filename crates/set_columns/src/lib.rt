@@ -10,45 +10,41 @@ ghost use Rattle.set_table.specs.Types.{two};
 ghost use Rattle.set_columns.specs.Columns.{no_columns, columns_of, columns_order, none_made, widths_by, found_widths};
 ghost use Rattle.set_columns.specs.Inner.{laid_on, width_on, word_by, found_pieces, found_columns, found_made};
 
-use base_refusals::{Outcome, Refusal};
-use set_keyed::Keyed;
+use base_refusals::Refusal;
 use set_table::{Attrs, Origin, Text, Value};
 
 // What a column says of the side on which its text stands.
-#[derive(Clone, Copy)]
+#[derive(Clone, Copy, PartialEq, Eq)]
 pub enum Align {
-    Unset,
     Left,
     Right,
     Center,
 }
 
 // What a column says of the height at which its text stands.
-#[derive(Clone, Copy)]
+#[derive(Clone, Copy, PartialEq, Eq)]
 pub enum Valign {
-    Unset,
     Top,
     Middle,
     Bottom,
 }
 
 // A column's width: none, that of a bare key, which has no bytes and no place, or the bytes of a range of one of the texts, which may be none.
-#[derive(Clone, Copy)]
+#[derive(Clone, Copy, PartialEq, Eq)]
 pub enum Width {
-    Unset,
     Empty,
     Range(Origin, u16, u16),
 }
 
-#[derive(Clone, Copy)]
+#[derive(Clone, Copy, PartialEq, Eq)]
 pub struct Column {
-    pub align: Align,
-    pub valign: Valign,
-    pub width: Width,
+    pub align: Option<Align>,
+    pub valign: Option<Valign>,
+    pub width: Option<Width>,
 }
 
 // The first `count` columns count; those past it are unset.
-#[derive(Clone, Copy)]
+#[derive(Clone, Copy, PartialEq, Eq)]
 pub struct Columns {
     pub columns: [Column; Columns::MOST],
     pub count: u8,
@@ -57,7 +53,7 @@ pub struct Columns {
 // A table that is handed out, or the one without a column and why none is.
 #[derive(Clone, Copy)]
 pub struct Made {
-    pub outcome: Outcome,
+    pub outcome: Result<(), Refusal>,
     pub table: Columns,
 }
 
@@ -69,9 +65,9 @@ impl Columns {
         ensures { result ≡ no_columns }
     {
         let none = Column {
-            align: Align::Unset,
-            valign: Valign::Unset,
-            width: Width::Unset,
+            align: None,
+            valign: None,
+            width: None,
         };
         let columns = [none; Self::MOST];
         Columns {
@@ -87,18 +83,18 @@ fn refuse(r: Refusal) -> Made
 {
     let table = Columns::empty();
     Made {
-        outcome: Outcome::Refused(r),
+        outcome: Err(r),
         table: table,
     }
 }
 
 // How many pieces a list has.
-fn count_of<'a>(first: &'a [u8], second: &'a [u8], f: Keyed) -> usize
+fn count_of<'a>(first: &'a [u8], second: &'a [u8], f: Option<Value>) -> usize
     ensures { result ≡ length (found_pieces (two first.now second.now) f) }
 {
     match f {
-        Keyed::Missing => 0,
-        Keyed::Given(v) => set_commas::piece_count(
+        None => 0,
+        Some(v) => set_commas::piece_count(
             set_marks::raw_bytes(first, second, v),
             set_marks::is_quoted(v),
         ),
@@ -110,14 +106,14 @@ fn words_in<'a>(
     columns: [Column; Columns::MOST],
     first: &'a [u8],
     second: &'a [u8],
-    f: Keyed,
+    f: Option<Value>,
     vertical: bool,
 ) -> [Column; Columns::MOST]
     ensures { result ≡ laid_on (word_by vertical) (found_pieces (two first.now second.now) f) 0 columns }
 {
     match f {
-        Keyed::Missing => columns,
-        Keyed::Given(v) => lists::words_over(
+        None => columns,
+        Some(v) => lists::words_over(
             columns,
             set_marks::raw_bytes(first, second, v),
             set_marks::is_quoted(v),
@@ -142,7 +138,7 @@ fn widths_of<'a>(
         Text::Empty => {
             let mut out = columns;
             let c = out[0];
-            out[0] = lists::with_width(c, Width::Empty);
+            out[0] = lists::with_width(c, Some(Width::Empty));
             out
         }
     }
@@ -153,13 +149,13 @@ fn widths_in<'a>(
     columns: [Column; Columns::MOST],
     first: &'a [u8],
     second: &'a [u8],
-    f: Keyed,
+    f: Option<Value>,
 ) -> [Column; Columns::MOST]
     ensures { result ≡ laid_on width_on (found_widths (two first.now second.now) f) 0 columns }
 {
     match f {
-        Keyed::Missing => columns,
-        Keyed::Given(v) => widths_of(columns, first, second, v),
+        None => columns,
+        Some(v) => widths_of(columns, first, second, v),
     }
 }
 
@@ -167,9 +163,9 @@ fn widths_in<'a>(
 fn columns_of<'a>(
     first: &'a [u8],
     second: &'a [u8],
-    a: Keyed,
-    v: Keyed,
-    w: Keyed,
+    a: Option<Value>,
+    v: Option<Value>,
+    w: Option<Value>,
 ) -> [Column; Columns::MOST]
     ensures { result ≡ found_columns (two first.now second.now) a v w }
 {
@@ -210,7 +206,7 @@ fn table_of<'a>(first: &'a [u8], second: &'a [u8], set: Attrs) -> Made
         count: count as u8,
     };
     Made {
-        outcome: Outcome::Passed,
+        outcome: Ok(()),
         table: table,
     }
 }
@@ -221,8 +217,8 @@ pub fn table_columns<'a>(first: &'a [u8], second: &'a [u8], set: Attrs) -> Made
     ensures outcome_value { outcome_no result.outcome ≡ order_no (columns_order (two first.now second.now) set) }
 {
     match text_checks::check_both(first, second) {
-        Outcome::Refused(r) => refuse(r),
-        Outcome::Passed => {
+        Err(r) => refuse(r),
+        Ok(()) => {
             if !set_wellformed::table_ok(first, second, set) {
                 return refuse(Refusal::NotWellFormed);
             }

@@ -24,38 +24,38 @@ fn is_word(s: &[u8], from: usize, to: usize, quoted: bool, word: &[u8]) -> bool
 }
 
 // The align that a piece of a value names.
-fn align_of(s: &[u8], from: usize, to: usize, quoted: bool) -> Align
+fn align_of(s: &[u8], from: usize, to: usize, quoted: bool) -> Option<Align>
     ensures { result ≡ align_of (bytes_in quoted (slice from to s.now)) }
 {
     if is_word(s, from, to, quoted, b"left") {
-        return Align::Left;
+        return Some(Align::Left);
     }
     if is_word(s, from, to, quoted, b"right") {
-        return Align::Right;
+        return Some(Align::Right);
     }
     if is_word(s, from, to, quoted, b"center") {
-        return Align::Center;
+        return Some(Align::Center);
     }
-    Align::Unset
+    None
 }
 
 // The vertical align that a piece of a value names.
-fn valign_of(s: &[u8], from: usize, to: usize, quoted: bool) -> Valign
+fn valign_of(s: &[u8], from: usize, to: usize, quoted: bool) -> Option<Valign>
     ensures { result ≡ valign_of (bytes_in quoted (slice from to s.now)) }
 {
     if is_word(s, from, to, quoted, b"top") {
-        return Valign::Top;
+        return Some(Valign::Top);
     }
     if is_word(s, from, to, quoted, b"middle") {
-        return Valign::Middle;
+        return Some(Valign::Middle);
     }
     if is_word(s, from, to, quoted, b"bottom") {
-        return Valign::Bottom;
+        return Some(Valign::Bottom);
     }
-    Valign::Unset
+    None
 }
 
-fn with_align(c: Column, a: Align) -> Column
+fn with_align(c: Column, a: Option<Align>) -> Column
     ensures { result ≡ align_on a c }
 {
     let v = c.valign;
@@ -67,7 +67,7 @@ fn with_align(c: Column, a: Align) -> Column
     }
 }
 
-fn with_valign(c: Column, v: Valign) -> Column
+fn with_valign(c: Column, v: Option<Valign>) -> Column
     ensures { result ≡ valign_on v c }
 {
     let a = c.align;
@@ -89,7 +89,7 @@ fn with_word(c: Column, s: &[u8], from: usize, to: usize, quoted: bool, vertical
     with_align(c, align_of(s, from, to, quoted))
 }
 
-pub(crate) fn with_width(c: Column, w: Width) -> Column
+pub(crate) fn with_width(c: Column, w: Option<Width>) -> Column
     ensures { result ≡ width_on w c }
 {
     let a = c.align;
@@ -160,7 +160,7 @@ pub(crate) fn widths_over<'a>(
                 let c = out[i];
                 out[i] = with_width(
                     c,
-                    Width::Range(origin, (base + at) as u16, (base + end) as u16),
+                    Some(Width::Range(origin, (base + at) as u16, (base + end) as u16)),
                 );
                 break 'pieces out;
             }
@@ -168,7 +168,7 @@ pub(crate) fn widths_over<'a>(
                 let c = out[i];
                 out[i] = with_width(
                     c,
-                    Width::Range(origin, (base + at) as u16, (base + end) as u16),
+                    Some(Width::Range(origin, (base + at) as u16, (base + end) as u16)),
                 );
                 i += 1;
                 at = next;

@@ -8,14 +8,14 @@ ghost use Rattle.set_table.specs.Types.{two};
 ghost use Rattle.set_columns.specs.Columns.{columns_of, columns_order};
 ghost use Rattle.set_columns_lent.specs.Lent.{table_end, lent_columns};
 
-use base_refusals::Outcome;
+use base_refusals::Refusal;
 use set_columns::{Columns, Made};
 use set_table::Attrs;
 
 // What becomes of a lent table: what the making came to, and what the table then holds.
 #[derive(Clone, Copy)]
 pub struct Laid {
-    pub outcome: Outcome,
+    pub outcome: Result<(), Refusal>,
     pub table: Columns,
 }
 
@@ -25,13 +25,13 @@ fn table_end(was: Columns, made: Made) -> Columns
 {
     let outcome = made.outcome;
     match outcome {
-        Outcome::Refused(_) => was,
-        Outcome::Passed => made.table,
+        Err(_) => was,
+        Ok(()) => made.table,
     }
 }
 
 // What the making came to.
-fn outcome_of(made: Made) -> Outcome
+fn outcome_of(made: Made) -> Result<(), Refusal>
     ensures { result ≡ made.outcome }
 {
     made.outcome
@@ -43,7 +43,7 @@ pub fn table_columns_into<'a>(
     second: &'a [u8],
     table: &mut Columns,
     set: Attrs,
-) -> Outcome
+) -> Result<(), Refusal>
     ensures { (result ≡ (columns_of (two first.now second.now) set).outcome) × (table.new ≡ table_end table.old (columns_of (two first.now second.now) set)) × (outcome_no result ≡ order_no (columns_order (two first.now second.now) set)) }
 {
     let was = *table;

@@ -1,5 +1,7 @@
 -- The ranges a byte at a time: how they go on behind what `piece_in` answers.
 -- Assumes nothing.
+use Rattle.std.proofs.lemmas.Option.{some_pair_parts}
+use Rattle.std.specs.Prelude.{None, Option, Some}
 use mathlib.Core.Path.{◌≡◌, refl, sym, ◌∙◌}
 use mathlib.Core.Bool.{Bool, true, false, cond, ◌&&◌}
 use mathlib.Core.List.{List, [], ◌∷◌}
@@ -15,8 +17,6 @@ use Rattle.base_lists.proofs.Scan.{both}
 use Rattle.base_lists.proofs.More.{contra}
 use Rattle.base_bytes.specs.Bytes.{is_punct, within}
 use Rattle.text_escapes.specs.Unescape.{unescape, unescape_from, is_pair, piece_at}
-use Rattle.text_escapes.specs.declared.Piece.{Piece}
-use Rattle.text_escapes.specs.declared.Piece.TheVariants.{End, Byte}
 use Rattle.text_escapes.proofs.Pieces.{punct_not, pair_within, byte_at}
 use Rattle.set_marks.specs.Marks.{bytes_in, piece_in}
 use Rattle.block_grammar.specs.Meaning.{PieceAt}
@@ -75,56 +75,56 @@ unfolding cuts_from unescape unescape_from
 stops true s i h = record { past = h; bytes = rw (drop_of_length-le s h); cuts = λ from. rw (drop_of_length-le s h) }
 stops false s i h = record { past = h; bytes = drop_of_length-le s h; cuts = λ from. rw (drop_of_length-le s h) }
 
-plain_turn : (s : List ℕ) (i : ℕ) {b next : ℕ} → cond (leb (length s) i) End (Byte (get_or s i 0) (i + 1)) ≡ Byte b next → Turns false s i b next
+plain_turn : (s : List ℕ) (i : ℕ) {b next : ℕ} → cond {A = Option (ℕ × ℕ)} (leb (length s) i) None (Some (get_or s i 0, i + 1)) ≡ Some (b, next) → Turns false s i b next
 unfolding cuts_from
 plain_turn s i {b} {next} q = go (leb (length s) i) refl q
   where
-    go : (x : Bool) → leb (length s) i ≡ x → cond x End (Byte (get_or s i 0) (i + 1)) ≡ Byte b next → Turns false s i b next
+    go : (x : Bool) → leb (length s) i ≡ x → cond {A = Option (ℕ × ℕ)} x None (Some (get_or s i 0, i + 1)) ≡ Some (b, next) → Turns false s i b next
     go true h z = let z : ◌≡◌ {A = ℕ} 0 1 = cc in absurd (omega arith)
     go false h z =
         let l = leb-false (length s) i h in
-        let n : next ≡ i + 1 = cc in
-        let v : b ≡ get_or s i 0 = cc in
+        let n : next ≡ i + 1 = sym (some_pair_parts _ _ _ _ z).1 in
+        let v : b ≡ get_or s i 0 = sym (some_pair_parts _ _ _ _ z).0 in
         record { ahead = omega arith; inside = omega arith; bytes = rw (drop-cons s i 0 l, v, n, add-one) refl; cuts = λ from. rw (drop-cons s i 0 l, v, n, add-one) refl }
 
-module _ {s : List ℕ} {i : ℕ} {r : Piece} where
-  quoted_turn : {b next : ℕ} → r ≡ piece_at s i → r ≡ Byte b next → Turns true s i b next
+module _ {s : List ℕ} {i : ℕ} {r : Option (ℕ × ℕ)} where
+  quoted_turn : {b next : ℕ} → r ≡ piece_at s i → r ≡ Some (b, next) → Turns true s i b next
   unfolding piece_at is_pair
   quoted_turn {b} {next} e q = go (leb (length s) i) (is_pair s i) refl refl (sym e ∙ q)
     where
       behind : get_or (drop (suc i) s) 0 0 ≡ get_or s (i + 1) 0
       behind = get_or-drop (suc i) s 0 0 ∙ rw (add-zero, add-one)
 
-      go : (x y : Bool) → leb (length s) i ≡ x → is_pair s i ≡ y → cond x End (cond y (Byte (get_or s (i + 1) 0) (i + 2)) (Byte (get_or s i 0) (i + 1))) ≡ Byte b next → Turns true s i b next
+      go : (x y : Bool) → leb (length s) i ≡ x → is_pair s i ≡ y → cond {A = Option (ℕ × ℕ)} x None (cond y (Some (get_or s (i + 1) 0, i + 2)) (Some (get_or s i 0, i + 1))) ≡ Some (b, next) → Turns true s i b next
       go true y p h z = let z : ◌≡◌ {A = ℕ} 0 1 = cc in absurd (omega arith)
       go false true p h z =
           let l = leb-false (length s) i p in
           let w = pair_within s i h in
-          let n : next ≡ i + 2 = cc in
-          let v : b ≡ get_or s (i + 1) 0 = cc in
+          let n : next ≡ i + 2 = sym (some_pair_parts _ _ _ _ z).1 in
+          let v : b ≡ get_or s (i + 1) 0 = sym (some_pair_parts _ _ _ _ z).0 in
           let d : suc i + 1 ≡ i + 2 = omega arith in
           record { ahead = omega arith; inside = omega arith; bytes = (byte_at e q).rest; cuts = λ from. rw (drop-cons s i 0 l, v, n) (pair_front (get_or s i 0) (drop (suc i) s) from i (rw behind h) ∙ rw (behind, drop-drop 1 (suc i) s, d)) }
       go false false p h z =
           let l = leb-false (length s) i p in
-          let n : next ≡ i + 1 = cc in
-          let v : b ≡ get_or s i 0 = cc in
+          let n : next ≡ i + 1 = sym (some_pair_parts _ _ _ _ z).1 in
+          let v : b ≡ get_or s i 0 = sym (some_pair_parts _ _ _ _ z).0 in
           record { ahead = omega arith; inside = omega arith; bytes = (byte_at e q).rest; cuts = λ from. rw (drop-cons s i 0 l, v, n, add-one) (byte_front (get_or s i 0) (drop (suc i) s) from i (rw behind h)) }
 
-  pub turn_at : (q : Bool) {b next : ℕ} → r ≡ piece_in q s i → r ≡ Byte b next → Turns q s i b next
+  pub turn_at : (q : Bool) {b next : ℕ} → r ≡ piece_in q s i → r ≡ Some (b, next) → Turns q s i b next
   unfolding piece_in
   turn_at true e p = quoted_turn e p
   turn_at false e p = plain_turn s i (sym e ∙ p)
 
-  pub stop_at : (q : Bool) → r ≡ piece_in q s i → r ≡ End → Stops q s i
+  pub stop_at : (q : Bool) → r ≡ piece_in q s i → r ≡ None → Stops q s i
   unfolding piece_in piece_at
   stop_at true e p = go (leb (length s) i) refl (is_pair s i) (sym e ∙ p)
     where
-      go : (x : Bool) → leb (length s) i ≡ x → (y : Bool) → cond x End (cond y (Byte (get_or s (i + 1) 0) (i + 2)) (Byte (get_or s i 0) (i + 1))) ≡ End → Stops true s i
+      go : (x : Bool) → leb (length s) i ≡ x → (y : Bool) → cond {A = Option (ℕ × ℕ)} x None (cond y (Some (get_or s (i + 1) 0, i + 2)) (Some (get_or s i 0, i + 1))) ≡ None → Stops true s i
       go true h y z = stops true s i (leb-true (length s) i h)
       go false h true z = let z : ◌≡◌ {A = ℕ} 0 1 = cc in absurd (omega arith)
       go false h false z = let z : ◌≡◌ {A = ℕ} 0 1 = cc in absurd (omega arith)
   stop_at false e p = go (leb (length s) i) refl (sym e ∙ p)
     where
-      go : (x : Bool) → leb (length s) i ≡ x → cond x End (Byte (get_or s i 0) (i + 1)) ≡ End → Stops false s i
+      go : (x : Bool) → leb (length s) i ≡ x → cond {A = Option (ℕ × ℕ)} x None (Some (get_or s i 0, i + 1)) ≡ None → Stops false s i
       go true h z = stops false s i (leb-true (length s) i h)
       go false h z = let z : ◌≡◌ {A = ℕ} 0 1 = cc in absurd (omega arith)

@@ -5,8 +5,6 @@ ghost use Rattle.std.specs.Prelude.{◌≡◌, length};
 ghost use Rattle.set_marks.specs.Marks.{bytes_in};
 ghost use Rattle.set_commas.specs.Commas.{comma_pieces, cut_at, cut_paper};
 
-use text_escapes::Piece;
-
 // Where a piece ends: at the value's end, or at a comma, with where the next piece begins.
 #[derive(Clone, Copy)]
 pub enum Cut {
@@ -22,8 +20,8 @@ pub fn cut_from(s: &[u8], at: usize, quoted: bool) -> Cut
     let mut i = at;
     'bytes: loop {
         match set_marks::value_piece(s, i, quoted) {
-            Piece::End => break 'bytes Cut::Last(i),
-            Piece::Byte(b, next) => {
+            None => break 'bytes Cut::Last(i),
+            Some((b, next)) => {
                 if b == b',' {
                     break 'bytes Cut::Comma(i, next);
                 }
@@ -42,8 +40,8 @@ pub fn piece_count(s: &[u8], quoted: bool) -> usize
     let mut i = 0;
     'bytes: loop {
         match set_marks::value_piece(s, i, quoted) {
-            Piece::End => break 'bytes n,
-            Piece::Byte(b, next) => {
+            None => break 'bytes n,
+            Some((b, next)) => {
                 i = next;
                 if b != b',' {
                     continue 'bytes;

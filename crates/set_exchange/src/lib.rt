@@ -63,13 +63,8 @@ fn other_classes(from: [Value; Attrs::CLASSES], n: usize) -> [Value; Attrs::CLAS
     ensures { result ≡ firsts_by other_value n from }
 {
     let mut out = from;
-    let mut i: usize = 0;
-    while i < Attrs::CLASSES {
-        if n <= i {
-            return out;
-        }
-        out[i] = other_value(from[i]);
-        i += 1;
+    for v in out[..n.min(Attrs::CLASSES)].iter_mut() {
+        *v = other_value(*v);
     }
     out
 }
@@ -79,13 +74,8 @@ fn other_keys(from: [Row; Attrs::KEYS], n: usize) -> [Row; Attrs::KEYS]
     ensures { result ≡ firsts_by other_row n from }
 {
     let mut out = from;
-    let mut i: usize = 0;
-    while i < Attrs::KEYS {
-        if n <= i {
-            return out;
-        }
-        out[i] = other_row(from[i]);
-        i += 1;
+    for row in out[..n.min(Attrs::KEYS)].iter_mut() {
+        *row = other_row(*row);
     }
     out
 }

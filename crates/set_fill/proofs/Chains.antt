@@ -1,5 +1,6 @@
 -- A line of blocks: what is still to be put from a place in one of them on, and which block comes next.
 -- Assumes nothing.
+use Rattle.std.specs.Prelude.{None, Option, Some}
 use mathlib.Core.Path.{◌≡◌, refl, sym, ◌∙◌}
 use mathlib.Core.Bool.{Bool, true, false}
 use mathlib.Core.List.{List, [], ◌∷◌, ◌++◌, append_assoc, append-nil, flat_map}
@@ -16,8 +17,6 @@ use Rattle.base_bytes.specs.Bytes.{is_blank}
 use Rattle.block_grammar.specs.Grammar.{Placed, Reading}
 use Rattle.block_grammar.specs.Computed.{First, text, token_of, also, read_from, one_or_more, read_payload}
 use Rattle.block_grammar.specs.ComputedClose.{find_close}
-use Rattle.block_grammar.specs.declared.Place.{Place}
-use Rattle.block_grammar.specs.declared.Place.TheVariants.{Nothing, At}
 use Rattle.block_tokens.proofs.Steps as steps
 use Rattle.block_chain.specs.Computed.{joined, blocks_from}
 use Rattle.block_chain.proofs.Blocks as blocks
@@ -169,11 +168,11 @@ module _ (m : Mode) (w : List ℕ) (i : ℕ) where
     pub no_brace : (get_or w i 0 ≡ 123 → ⊥) → Opened m w i Unread
     no_brace n = record { told = rw (blocks.no_brace m w i h n) }
 
-    module _ (b : get_or w i 0 ≡ 123) {p : Place} (f : p ≡ find_close w (i + 1)) where
-      pub no_close : p ≡ Nothing → Opened m w i Unread
+    module _ (b : get_or w i 0 ≡ 123) {p : Option ℕ} (f : p ≡ find_close w (i + 1)) where
+      pub no_close : p ≡ None → Opened m w i Unread
       no_close q = record { told = rw (blocks.no_close m w i h b f q) }
 
-      module _ {e : ℕ} (q : p ≡ At e) where
+      module _ {e : ℕ} (q : p ≡ Some e) where
         pub inside : (i < e) × (e < length w)
         inside = blocks.within m w i h b f q
 

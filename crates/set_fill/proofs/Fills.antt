@@ -1,5 +1,6 @@
 -- The loop that fills a set: what each push does to what is still to be put, as the table goes by the laws of set_table.
 -- Assumes nothing.
+use Rattle.std.specs.Prelude.{Ok}
 use mathlib.Core.Path.{◌≡◌, refl, sym, ◌∙◌}
 use mathlib.Core.Logic.{inl, inr}
 use mathlib.Core.List.{List, [], ◌∷◌}
@@ -25,7 +26,6 @@ use Rattle.set_fill.specs.declared.Push as pushes
 use Rattle.set_fill.specs.declared.Push.TheVariants.{End, Bad}
 use Rattle.set_table.specs.declared.Filled.{Filled}
 use Rattle.set_table.specs.Filled.{refusing, limited}
-use Rattle.base_refusals.specs.declared.Outcome.TheVariants.{Passed}
 use Rattle.set_fill.specs.Inner.{Rest, before, rest_of, chain_rest, tokens_at, Opened, PutsNext, Yields, filled_from, over_of}
 use Rattle.set_fill.proofs.Chains as chains
 use Rattle.set_fill.proofs.Limits as limits
@@ -54,7 +54,7 @@ module _ {t : Texts} {m : Mode} {w : List ℕ} {whole : Filled} {a : Attrs} {e :
     bad g h = h ∙ (rw (chains.bad inv.stands y g) at inv.rest)
 
     module _ {x : nexts.Following} (o : Opened m w (e + 1) x) (g : q ≡ End) where
-      pub last : x ≡ Last → record { outcome = Passed; set = a } ≡ whole
+      pub last : x ≡ Last → record { outcome = Ok tt; set = a } ≡ whole
       unfolding filled_from limited with_puts
       last k =
           let h = inv.holds in

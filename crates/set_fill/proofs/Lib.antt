@@ -6,3 +6,4 @@ pub mod Limits
 pub mod Fills
 pub mod Whole
 pub mod Numbers
+pub mod Fronts

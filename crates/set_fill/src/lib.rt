@@ -17,8 +17,7 @@ ghost use Rattle.set_fill.specs.Fill.{fill_at, chain_at, fill_order, chain_order
 ghost use Rattle.set_fill.specs.Inner.{kind_of, tokens_from, rest_of, chain_rest, cursor_of, tokens_at, InText, Opened, Yields, piece_from, class_rest, named_rest, filled_from, over_by, over_of};
 
 use base_bytes::Mode;
-use base_refusals::{Outcome, Refusal};
-use block_grammar::Place;
+use base_refusals::Refusal;
 use block_tokens::Token;
 use set_table::{Attrs, Filled, Name, Origin, Row, Slot, SlotRecord, Text, Value};
 
@@ -91,28 +90,22 @@ fn value_of(kind: Kind, from: usize, to: usize) -> Value
 fn space_end(s: &[u8], at: usize) -> usize
     ensures { result ≡ at + run is_space (drop at s.now) }
 {
-    let mut i = at;
-    while i < s.len() {
-        if !base_bytes::is_space(s[i]) {
-            return i;
-        }
-        i += 1;
-    }
-    i
+    at + s
+        .iter()
+        .skip(at)
+        .take_while(|b| base_bytes::is_space(**b))
+        .count()
 }
 
 // Behind the bytes from `at` on that are no whitespace.
 fn piece_end(s: &[u8], at: usize) -> usize
     ensures { result ≡ at + run (λ b. not (is_space b)) (drop at s.now) }
 {
-    let mut i = at;
-    while i < s.len() {
-        if base_bytes::is_space(s[i]) {
-            return i;
-        }
-        i += 1;
-    }
-    i
+    at + s
+        .iter()
+        .skip(at)
+        .take_while(|b| !base_bytes::is_space(**b))
+        .count()
 }
 
 // The piece of a class value from `from` on.
@@ -204,8 +197,8 @@ fn next_block(w: &[u8], i: usize, mode: Mode) -> Following
         return Following::Unread;
     }
     match block_close::find_close(w, i + 1) {
-        Place::Nothing => Following::Unread,
-        Place::At(e) => {
+        None => Following::Unread,
+        Some(e) => {
             if e <= block_tokens::blank_end(&w[..e], i + 1, mode) {
                 return Following::Unread;
             }
@@ -247,6 +240,7 @@ fn passed_limit(
     let mut count = n;
     let mut end = close;
     let mut cur = c;
+    // A loop: each push says where the walk goes on, and three of the ways out are inside the match.
     'walk: loop {
         match next_push(table, &w[..end], cur, mode) {
             Push::End => match block_behind(w, end, mode) {
@@ -283,7 +277,7 @@ pub fn refusing(r: Refusal) -> Filled
 {
     let set = Attrs::empty();
     Filled {
-        outcome: Outcome::Refused(r),
+        outcome: Err(r),
         set,
     }
 }
@@ -304,11 +298,12 @@ fn fill_part(
     let mut set = Attrs::empty();
     let mut end = close;
     let mut cur = before_tokens(at);
+    // A loop: each push says where the walk goes on, and the ways out are inside the match.
     'pushes: loop {
         match next_push(table, &w[..end], cur, mode) {
             Push::End => match block_behind(w, end, mode) {
                 Following::Last => return Filled {
-                    outcome: Outcome::Passed,
+                    outcome: Ok(()),
                     set,
                 },
                 Following::Unread => return refusing(Refusal::NoReading),

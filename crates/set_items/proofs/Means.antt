@@ -1,5 +1,6 @@
 -- What is found is what the canonical text and the meaning have.
 -- Assumes nothing.
+use Rattle.std.specs.Prelude.{None, Option, Some}
 use mathlib.Core.Path.{◌≡◌, refl, sym, ◌∙◌, ap}
 use mathlib.Core.Bool.{Bool, true, false, cond}
 use mathlib.Core.List.{List, [], ◌∷◌, map, flat_map}
@@ -18,8 +19,6 @@ use Rattle.set_table.specs.declared.Slot.{Slot}
 use Rattle.set_table.specs.declared.Slot.TheVariants as slot
 use Rattle.set_items.specs.declared.Item as items
 use Rattle.set_items.specs.declared.Item.TheVariants.{Missing, Id, Class, Key}
-use Rattle.set_items.specs.declared.Found as founds
-use Rattle.set_items.specs.declared.Found.TheVariants as found
 use Rattle.set_items.specs.declared.Nth as nths
 use Rattle.set_items.specs.Items.{nth, item_as, named, unnamed, values_under}
 use Rattle.set_items.specs.Inner.{slot_items, items_in, item_of, slot_named, first_slot}
@@ -117,9 +116,9 @@ module _ (t : Texts) (a k : Attrs) (e : listed_of t k ≡ classes_once (listed_o
 
 -- ---- the values under a name
 
-abbrev values_at : Texts → Attrs → founds.Found → List (List ℕ)
-values_at t a found.Nothing = []
-values_at t a (found.At s) = (slot_entry t (rows_in a) s).values
+abbrev values_at : Texts → Attrs → Option Slot → List (List ℕ)
+values_at t a None = []
+values_at t a (Some s) = (slot_entry t (rows_in a) s).values
 
 first_values : (t : Texts) (a : Attrs) (n : List ℕ) (o : List Slot) → lookup n (map (slot_entry t (rows_in a)) o) ≡ values_at t a (first_slot (slot_named t a n) o)
 unfolding lookup first_slot slot_named
@@ -127,16 +126,16 @@ first_values t a n [] = refl
 first_values t a n (s ∷ o) = go (same (slot_entry t (rows_in a) s).name n) (first_values t a n o)
   where
     go : (b : Bool) → lookup n (map (slot_entry t (rows_in a)) o) ≡ values_at t a (first_slot (slot_named t a n) o)
-        → cond b (slot_entry t (rows_in a) s).values (lookup n (map (slot_entry t (rows_in a)) o)) ≡ values_at t a (cond b (found.At s) (first_slot (slot_named t a n) o))
+        → cond b (slot_entry t (rows_in a) s).values (lookup n (map (slot_entry t (rows_in a)) o)) ≡ values_at t a (cond b (Some s) (first_slot (slot_named t a n) o))
     go true ih = refl
     go false ih = ih
 
-module _ (t : Texts) (a k : Attrs) (e : listed_of t k ≡ classes_once (listed_of t a)) (n : List ℕ) {r : founds.Found} (p : r ≡ first_slot (slot_named t k n) (rows_in k).order) where
+module _ (t : Texts) (a k : Attrs) (e : listed_of t k ≡ classes_once (listed_of t a)) (n : List ℕ) {r : Option Slot} (p : r ≡ first_slot (slot_named t k n) (rows_in k).order) where
   under : lookup n (meaning_of t a) ≡ values_at t k r
   unfolding meaning_of listed_of meant
   under = rw (← e, p) (first_values t k n (rows_in k).order)
 
-  pub none_said : (i : ℕ) → r ≡ found.Nothing → (0 ≡ length (values_under n (meaning_of t a))) × (item_as unnamed t Missing ≡ nth i (values_under n (meaning_of t a)))
+  pub none_said : (i : ℕ) → r ≡ None → (0 ≡ length (values_under n (meaning_of t a))) × (item_as unnamed t Missing ≡ nth i (values_under n (meaning_of t a)))
   unfolding item_as
   none_said i q = rw (under, q) (refl, go i)
     where
@@ -144,7 +143,7 @@ module _ (t : Texts) (a k : Attrs) (e : listed_of t k ≡ classes_once (listed_o
       go zero = refl
       go (suc i) = refl
 
-  pub value_said : (i : ℕ) {s : Slot} {c : ℕ} {x : items.Item} → r ≡ found.At s → c ≡ length (slot_items k s) → x ≡ item_of i (slot_items k s)
+  pub value_said : (i : ℕ) {s : Slot} {c : ℕ} {x : items.Item} → r ≡ Some s → c ≡ length (slot_items k s) → x ≡ item_of i (slot_items k s)
       → (c ≡ length (values_under n (meaning_of t a))) × (item_as unnamed t x ≡ nth i (values_under n (meaning_of t a)))
   value_said i {s} q f g =
       let z : values_under n (meaning_of t a) ≡ flat_map (item_as unnamed t) (slot_items k s) = rw (under, q) (sym (slot_as k unnamed t s)) in

@@ -1,5 +1,6 @@
 -- The loops over the slots of a set, and what a slot lists.
 -- Assumes nothing.
+use Rattle.std.specs.Prelude.{None, Some}
 use mathlib.Core.Path.{◌≡◌, refl, sym, ◌∙◌, ap}
 use mathlib.Core.Bool.{Bool, true, false}
 use mathlib.Core.List.{List, [], ◌∷◌, ◌++◌, map, flat_map}
@@ -16,8 +17,6 @@ use Rattle.set_table.specs.declared.Attrs.{Attrs}
 use Rattle.set_table.specs.declared.Slot.{Slot}
 use Rattle.set_items.specs.declared.Item as items
 use Rattle.set_items.specs.declared.Item.TheVariants.{Missing, Class}
-use Rattle.set_items.specs.declared.Found as founds
-use Rattle.set_items.specs.declared.Found.TheVariants as found
 use Rattle.set_items.specs.Inner.{slot_items, items_in, item_of, first_slot}
 
 -- ---- one among the first n of a list
@@ -158,11 +157,11 @@ pub tests_start : (f : Slot → Bool) (a : Attrs) (slots : ℕ) → Passed a slo
 tests_start f a slots p = record { at = p; rest = refl }
 
 module _ {f : Slot → Bool} {a : Attrs} {slots p : ℕ} (inv : Tests f a slots p) where
-  pub tests_end : slots ≤ p → found.Nothing ≡ first_slot f (rows_in a).order
+  pub tests_end : slots ≤ p → None ≡ first_slot f (rows_in a).order
   unfolding first_slot
   tests_end h = rw (slots_end inv.at h) at inv.rest
 
-  pub tests_stop : p < slots → f (slot_in (get_or a.order p zero_slot)) ≡ true → found.At (slot_in (get_or a.order p zero_slot)) ≡ first_slot f (rows_in a).order
+  pub tests_stop : p < slots → f (slot_in (get_or a.order p zero_slot)) ≡ true → Some (slot_in (get_or a.order p zero_slot)) ≡ first_slot f (rows_in a).order
   unfolding first_slot
   tests_stop h e = rw (slots_next inv.at h, e) at inv.rest
 

@@ -1,5 +1,5 @@
 -- What private functions promise: the items of a set slot by slot. Nothing that a reader of the public promises has to believe.
-use Rattle.std.specs.Prelude.{Bool, cond, ℕ, get_or, take}
+use Rattle.std.specs.Prelude.{Bool, cond, ℕ, get_or, take, None, Option, Some}
 use mathlib.Core.List.{List, [], ◌∷◌, map, flat_map}
 use Rattle.base_lists.specs.Lists.{same}
 use Rattle.set_table.specs.Types.{Texts, zero_row}
@@ -9,8 +9,7 @@ use Rattle.set_table.specs.declared.Slot.TheVariants as slot
 use Rattle.set_table.specs.declared.Attrs.{Attrs}
 use Rattle.set_items.specs.declared.Item as items
 use Rattle.set_items.specs.declared.Item.TheVariants.{Missing, Id, Class, Key}
-use Rattle.set_items.specs.declared.Found as founds
-use Rattle.set_items.specs.declared.Found.TheVariants as found
+use Rattle.set_table.specs.declared.Slot.{Slot}
 
 -- the items that a slot lists
 unfoldable pub slot_items : Attrs → slots.Slot → List items.Item
@@ -30,6 +29,6 @@ item_of n xs = get_or xs n Missing
 unfoldable pub slot_named : Texts → Attrs → List ℕ → slots.Slot → Bool
 slot_named t a n s = same (slot_entry t (rows_in a) s).name n
 
-unfoldable pub first_slot : (slots.Slot → Bool) → List slots.Slot → founds.Found
-first_slot f [] = found.Nothing
-first_slot f (s ∷ o) = cond (f s) (found.At s) (first_slot f o)
+unfoldable pub first_slot : (slots.Slot → Bool) → List slots.Slot → Option Slot
+first_slot f [] = None
+first_slot f (s ∷ o) = cond (f s) (Some s) (first_slot f o)

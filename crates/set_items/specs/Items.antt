@@ -1,10 +1,9 @@
 -- The items of a canonical text one by one, and what is laid of one: its name, and behind it its value, unescaped.
-use Rattle.std.specs.Prelude.{ℕ, List, [], ◌∷◌, ◌++◌, map, leb, length, take, drop}
+use Rattle.std.specs.Prelude.{ℕ, List, [], ◌∷◌, ◌++◌, map, leb, length, take, drop, Result}
 use Rattle.base_lists.specs.Lists.{over}
 use Rattle.base_refusals.specs.Numbers.{outcome_no, Paper}
 use Rattle.base_refusals.specs.Orders.{Ground, order_no, met}
 use Rattle.base_refusals.specs.declared.Refusal.TheVariants.{CanonTooLong}
-use Rattle.base_refusals.specs.declared.Outcome.{Outcome}
 use Rattle.text_checks.specs.Outcomes.{or_left, unless, or_else}
 use Rattle.block_grammar.specs.Meaning.{Entry, id_name, class_name, lookup}
 use Rattle.set_canon.specs.Canon.{Pair}
@@ -12,6 +11,7 @@ use Rattle.set_table.specs.Types.{Texts, name_bytes, value_bytes}
 use Rattle.set_items.specs.declared.Item as items
 use Rattle.set_items.specs.declared.Item.TheVariants.{Missing, Id, Class, Key}
 use Rattle.set_items.specs.declared.Laid.{Laid}
+use Rattle.base_refusals.specs.declared.Refusal.{Refusal}
 
 -- the n-th of a list, counted from 0: one, or none where it isn't there
 abbrev pub nth : {A : Type 0} → ℕ → List A → List A
@@ -50,12 +50,12 @@ abbrev pub laid_bytes : List Pair → List ℕ
 laid_bytes ps = name_of ps ++ value_of ps
 
 -- what was refused before, else 10 where `size` bytes are no room for it; the lengths are told in either case
-abbrev pub laid_of : Outcome → ℕ → List Pair → Laid
+abbrev pub laid_of : Result (Unit {0}) Refusal → ℕ → List Pair → Laid
 laid_of c size ps =
     record { outcome = or_else c (unless CanonTooLong (leb (length (laid_bytes ps)) size)); name = length (name_of ps); value = length (value_of ps) }
 
 -- "A refusal touches no other lent memory": else the bytes stand at its front, the rest of it untouched
-abbrev pub laid_in : Outcome → List ℕ → List Pair → List ℕ
+abbrev pub laid_in : Result (Unit {0}) Refusal → List ℕ → List Pair → List ℕ
 laid_in c buf ps = or_left (laid_of c (length buf) ps).outcome buf (over (laid_bytes ps) buf)
 
 -- ---- on paper: the number of an answer, and the lengths of the name and of the value, which a refusal has too
@@ -64,8 +64,8 @@ abbrev pub laid_paper : Laid → Paper
 laid_paper l = record { number = outcome_no l.outcome; values = l.name ∷ l.value ∷ [] }
 
 -- "10" behind what was refused before
-abbrev pub lay_order : Outcome → ℕ → List Pair → List Ground
+abbrev pub lay_order : Result (Unit {0}) Refusal → ℕ → List Pair → List Ground
 lay_order c size ps = met c ++ (Ground.lacking CanonTooLong (leb (length (laid_bytes ps)) size) ∷ [])
 
-abbrev pub numbered_laid : Outcome → ℕ → List Pair → Paper
+abbrev pub numbered_laid : Result (Unit {0}) Refusal → ℕ → List Pair → Paper
 numbered_laid c size ps = record { number = order_no (lay_order c size ps); values = length (name_of ps) ∷ length (value_of ps) ∷ [] }

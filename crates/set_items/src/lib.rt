@@ -13,7 +13,7 @@ ghost use Rattle.set_items.specs.declared.Item.TheVariants.{Missing, Class};
 ghost use Rattle.set_items.specs.Items.{nth, item_as, named, unnamed, values_under, laid_of, laid_in, laid_paper, numbered_laid};
 ghost use Rattle.set_items.specs.Inner.{slot_items, items_in, item_of, slot_named, first_slot};
 
-use base_refusals::{Outcome, Refusal};
+use base_refusals::Refusal;
 use set_table::{Attrs, Name, Origin, Row, Slot, Text, Value};
 
 // An item of a set by what it is of, or that there is none.
@@ -35,26 +35,16 @@ pub struct Nth {
 // Whether an item was laid, and how many bytes its name and its value have.
 #[derive(Clone, Copy)]
 pub struct Laid {
-    pub outcome: Outcome,
+    pub outcome: Result<(), Refusal>,
     pub name: usize,
     pub value: usize,
-}
-
-// The slot that has a name.
-#[derive(Clone, Copy)]
-enum Found {
-    Nothing,
-    At(Slot),
 }
 
 // The lesser of two numbers.
 fn least(a: usize, b: usize) -> usize
     ensures { result ≡ min a b }
 {
-    if a <= b {
-        return a;
-    }
-    b
+    a.min(b)
 }
 
 // A row among the first n; what lies past them is zero.
@@ -147,12 +137,8 @@ fn count_in(set: Attrs) -> usize
 {
     let slots = least(set.norder as usize, Attrs::SLOTS);
     let mut n: usize = 0;
-    let mut p: usize = 0;
-    while p < slots {
-        let place = set.order[p];
-        let slot = place.slot;
-        n += slot_count(set, slot);
-        p += 1;
+    for p in 0..slots {
+        n += slot_count(set, set.order[p].slot);
     }
     n
 }
@@ -163,16 +149,13 @@ fn item_in(set: Attrs, n: usize) -> Item
 {
     let slots = least(set.norder as usize, Attrs::SLOTS);
     let mut left = n;
-    let mut p: usize = 0;
-    while p < slots {
-        let place = set.order[p];
-        let slot = place.slot;
+    for p in 0..slots {
+        let slot = set.order[p].slot;
         let many = slot_count(set, slot);
         if left < many {
             return slot_item(set, slot, left);
         }
         left -= many;
-        p += 1;
     }
     Item::Missing
 }
@@ -194,20 +177,17 @@ fn slot_named<'a>(first: &'a [u8], second: &'a [u8], set: Attrs, name: &[u8], sl
 }
 
 // The first slot that has the name.
-fn slot_of<'a>(first: &'a [u8], second: &'a [u8], set: Attrs, name: &[u8]) -> Found
+fn slot_of<'a>(first: &'a [u8], second: &'a [u8], set: Attrs, name: &[u8]) -> Option<Slot>
     ensures { result ≡ first_slot (slot_named (two first.now second.now) set name.now) (rows_in set).order }
 {
     let slots = least(set.norder as usize, Attrs::SLOTS);
-    let mut p: usize = 0;
-    while p < slots {
-        let place = set.order[p];
-        let slot = place.slot;
+    for p in 0..slots {
+        let slot = set.order[p].slot;
         if slot_named(first, second, set, name, slot) {
-            return Found::At(slot);
+            return Some(slot);
         }
-        p += 1;
     }
-    Found::Nothing
+    None
 }
 
 // The n-th item of the canonical text, counted from 0, and how many it has.
@@ -228,11 +208,11 @@ pub fn value_at<'a>(first: &'a [u8], second: &'a [u8], set: Attrs, name: &[u8], 
 {
     let kept = set_once::classes_once(first, second, set);
     match slot_of(first, second, kept, name) {
-        Found::Nothing => Nth {
+        None => Nth {
             count: 0,
             item: Item::Missing,
         },
-        Found::At(slot) => {
+        Some(slot) => {
             let count = slot_count(kept, slot);
             let item = slot_item(kept, slot, n);
             Nth { count, item }
@@ -263,26 +243,22 @@ fn put_value(out: &mut [u8], at: usize, s: &[u8], quoted: bool)
 }
 
 // What was refused before, or else that so many bytes have no room.
-fn room_of(c: Outcome, n: usize, v: usize, size: usize) -> Outcome
+fn room_of(c: Result<(), Refusal>, n: usize, v: usize, size: usize) -> Result<(), Refusal>
     ensures { result ≡ or_else c (unless CanonTooLong (leb (n + v) size)) }
 {
-    match c {
-        Outcome::Refused(r) => Outcome::Refused(r),
-        Outcome::Passed => {
-            if size < n {
-                return Outcome::Refused(Refusal::CanonTooLong);
-            }
-            if size - n < v {
-                return Outcome::Refused(Refusal::CanonTooLong);
-            }
-            Outcome::Passed
-        }
+    c?;
+    if size < n {
+        return Err(Refusal::CanonTooLong);
     }
+    if size - n < v {
+        return Err(Refusal::CanonTooLong);
+    }
+    Ok(())
 }
 
 // Lays a name and a value at the front of lent memory, unless something refuses it.
 fn lay_pair<'a>(
-    c: Outcome,
+    c: Result<(), Refusal>,
     name: &[u8],
     first: &'a [u8],
     second: &'a [u8],
@@ -297,16 +273,16 @@ fn lay_pair<'a>(
     let n = name.len();
     let v = value_len(s, quoted);
     match room_of(c, n, v, out.len()) {
-        Outcome::Refused(why) => Laid {
-            outcome: Outcome::Refused(why),
+        Err(why) => Laid {
+            outcome: Err(why),
             name: n,
             value: v,
         },
-        Outcome::Passed => {
+        Ok(()) => {
             base_lists::put_bytes(out, 0, name);
             put_value(out, n, s, quoted);
             Laid {
-                outcome: Outcome::Passed,
+                outcome: Ok(()),
                 name: n,
                 value: v,
             }
@@ -315,7 +291,13 @@ fn lay_pair<'a>(
 }
 
 // Lays a key's name and value.
-fn lay_key<'a>(c: Outcome, first: &'a [u8], second: &'a [u8], row: Row, out: &mut [u8]) -> Laid
+fn lay_key<'a>(
+    c: Result<(), Refusal>,
+    first: &'a [u8],
+    second: &'a [u8],
+    row: Row,
+    out: &mut [u8],
+) -> Laid
     ensures value { result ≡ laid_of c (length out.old) (named (name_bytes (two first.now second.now) row.name) (value_bytes (two first.now second.now) row.value) ∷ []) }
     ensures out_after { out.new ≡ laid_in c out.old (named (name_bytes (two first.now second.now) row.name) (value_bytes (two first.now second.now) row.value) ∷ []) }
 {
@@ -335,7 +317,7 @@ fn lay_key<'a>(c: Outcome, first: &'a [u8], second: &'a [u8], row: Row, out: &mu
 
 // Lays an item's name, and its value behind that, at the front of lent memory, unless something refuses it.
 pub fn lay_item<'a>(
-    c: Outcome,
+    c: Result<(), Refusal>,
     first: &'a [u8],
     second: &'a [u8],
     item: Item,
@@ -359,7 +341,7 @@ pub fn lay_item<'a>(
 
 // Lays an item's value alone.
 pub fn lay_value<'a>(
-    c: Outcome,
+    c: Result<(), Refusal>,
     first: &'a [u8],
     second: &'a [u8],
     item: Item,

@@ -12,15 +12,7 @@ ghost use Rattle.text_digits.specs.Digits.{digits_of, number_in, decimal_paper};
 ghost use Rattle.set_keyed.specs.Keyed.{values_by, keyed_paper, slot_found, key_in, key_found};
 
 use set_table::{Attrs, Name, Origin, Row, Slot, SlotRecord, Text, Value};
-use text_digits::{Decimal, Digits};
-use text_escapes::Piece;
-
-// The value of a key, or that no slot has it.
-#[derive(Clone, Copy)]
-pub enum Keyed {
-    Missing,
-    Given(Value),
-}
+use text_digits::Digits;
 
 // A row among the first n; what lies past them is zero.
 fn row_at(keys: [Row; Attrs::KEYS], n: usize, k: usize) -> Row
@@ -50,20 +42,20 @@ fn slot_found<'a>(
     n: usize,
     name: &[u8],
     slot: Slot,
-) -> Keyed
+) -> Option<Value>
     ensures { result ≡ slot_found (two first.now second.now) (take n keys) name.now slot }
 {
     match slot {
-        Slot::Id => Keyed::Missing,
-        Slot::Class => Keyed::Missing,
+        Slot::Id => None,
+        Slot::Class => None,
         Slot::Key(k) => {
             let row = row_at(keys, n, k as usize);
             let m = row.name;
             if set_table::is_named(first, second, m, name) {
                 let v = row.value;
-                return Keyed::Given(v);
+                return Some(v);
             }
-            Keyed::Missing
+            None
         }
     }
 }
@@ -77,27 +69,19 @@ fn found_in<'a>(
     name: &[u8],
     order: [SlotRecord; Attrs::SLOTS],
     n: usize,
-) -> Keyed
+) -> Option<Value>
     ensures { result ≡ key_in (two first.now second.now) (take nkey keys) name.now (map slot_in (take n order)) }
 {
-    let mut k = 0;
-    while k < Attrs::SLOTS {
-        if n <= k {
-            return Keyed::Missing;
+    for p in order[..n.min(Attrs::SLOTS)].iter() {
+        if let Some(v) = slot_found(first, second, keys, nkey, name, p.slot) {
+            return Some(v);
         }
-        let p = order[k];
-        let s = p.slot;
-        let f = slot_found(first, second, keys, nkey, name, s);
-        if let Keyed::Given(v) = f {
-            return Keyed::Given(v);
-        }
-        k += 1;
     }
-    Keyed::Missing
+    None
 }
 
 // The value of the key of that name: what the set's meaning has under it, where a key may have the name.
-pub fn find<'a>(first: &'a [u8], second: &'a [u8], set: Attrs, name: &[u8]) -> Keyed
+pub fn find<'a>(first: &'a [u8], second: &'a [u8], set: Attrs, name: &[u8]) -> Option<Value>
     ensures value { result ≡ key_found (two first.now second.now) set name.now }
     ensures result_value { is_free name.now ≡ true → values_by (two first.now second.now) result ≡ lookup name.now (meaning_of (two first.now second.now) set) }
     ensures result_value_2 { keyed_paper (two first.now second.now) result ≡ keyed_paper (two first.now second.now) (key_found (two first.now second.now) set name.now) }
@@ -132,20 +116,15 @@ fn read_raw(s: &[u8], quoted: bool, most: u64) -> Digits
 {
     let mut d = Digits::NoDigit;
     let mut i = 0;
-    'pieces: loop {
-        match set_marks::value_piece(s, i, quoted) {
-            Piece::End => break 'pieces d,
-            Piece::Byte(b, next) => {
-                d = text_digits::step(d, b, most);
-                i = next;
-                continue 'pieces;
-            }
-        }
+    while let Some((b, next)) = set_marks::value_piece(s, i, quoted) {
+        d = text_digits::step(d, b, most);
+        i = next;
     }
+    d
 }
 
 // The number that a value is, if it is one up to the bound.
-pub fn value_number<'a>(first: &'a [u8], second: &'a [u8], value: Value, most: u64) -> Decimal
+pub fn value_number<'a>(first: &'a [u8], second: &'a [u8], value: Value, most: u64) -> Option<u64>
     ensures value { result ≡ number_in most (value_bytes (two first.now second.now) value) }
     ensures result_value { decimal_paper result ≡ decimal_paper (number_in most (value_bytes (two first.now second.now) value)) }
 {

@@ -10,22 +10,22 @@ ghost use Rattle.set_merge.specs.Merge.{merge_of, merge_order};
 ghost use Rattle.set_loose.specs.Loose.{is_loose, loose_of, loose_order, acted_no, did_paper};
 ghost use Rattle.set_lent.specs.Lent.{end_of, loose_end, lent_both, lent_loose};
 
-use base_refusals::Outcome;
-use set_loose::{Consumed, Did};
+use base_refusals::Refusal;
+use set_loose::Consumed;
 use set_table::{Attrs, Filled};
 
 // What becomes of a lent set into which one set is merged from before and another from behind.
 #[derive(Clone, Copy)]
 pub struct Both {
-    pub led: Outcome,
-    pub merged: Outcome,
+    pub led: Result<(), Refusal>,
+    pub merged: Result<(), Refusal>,
     pub set: Attrs,
 }
 
 // What becomes of a lent set out of which the key `loose` is taken: the answer, and what the set then holds.
 #[derive(Clone, Copy)]
 pub struct Left {
-    pub did: Did,
+    pub did: Result<bool, Refusal>,
     pub set: Attrs,
 }
 
@@ -35,8 +35,8 @@ fn end_of(was: Attrs, merged: Filled) -> Attrs
 {
     let outcome = merged.outcome;
     match outcome {
-        Outcome::Refused(_) => was,
-        Outcome::Passed => merged.set,
+        Err(_) => was,
+        Ok(()) => merged.set,
     }
 }
 
@@ -46,7 +46,7 @@ pub fn merge_into<'a>(
     second: &'a [u8],
     target: &mut Attrs,
     incoming: Attrs,
-) -> Outcome
+) -> Result<(), Refusal>
     ensures { (result ≡ (merge_of (two first.now second.now) target.old incoming).outcome) × (target.new ≡ end_of target.old (merge_of (two first.now second.now) target.old incoming)) × (outcome_no result ≡ order_no (merge_order (two first.now second.now) target.old incoming)) }
 {
     let was = *target;
@@ -61,7 +61,7 @@ pub fn merge_leading_into<'a>(
     second: &'a [u8],
     target: &mut Attrs,
     leading: Attrs,
-) -> Outcome
+) -> Result<(), Refusal>
     ensures { (result ≡ (merge_of (two first.now second.now) leading target.old).outcome) × (target.new ≡ end_of target.old (merge_of (two first.now second.now) leading target.old)) × (outcome_no result ≡ order_no (merge_order (two first.now second.now) leading target.old)) }
 {
     let was = *target;
@@ -92,14 +92,18 @@ fn loose_end(was: Attrs, consumed: Consumed) -> Attrs
 {
     let did = consumed.did;
     match did {
-        Did::Refused(_) => was,
-        Did::Yes => consumed.set,
-        Did::No => was,
+        Err(_) => was,
+        Ok(true) => consumed.set,
+        Ok(false) => was,
     }
 }
 
 // Where the key `loose` of the lent set has no value, takes it out of the set. On no and on a refusal the set stays as it was.
-pub fn consume_loose_in<'a>(first: &'a [u8], second: &'a [u8], set: &mut Attrs) -> Did
+pub fn consume_loose_in<'a>(
+    first: &'a [u8],
+    second: &'a [u8],
+    set: &mut Attrs,
+) -> Result<bool, Refusal>
     ensures { (result ≡ (loose_of (two first.now second.now) set.old).did) × (set.new ≡ loose_end set.old (loose_of (two first.now second.now) set.old)) × (did_paper result ≡ on_paper (loose_order (two first.now second.now) set.old) (acted_no (is_loose (meaning_of (two first.now second.now) set.old)) ∷ [])) }
 {
     let was = *set;

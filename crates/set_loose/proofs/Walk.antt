@@ -1,5 +1,6 @@
 -- The two loops that write the rows and the slots without one, and the table of both.
 -- Assumes nothing.
+use Rattle.std.specs.Prelude.{None, Option, Some}
 use mathlib.Core.Path.{◌≡◌, refl, sym, ◌∙◌, ap}
 use mathlib.Core.Bool.{Bool, true, false, cond}
 use mathlib.Core.List.{List, [], ◌∷◌, ◌++◌, map, map-append, append_assoc, append-nil}
@@ -19,8 +20,6 @@ use Rattle.set_table.specs.declared.Slot.TheVariants.{Id, Class, Key}
 use Rattle.set_table.specs.declared.SlotRecord.{SlotRecord}
 use Rattle.set_table.specs.declared.Attrs.{Attrs}
 use Rattle.set_table.proofs.Table.{padded_more}
-use Rattle.set_loose.specs.declared.Kept.{Kept}
-use Rattle.set_loose.specs.declared.Kept.TheVariants.{Gone, Stays}
 use Rattle.set_loose.specs.Without.{without_at, lowered, slots_without}
 use Rattle.set_loose.specs.Inner.{raised, kept_of}
 use Rattle.set_loose.proofs.Without.{gone-length, gone_get}
@@ -84,13 +83,13 @@ unfolding padded
 keeps-start k order n = record { done = []; is = refl; long = refl; few = zero-le; within = zero-le; rest = refl }
 
 module _ {k : ℕ} {order : List SlotRecord} {n : ℕ} {out : List SlotRecord} {i j : ℕ} (inv : Keeps k order n out i j) (long : length order ≡ max_slots) (l : n ≤ max_slots) where
-  module _ (h : i < n) {r : Kept} (e : r ≡ kept_of k (slot_in (get_or order i zero_slot))) where
+  module _ (h : i < n) {r : Option Slot} (e : r ≡ kept_of k (slot_in (get_or order i zero_slot))) where
     step : drop i (take n order) ≡ get_or order i zero_slot ∷ drop (suc i) (take n order)
     step =
         let z = length-take-le n order (omega arith) in
         drop-cons (take n order) i zero_slot (omega arith) ∙ rw (get_or-take n order i zero_slot h)
 
-    pub keeps-gone : r ≡ Gone → Keeps k order n out (i + 1) j
+    pub keeps-gone : r ≡ None → Keeps k order n out (i + 1) j
     unfolding slots_without
     keeps-gone p =
         record {
@@ -104,10 +103,10 @@ module _ {k : ℕ} {order : List SlotRecord} {n : ℕ} {out : List SlotRecord} {
       where
         gone : (b : Bool) → is_slot (Key k) (slot_in (get_or order i zero_slot)) ≡ b → is_slot (Key k) (slot_in (get_or order i zero_slot)) ≡ true
         gone true q = q
-        gone false q = let y : kept_of k (slot_in (get_or order i zero_slot)) ≡ Stays (lowered k (slot_in (get_or order i zero_slot))) = rw q in
+        gone false q = let y : kept_of k (slot_in (get_or order i zero_slot)) ≡ Some (lowered k (slot_in (get_or order i zero_slot))) = rw q in
             let z : ◌≡◌ {A = ℕ} 0 1 = cc in absurd (omega arith)
 
-    pub keeps_stays : {x : Slot} → r ≡ Stays x → Keeps k order n (set out j (held x)) (i + 1) (j + 1)
+    pub keeps_stays : {x : Slot} → r ≡ Some x → Keeps k order n (set out j (held x)) (i + 1) (j + 1)
     unfolding slots_without
     keeps_stays {x} p =
         let s = stays (is_slot (Key k) (slot_in (get_or order i zero_slot))) refl in
@@ -124,12 +123,9 @@ module _ {k : ℕ} {order : List SlotRecord} {n : ℕ} {out : List SlotRecord} {
       where
         stays : (b : Bool) → is_slot (Key k) (slot_in (get_or order i zero_slot)) ≡ b
             → (is_slot (Key k) (slot_in (get_or order i zero_slot)) ≡ false) × (lowered k (slot_in (get_or order i zero_slot)) ≡ x)
-        stays true q = let y : kept_of k (slot_in (get_or order i zero_slot)) ≡ Gone = rw q in
+        stays true q = let y : kept_of k (slot_in (get_or order i zero_slot)) ≡ None = rw q in
             let z : ◌≡◌ {A = ℕ} 0 1 = cc in absurd (omega arith)
-        stays false q = let y : kept_of k (slot_in (get_or order i zero_slot)) ≡ Stays (lowered k (slot_in (get_or order i zero_slot))) = rw q in (q, cc)
-
-  pub keeps_room : i < n → j < max_slots
-  keeps_room h = omega (arith, inv.few)
+        stays false q = let y : kept_of k (slot_in (get_or order i zero_slot)) ≡ Some (lowered k (slot_in (get_or order i zero_slot))) = rw q in (q, cc)
 
   pub keeps_end : n ≤ i → out ≡ padded max_slots zero_slot (map held (slots_without k (map slot_in (take n order))))
   unfolding slots_without

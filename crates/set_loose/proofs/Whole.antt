@@ -1,5 +1,6 @@
 -- The set without its row, and which answer is given.
 -- Assumes nothing.
+use Rattle.std.specs.Prelude.{Err, Ok, Result}
 use mathlib.Core.Path.{◌≡◌, refl, sym, ◌∙◌, ap}
 use mathlib.Core.Bool.{Bool, true, false, cond, not}
 use mathlib.Core.List.{List, [], ◌∷◌, map, flat_map}
@@ -15,13 +16,12 @@ use Rattle.text_escapes.specs.Unescape.{unescape, unescape_from}
 use Rattle.set_marks.specs.Marks.{bytes_in, raw_bytes, is_quoted}
 use Rattle.set_marks.proofs.Values.{raw_value}
 use Rattle.block_grammar.specs.Meaning.{lookup}
+use Rattle.base_refusals.specs.Numbers.{passed, refused}
 use Rattle.base_refusals.specs.Orders.{Ground, in_order, on_paper}
 use Rattle.base_refusals.proofs.Orders.{paper_by}
 use Rattle.base_refusals.proofs.Said.{said}
 use Rattle.base_refusals.specs.declared.Refusal.{Refusal}
 use Rattle.base_refusals.specs.declared.Refusal.TheVariants.{NotWellFormed}
-use Rattle.base_refusals.specs.declared.Outcome.{Outcome}
-use Rattle.base_refusals.specs.declared.Outcome.TheVariants as outcome
 use Rattle.text_checks.specs.Check.{both_order, both_of}
 use Rattle.set_table.specs.Types.{Texts, max_classes, max_keys, max_slots, zero_value, zero_row, zero_slot, empty_set, value_bytes}
 use Rattle.set_table.specs.Rows.{padded, held, slot_in, table_of, rows_in, with_puts, listed_of, meaning_of}
@@ -39,8 +39,6 @@ use Rattle.set_wellformed.proofs.Shape.{shaped}
 use Rattle.set_merge.specs.Merge.{merge_of}
 use Rattle.set_merge.proofs.Whole.{counts, few}
 use Rattle.set_loose.specs.declared.Consumed.{Consumed}
-use Rattle.set_loose.specs.declared.Did.{Did}
-use Rattle.set_loose.specs.declared.Did.TheVariants as did
 use Rattle.set_loose.specs.Without.{without_at, slots_without, without_row}
 use Rattle.set_loose.specs.Loose.{loose_name, is_loose, row_named, without_loose, consumed_by, not_consumed, loose_by, loose_of, loose_order, acted_no, did_paper}
 use Rattle.set_loose.specs.Inner.{Ready, Clean}
@@ -110,10 +108,10 @@ module _ {t : Texts} {a : Attrs} (h : Clean t a) {k : ℕ} (e : k ≡ row_named 
   unfolding rows_in
   row_is_lem = e
 
-  stays : is_loose (meaning_of t a) ≡ false → record { did = did.No; set = a } ≡ consumed_by (is_loose (meaning_of t a)) t (rows_in a)
+  stays : is_loose (meaning_of t a) ≡ false → record { did = Ok false; set = a } ≡ consumed_by (is_loose (meaning_of t a)) t (rows_in a)
   stays q = rw (q, ← h.clean)
 
-  pub no_key : a.nkey ≤ k → record { did = did.No; set = a } ≡ consumed_by (is_loose (meaning_of t a)) t (rows_in a)
+  pub no_key : a.nkey ≤ k → record { did = Ok false; set = a } ≡ consumed_by (is_loose (meaning_of t a)) t (rows_in a)
   unfolding is_loose
   no_key l = stays (rw (means, le-ltb k a.nkey l))
 
@@ -134,11 +132,11 @@ module _ {t : Texts} {a : Attrs} (h : Clean t a) {k : ℕ} (e : k ≡ row_named 
       unfolding is_loose
       acts = rw (means, lt-ltb k a.nkey l, value)
 
-      pub no_bare : 0 < length raw → record { did = did.No; set = a } ≡ consumed_by (is_loose (meaning_of t a)) t (rows_in a)
+      pub no_bare : 0 < length raw → record { did = Ok false; set = a } ≡ consumed_by (is_loose (meaning_of t a)) t (rows_in a)
       no_bare p = stays (acts ∙ rw (some_long raw p))
 
-      pub yes_bare : {b : Attrs} → length raw ≤ 0 → b ≡ table_of (without_row k (rows_in a)) → record { did = did.Yes; set = b } ≡ consumed_by (is_loose (meaning_of t a)) t (rows_in a)
-      yes_bare p g = rw (acts, none_long raw p) (ap (λ x. record { did = did.Yes; set = x }) (g ∙ ap (λ j. table_of (without_row j (rows_in a))) row_is_lem))
+      pub yes_bare : {b : Attrs} → length raw ≤ 0 → b ≡ table_of (without_row k (rows_in a)) → record { did = Ok true; set = b } ≡ consumed_by (is_loose (meaning_of t a)) t (rows_in a)
+      yes_bare p g = rw (acts, none_long raw p) (ap (λ x. record { did = Ok true; set = x }) (g ∙ ap (λ j. table_of (without_row j (rows_in a))) row_is_lem))
 
 -- ---- the checks, by a merge with nothing
 none_formed : (t : Texts) → table_ok t empty_set ≡ true
@@ -146,7 +144,7 @@ unfolding table_ok counts_ok rows_in rows_ok all keys_apart slots_ok keys_once t
 none_formed t = refl
 
 module _ (t : Texts) (a : Attrs) where
-  merge_none : both_of t.first t.second ≡ outcome.Passed → table_ok t a ≡ true → merge_of t a empty_set ≡ record { outcome = outcome.Passed; set = table_of (rows_in a) }
+  merge_none : both_of t.first t.second ≡ Ok tt → table_ok t a ≡ true → merge_of t a empty_set ≡ record { outcome = Ok tt; set = table_of (rows_in a) }
   unfolding merge_of limited flat_map with_puts rows_in
   merge_none p h =
       let s = rows_in a in
@@ -170,44 +168,44 @@ module _ (t : Texts) (a : Attrs) where
   same-meaning = rw (rows_table (rows_in a))
 
   module _ {f : Filled} (e : f ≡ merge_of t a empty_set) where
-    pub refused_loose : {r : Refusal} → f.outcome ≡ outcome.Refused r → record { did = did.Refused r; set = f.set } ≡ loose_of t a
+    pub refused_loose : {r : Refusal} → f.outcome ≡ Err r → record { did = Err r; set = f.set } ≡ loose_of t a
     unfolding loose_of merge_of
     refused_loose {r} p = go (both_of t.first t.second) refl (table_ok t a) refl
       where
-        go : (c : Outcome) → both_of t.first t.second ≡ c → (b : Bool) → table_ok t a ≡ b → record { did = did.Refused r; set = f.set } ≡ loose_by (both_of t.first t.second) t a
-        go (outcome.Refused x) q b z =
+        go : (c : Result (Unit {0}) Refusal) → both_of t.first t.second ≡ c → (b : Bool) → table_ok t a ≡ b → record { did = Err r; set = f.set } ≡ loose_by (both_of t.first t.second) t a
+        go (Err x) q b z =
             let g : f ≡ refusing x = rw q at e in
-            let y : outcome.Refused x ≡ outcome.Refused r = sym (ap (λ u. u.outcome) g) ∙ p in
+            let y : refused x ≡ Err r = sym (ap (λ u. u.outcome) g) ∙ p in
             let n : x ≡ r = cc in
             rw (q, g, n)
-        go outcome.Passed q false z =
+        go (Ok tt) q false z =
             let g : f ≡ refusing NotWellFormed = rw (q, z) at e in
-            let y : outcome.Refused NotWellFormed ≡ outcome.Refused r = sym (ap (λ u. u.outcome) g) ∙ p in
+            let y : refused NotWellFormed ≡ Err r = sym (ap (λ u. u.outcome) g) ∙ p in
             let n : NotWellFormed ≡ r = cc in
             rw (q, z, g, ← n)
-        go outcome.Passed q true z =
-            let g : f ≡ record { outcome = outcome.Passed; set = table_of (rows_in a) } = e ∙ merge_none q z in
-            let y : outcome.Passed ≡ outcome.Refused r = sym (ap (λ u. u.outcome) g) ∙ p in
+        go (Ok tt) q true z =
+            let g : f ≡ record { outcome = Ok tt; set = table_of (rows_in a) } = e ∙ merge_none q z in
+            let y : passed ≡ Err r = sym (ap (λ u. u.outcome) g) ∙ p in
             let w : ◌≡◌ {A = ℕ} 0 1 = cc in
             absurd (omega arith)
 
-    pub done_loose : f.outcome ≡ outcome.Passed → (Clean t f.set) × (consumed_by (is_loose (meaning_of t f.set)) t (rows_in f.set) ≡ loose_of t a)
+    pub done_loose : f.outcome ≡ Ok tt → (Clean t f.set) × (consumed_by (is_loose (meaning_of t f.set)) t (rows_in f.set) ≡ loose_of t a)
     unfolding loose_of merge_of
     done_loose p = go (both_of t.first t.second) refl (table_ok t a) refl
       where
-        go : (c : Outcome) → both_of t.first t.second ≡ c → (b : Bool) → table_ok t a ≡ b
+        go : (c : Result (Unit {0}) Refusal) → both_of t.first t.second ≡ c → (b : Bool) → table_ok t a ≡ b
             → (Clean t f.set) × (consumed_by (is_loose (meaning_of t f.set)) t (rows_in f.set) ≡ loose_by (both_of t.first t.second) t a)
-        go (outcome.Refused x) q b z =
+        go (Err x) q b z =
             let g : f ≡ refusing x = rw q at e in
-            let y : outcome.Refused x ≡ outcome.Passed = sym (ap (λ u. u.outcome) g) ∙ p in
+            let y : Err x ≡ (Ok tt) = sym (ap (λ u. u.outcome) g) ∙ p in
             let w : ◌≡◌ {A = ℕ} 0 1 = cc in
             absurd (omega arith)
-        go outcome.Passed q false z =
+        go (Ok tt) q false z =
             let g : f ≡ refusing NotWellFormed = rw (q, z) at e in
-            let y : outcome.Refused NotWellFormed ≡ outcome.Passed = sym (ap (λ u. u.outcome) g) ∙ p in
+            let y : Err NotWellFormed ≡ (Ok tt) = sym (ap (λ u. u.outcome) g) ∙ p in
             let w : ◌≡◌ {A = ℕ} 0 1 = cc in
             absurd (omega arith)
-        go outcome.Passed q true z =
+        go (Ok tt) q true z =
             let g : f.set ≡ table_of (rows_in a) = ap (λ u. u.set) (e ∙ merge_none q z) in
             (rw g (cleaned z), rw (q, z, g, same-meaning, rows_table (rows_in a)))
 
@@ -225,7 +223,7 @@ lacked false t a = refl
 pub loose_no : (t : Texts) (a : Attrs) → did_paper (loose_of t a).did ≡ on_paper (loose_order t a) (acted_no (is_loose (meaning_of t a)) ∷ [])
 unfolding loose_of both_of
 loose_no t a =
-    paper_by (λ o. did_paper (loose_by o t a).did) outcome.Refused (acted_no (is_loose (meaning_of t a)) ∷ []) (λ r. refl) (both_order t.first t.second) (Ground.lacking NotWellFormed (table_ok t a) ∷ []) (lacked (table_ok t a) t a)
+    paper_by (λ o. did_paper (loose_by o t a).did) Err (acted_no (is_loose (meaning_of t a)) ∷ []) (λ r. refl) (both_order t.first t.second) (Ground.lacking NotWellFormed (table_ok t a) ∷ []) (lacked (table_ok t a) t a)
 
 pub loose_said : (t : Texts) (a : Attrs) {c : Consumed} → c ≡ loose_of t a → record { value : c ≡ loose_of t a; did_value : did_paper c.did ≡ on_paper (loose_order t a) (acted_no (is_loose (meaning_of t a)) ∷ []) }
 loose_said t a e = let r = said (λ x. did_paper x.did) (loose_no t a) e in record { value = r.value; did_value = r.result_value }

@@ -9,29 +9,14 @@ ghost use Rattle.set_loose.specs.Without.{without_at, slots_without, without_row
 ghost use Rattle.set_loose.specs.Loose.{is_loose, row_named, consumed_by, loose_of, loose_order, acted_no, did_paper};
 ghost use Rattle.set_loose.specs.Inner.{raised, kept_of, Ready, Clean};
 
-use base_refusals::{Outcome, Refusal};
+use base_refusals::Refusal;
 use set_table::{Attrs, Name, Origin, Row, Slot, SlotRecord, Text, Value};
-
-// Whether the key was there without a value, and so was taken out.
-#[derive(Clone, Copy)]
-pub enum Did {
-    Refused(Refusal),
-    Yes,
-    No,
-}
 
 // The answer, and the set that is left; that of a refusal is empty.
 #[derive(Clone, Copy)]
 pub struct Consumed {
-    pub did: Did,
+    pub did: Result<bool, Refusal>,
     pub set: Attrs,
-}
-
-// What becomes of a slot.
-#[derive(Clone, Copy)]
-enum Kept {
-    Gone,
-    Stays(Slot),
 }
 
 // The row among the first n that has the name, or how many rows were looked at where none has.
@@ -44,19 +29,12 @@ fn row_named<'a>(
 ) -> usize
     ensures { result ≡ row_named (two first.now second.now) name.now (take n keys) }
 {
-    let mut k = 0;
-    while k < Attrs::KEYS {
-        if n <= k {
+    for (k, row) in keys.iter().enumerate() {
+        if n <= k || set_table::is_named(first, second, row.name, name) {
             return k;
         }
-        let row = keys[k];
-        let m = row.name;
-        if set_table::is_named(first, second, m, name) {
-            return k;
-        }
-        k += 1;
     }
-    k
+    Attrs::KEYS
 }
 
 // Where row j of the rows without row k stood.
@@ -82,30 +60,27 @@ fn rows_without(keys: [Row; Attrs::KEYS], n: usize, k: usize) -> [Row; Attrs::KE
         },
     };
     let mut out = [none; Attrs::KEYS];
-    let mut i: usize = 0;
-    while i + 1 < n {
-        let from = stood(k, i);
-        out[i] = keys[from];
-        i += 1;
+    for i in 0..n - 1 {
+        out[i] = keys[stood(k, i)];
     }
     out
 }
 
 // A slot of the rows without row k.
-fn slot_left(k: u8, y: Slot) -> Kept
+fn slot_left(k: u8, y: Slot) -> Option<Slot>
     ensures { result ≡ kept_of k y }
 {
     match y {
-        Slot::Id => Kept::Stays(Slot::Id),
-        Slot::Class => Kept::Stays(Slot::Class),
+        Slot::Id => Some(Slot::Id),
+        Slot::Class => Some(Slot::Class),
         Slot::Key(j) => {
             if j == k {
-                return Kept::Gone;
+                return None;
             }
             if k < j {
-                return Kept::Stays(Slot::Key(j - 1));
+                return Some(Slot::Key(j - 1));
             }
-            Kept::Stays(Slot::Key(j))
+            Some(Slot::Key(j))
         }
     }
 }
@@ -117,19 +92,11 @@ fn slots_without(order: [SlotRecord; Attrs::SLOTS], n: usize, k: u8) -> [SlotRec
 {
     let none = SlotRecord { slot: Slot::Key(0) };
     let mut out = [none; Attrs::SLOTS];
-    let mut i: usize = 0;
     let mut j: usize = 0;
-    'slots: while i < n {
-        let p = order[i];
-        let y = p.slot;
-        i += 1;
-        match slot_left(k, y) {
-            Kept::Gone => continue 'slots,
-            Kept::Stays(x) => {
-                out[j] = SlotRecord { slot: x };
-                j += 1;
-                continue 'slots;
-            }
+    for p in order[..n].iter() {
+        if let Some(x) = slot_left(k, p.slot) {
+            out[j] = SlotRecord { slot: x };
+            j += 1;
         }
     }
     out
@@ -168,7 +135,7 @@ fn consume<'a>(first: &'a [u8], second: &'a [u8], s: Attrs) -> Consumed
     let k = row_named(first, second, keys, n, b"loose");
     if n <= k {
         return Consumed {
-            did: Did::No,
+            did: Ok(false),
             set: s,
         };
     }
@@ -176,13 +143,13 @@ fn consume<'a>(first: &'a [u8], second: &'a [u8], s: Attrs) -> Consumed
     let v = row.value;
     if 0 < set_marks::raw_bytes(first, second, v).len() {
         return Consumed {
-            did: Did::No,
+            did: Ok(false),
             set: s,
         };
     }
     let left = without_row(s, k);
     Consumed {
-        did: Did::Yes,
+        did: Ok(true),
         set: left,
     }
 }
@@ -196,10 +163,10 @@ pub fn consume_loose<'a>(first: &'a [u8], second: &'a [u8], set: Attrs) -> Consu
     let s = clean.set;
     let o = clean.outcome;
     match o {
-        Outcome::Refused(r) => Consumed {
-            did: Did::Refused(r),
+        Err(r) => Consumed {
+            did: Err(r),
             set: s,
         },
-        Outcome::Passed => consume(first, second, s),
+        Ok(()) => consume(first, second, s),
     }
 }

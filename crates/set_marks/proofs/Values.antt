@@ -1,5 +1,6 @@
 -- A value byte by byte: its raw text, what that stands for, and its backslashes.
 -- Assumes nothing.
+use Rattle.std.specs.Prelude.{None, Option, Some}
 use mathlib.Core.Path.{◌≡◌, refl, sym, ◌∙◌}
 use mathlib.Core.Bool.{Bool, true, false, cond}
 use mathlib.Core.List.{List, [], ◌∷◌, ◌++◌, flat_map}
@@ -12,10 +13,9 @@ use lib.Dec.{leb}
 use lib.ListN.{length, get_or, drop, drop_of_length-le, length-append, length-take}
 use lib.Seq.{drop-cons}
 use Rattle.base_bytes.specs.Bytes.{is_marked}
+use Rattle.std.proofs.lemmas.Option.{some_pair_parts}
 use Rattle.base_lists.specs.Lists.{same}
 use Rattle.base_lists.proofs.Parts.{slice_part}
-use Rattle.text_escapes.specs.declared.Piece.{Piece}
-use Rattle.text_escapes.specs.declared.Piece.TheVariants.{End, Byte}
 use Rattle.text_escapes.specs.Unescape.{unescape}
 use Rattle.text_escapes.proofs.Pieces.{byte_at, end_at, unescape_le}
 use Rattle.set_canon.specs.Canon.{marked, escape}
@@ -73,28 +73,28 @@ pub record Ends (q : Bool) (s : List ℕ) (i : ℕ) : Type 0 where
   pub bytes : bytes_in q (drop i s) ≡ []
   pub rest : escape (bytes_in q (drop i s)) ≡ []
 
-module _ {s : List ℕ} {i : ℕ} {r : Piece} where
-  pub byte_in : (q : Bool) {b next : ℕ} → r ≡ piece_in q s i → r ≡ Byte b next → Stands q s i b next
+module _ {s : List ℕ} {i : ℕ} {r : Option (ℕ × ℕ)} where
+  pub byte_in : (q : Bool) {b next : ℕ} → r ≡ piece_in q s i → r ≡ Some (b, next) → Stands q s i b next
   unfolding piece_in
   byte_in true {b} {next} e p =
       let z = byte_at e p in
       record { ahead = z.ahead; within = z.within; bytes = z.rest; rest = rw z.rest (escape_cons b (unescape (drop next s))); few = marked_short b }
   byte_in false {b} {next} e p = go (leb (length s) i) refl (sym e ∙ p)
     where
-      go : (x : Bool) → leb (length s) i ≡ x → cond x End (Byte (get_or s i 0) (i + 1)) ≡ Byte b next → Stands false s i b next
+      go : (x : Bool) → leb (length s) i ≡ x → cond {A = Option (ℕ × ℕ)} x None (Some (get_or s i 0, i + 1)) ≡ Some (b, next) → Stands false s i b next
       go true h z = let z : ◌≡◌ {A = ℕ} 0 1 = cc in absurd (omega arith)
       go false h z =
           let l = leb-false (length s) i h in
-          let n : next ≡ i + 1 = cc in
-          let v : b ≡ get_or s i 0 = cc in
+          let n : next ≡ i + 1 = sym (some_pair_parts _ _ _ _ z).1 in
+          let v : b ≡ get_or s i 0 = sym (some_pair_parts _ _ _ _ z).0 in
           record { ahead = omega arith; within = omega arith; bytes = rw (drop-cons s i 0 l, v, n, add-one); rest = rw (drop-cons s i 0 l, v, n, add-one) (escape_cons (get_or s i 0) (drop (suc i) s)); few = marked_short b }
 
-  pub end_in : (q : Bool) → r ≡ piece_in q s i → r ≡ End → Ends q s i
+  pub end_in : (q : Bool) → r ≡ piece_in q s i → r ≡ None → Ends q s i
   unfolding piece_in escape flat_map
   end_in true e p = record { bytes = (end_at e p).rest; rest = rw (end_at e p).rest }
   end_in false e p = go (leb (length s) i) refl (sym e ∙ p)
     where
-      go : (x : Bool) → leb (length s) i ≡ x → cond x End (Byte (get_or s i 0) (i + 1)) ≡ End → Ends false s i
+      go : (x : Bool) → leb (length s) i ≡ x → cond {A = Option (ℕ × ℕ)} x None (Some (get_or s i 0, i + 1)) ≡ None → Ends false s i
       go true h z = record { bytes = drop_of_length-le s (leb-true (length s) i h); rest = rw (drop_of_length-le s (leb-true (length s) i h)) }
       go false h z = let z : ◌≡◌ {A = ℕ} 0 1 = cc in absurd (omega arith)
 

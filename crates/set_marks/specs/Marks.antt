@@ -1,8 +1,6 @@
 -- A value byte by byte: its raw text, and what that stands for. No definition of the writer's own promises rests on these.
-use Rattle.std.specs.Prelude.{ℕ, ◌+◌, Bool, true, false, cond, List, [], leb, length, get_or}
+use Rattle.std.specs.Prelude.{ℕ, ◌+◌, Bool, true, false, cond, List, [], leb, length, get_or, None, Option, Some}
 use Rattle.text_escapes.specs.Unescape.{unescape, piece_at}
-use Rattle.text_escapes.specs.declared.Piece.{Piece}
-use Rattle.text_escapes.specs.declared.Piece.TheVariants.{End, Byte}
 use Rattle.set_table.specs.Types.{Texts, range_bytes}
 use Rattle.set_table.specs.declared.Value.{Value}
 use Rattle.set_table.specs.declared.Text as texts
@@ -30,5 +28,5 @@ abbrev pub bytes_in : Bool → List ℕ → List ℕ
 bytes_in quoted s = cond quoted (unescape s) s
 
 -- its byte at i, and where the next one stands
-unfoldable pub piece_in : Bool → List ℕ → ℕ → Piece
-piece_in quoted s i = cond quoted (piece_at s i) (cond (leb (length s) i) End (Byte (get_or s i 0) (i + 1)))
+unfoldable pub piece_in : Bool → List ℕ → ℕ → Option (ℕ × ℕ)
+piece_in quoted s i = cond quoted (piece_at s i) (cond (leb (length s) i) None (Some (get_or s i 0, i + 1)))

@@ -11,7 +11,6 @@ ghost use Rattle.set_marks.specs.Marks.{bytes_in, piece_in, raw_bytes, is_quoted
 ghost use Rattle.base_bytes.specs.Bytes.{is_marked};
 
 use set_table::{Text, Value};
-use text_escapes::Piece;
 
 // Whether a byte takes a backslash.
 pub fn is_marked(b: u8) -> bool
@@ -34,7 +33,7 @@ fn marked_len(b: u8) -> usize
 }
 
 // The byte of a value at i of its raw text, and where the next one stands: a quoted value is unescaped.
-pub fn value_piece(s: &[u8], i: usize, quoted: bool) -> Piece
+pub fn value_piece(s: &[u8], i: usize, quoted: bool) -> Option<(u8, usize)>
     ensures value { result ≡ piece_in quoted s.now i }
     ensures result_value { piece_paper result ≡ piece_paper (piece_in quoted s.now i) }
 {
@@ -42,9 +41,9 @@ pub fn value_piece(s: &[u8], i: usize, quoted: bool) -> Piece
         return text_escapes::piece_at(s, i);
     }
     if s.len() <= i {
-        return Piece::End;
+        return None;
     }
-    Piece::Byte(s[i], i + 1)
+    Some((s[i], i + 1))
 }
 
 // How many bytes a value takes with its backslashes.
@@ -55,8 +54,8 @@ pub fn escaped_len(s: &[u8], quoted: bool) -> usize
     let mut i = 0;
     'pieces: loop {
         match value_piece(s, i, quoted) {
-            Piece::End => break 'pieces n,
-            Piece::Byte(b, next) => {
+            None => break 'pieces n,
+            Some((b, next)) => {
                 n += marked_len(b);
                 i = next;
                 continue 'pieces;
@@ -97,13 +96,13 @@ fn same_pieces(x: &[u8], p: bool, y: &[u8], q: bool) -> bool
     let mut j = 0;
     'pieces: loop {
         match value_piece(x, i, p) {
-            Piece::End => match value_piece(y, j, q) {
-                Piece::End => return true,
-                Piece::Byte(_, _) => return false,
+            None => match value_piece(y, j, q) {
+                None => return true,
+                Some((_, _)) => return false,
             },
-            Piece::Byte(b, next) => match value_piece(y, j, q) {
-                Piece::End => return false,
-                Piece::Byte(c, after) => {
+            Some((b, next)) => match value_piece(y, j, q) {
+                None => return false,
+                Some((c, after)) => {
                     if b != c {
                         return false;
                     }

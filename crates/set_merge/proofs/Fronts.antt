@@ -1,39 +1,24 @@
--- The first rows of an array with zero behind them, as a loop copies them, and the table that is so cleaned.
+-- The first rows of an array with zero behind them, as they are copied, and the table that is so cleaned.
 -- Assumes nothing.
 use mathlib.Core.Path.{◌≡◌, refl}
 use mathlib.Core.Bool.{Bool, true, false, cond}
-use mathlib.Core.List.{List, map, map-map, map-id}
-use Prim.Native.Nat.{ℕ, ◌+◌, ◌-◌, ◌<◌, ◌≤◌}
-use native.Mathlib.Numerals.{add-one}
+use mathlib.Core.List.{List, ◌++◌, map, map-map, map-id}
+use Prim.Native.Nat.{ℕ, ◌-◌, ◌≤◌}
 use native.Mathlib.Omega.{arith}
-use lib.ListN.{length, get_or, set, take, replicate, length-map}
-use lib.Seq.{take-suc, length-take-le}
+use lib.ListN.{length, take, drop, replicate, length-map}
+use lib.Seq.{length-take-le}
+use Rattle.std.proofs.lemmas.List.{drop-replicate}
 use Rattle.set_table.specs.Types.{max_classes, max_keys, max_slots, zero_value, zero_row, zero_slot}
 use Rattle.set_table.specs.Rows.{Ident, is_there, id_or, padded, held, slot_in, table_of, rows_in}
 use Rattle.set_table.specs.declared.SlotRecord.{SlotRecord}
 use Rattle.set_table.specs.declared.Value.{Value}
 use Rattle.set_table.specs.declared.Attrs.{Attrs}
-use Rattle.set_table.proofs.Table.{padded_more}
 use Rattle.set_merge.specs.Inner.{firsts}
 
--- ---- the loop: i rows are copied
-pub record Copies {A : Type 0} (max : ℕ) (zero : A) (from : List A) (n : ℕ) (out : List A) (i : ℕ) : Type 0 where
-  pub is : out ≡ firsts max zero i from
-  pub within : i ≤ n
-
-pub start : {A : Type 0} (max : ℕ) (zero : A) (from : List A) (n : ℕ) → Copies max zero from n (replicate max zero) 0
+-- ---- the rows that are copied, and zero behind them
+pub front : {A : Type 0} (max : ℕ) (zero : A) (from : List A) (n : ℕ) → length from ≡ max → n ≤ max → take n from ++ drop n (replicate max zero) ≡ firsts max zero n from
 unfolding padded
-start max zero from n = let k : max - 0 ≡ max = omega arith in record { is = rw k; within = omega arith }
-
-module _ {A : Type 0} {max : ℕ} {zero : A} {from : List A} {n : ℕ} {out : List A} {i : ℕ} (inv : Copies max zero from n out i) where
-  pub go : length from ≡ max → n ≤ max → i < n → Copies max zero from n (set out i (get_or from i zero)) (i + 1)
-  go e l h =
-      let k : length (take i from) ≡ i = length-take-le i from (omega arith) in
-      let z = padded_more max zero (take i from) (get_or from i zero) (omega arith) in
-      record { is = rw (inv.is, add-one, take-suc from i zero (omega arith)) (rw k at z); within = omega arith }
-
-  pub end : n ≤ i → out ≡ firsts max zero n from
-  end h = let k : n ≡ i = omega (arith, inv.within) in rw k inv.is
+front max zero from n e h = rw (drop-replicate n max zero, length-take-le n from (omega arith))
 
 -- ---- the three arrays make the table of the rows that count
 order_again : (o : List SlotRecord) → map held (map slot_in o) ≡ o

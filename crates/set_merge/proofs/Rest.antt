@@ -1,5 +1,6 @@
 -- The loop over the slots of a set that is put into another, and the limits: how many classes and keys there are in the end.
 -- Assumes nothing.
+use Rattle.std.specs.Prelude.{Ok}
 use mathlib.Core.Path.{◌≡◌, refl, sym, ◌∙◌, ap}
 use mathlib.Core.Bool.{Bool, true, false, cond}
 use mathlib.Core.List.{List, [], ◌∷◌, map, flat_map}
@@ -27,7 +28,6 @@ use Rattle.set_table.proofs.Holding.{nclass, rows_of, held_own}
 use Rattle.set_table.specs.Inner.{Holds}
 use Rattle.set_table.specs.declared.Filled.{Filled}
 use Rattle.set_table.specs.Filled.{refusing, limited}
-use Rattle.base_refusals.specs.declared.Outcome.TheVariants.{Passed}
 use Rattle.set_merge.specs.declared.Merging.{Merging}
 use Rattle.set_merge.specs.Merge.{puts_of_id, puts_at, puts_by}
 use Rattle.set_merge.specs.Inner.{Steps, Sound, Fits, Present}
@@ -113,7 +113,7 @@ module _ (w : Rows) where
   unfolding limited
   many_keys h k q = q ∙ (rw (le-ltb max_classes (length w.classes) h, lt-ltb max_keys (length w.keys) k))
 
-  pub none_many : {a : Attrs} → Holds a (rows_in a) → rows_in a ≡ w → record { outcome = Passed; set = a } ≡ limited w
+  pub none_many : {a : Attrs} → Holds a (rows_in a) → rows_in a ≡ w → record { outcome = Ok tt; set = a } ≡ limited w
   unfolding limited
   none_many h e = rw (h.is, e, le-ltb max_classes (length w.classes) (rw (← e) h.classes), le-ltb max_keys (length w.keys) (rw (← e) h.keys))
 
@@ -134,7 +134,7 @@ module _ (t : Texts) {a b : Attrs} (h : Holds a (rows_in a)) (g : Sound b) (c : 
   start l = record { few = omega (arith, class_count); held = h; rest = refl }
 
 module _ {t : Texts} {a b set : Attrs} {i : ℕ} (inv : Merges t a b set i) where
-  pub end : length b.order ≡ max_slots → b.norder ≤ max_slots → b.norder ≤ i → record { outcome = Passed; set = set } ≡ limited (with_puts t (rows_in a) (puts_by (rows_in b)))
+  pub end : length b.order ≡ max_slots → b.norder ≤ max_slots → b.norder ≤ i → record { outcome = Ok tt; set = set } ≡ limited (with_puts t (rows_in a) (puts_by (rows_in b)))
   unfolding flat_map with_puts
   end o n l = none_many (with_puts t (rows_in a) (puts_by (rows_in b))) inv.held (rw (drop_of_length-le (rows_in b).order {i = i} (omega (arith, slot_rows b o n))) at inv.rest)
 

@@ -1,5 +1,6 @@
 -- From the checks of an entry to the merge.
 -- Assumes nothing.
+use Rattle.std.specs.Prelude.{Err, Ok, Result}
 use mathlib.Core.Path.{◌≡◌, refl, ◌∙◌}
 use mathlib.Core.Bool.{Bool, true, false, cond, ◌&&◌}
 use Prim.Native.Nat.{◌≤◌}
@@ -11,8 +12,6 @@ use Rattle.base_lists.proofs.Scan.{both}
 use Rattle.base_refusals.specs.declared.Refusal.{Refusal}
 use Rattle.base_refusals.specs.declared.Refusal.TheVariants.{NotWellFormed}
 use Rattle.text_checks.specs.Check.{both_of}
-use Rattle.base_refusals.specs.declared.Outcome.{Outcome}
-use Rattle.base_refusals.specs.declared.Outcome.TheVariants.{Passed, Refused}
 use Rattle.set_table.specs.Types.{Texts, max_classes, max_keys, max_slots}
 use Rattle.set_table.specs.Rows.{with_puts, table_of, rows_in}
 use Rattle.set_table.specs.declared.Attrs.{Attrs}
@@ -56,12 +55,12 @@ module _ (t : Texts) (a : Attrs) (h : table_ok t a ≡ true) where
       }
 
 -- ---- the entry
-module _ (t : Texts) (a b : Attrs) {f : Filled} {c : Outcome} (e : c ≡ both_of t.first t.second) where
-  pub by_check : {r : Refusal} → c ≡ Refused r → f ≡ refusing r → f ≡ merge_of t a b
+module _ (t : Texts) (a b : Attrs) {f : Filled} {c : Result (Unit {0}) Refusal} (e : c ≡ both_of t.first t.second) where
+  pub by_check : {r : Refusal} → c ≡ Err r → f ≡ refusing r → f ≡ merge_of t a b
   unfolding merge_of
   by_check q g = g ∙ (rw (← e, q))
 
-  module _ (p : c ≡ Passed) where
+  module _ (p : c ≡ Ok tt) where
     by_tables : {x y : Bool} → table_ok t a ≡ x → table_ok t b ≡ y → f ≡ cond (x && y) (limited (with_puts t (rows_in a) (puts_by (rows_in b)))) (refusing NotWellFormed) → f ≡ merge_of t a b
     unfolding merge_of
     by_tables x y g = rw (← e, p, x, y) g

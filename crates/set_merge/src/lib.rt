@@ -11,7 +11,7 @@ ghost use Rattle.set_table.specs.Inner.{Holds};
 ghost use Rattle.set_merge.specs.Merge.{puts_at, puts_by, merge_of, merge_order};
 ghost use Rattle.set_merge.specs.Inner.{firsts, Steps, Sound, Present};
 
-use base_refusals::{Outcome, Refusal};
+use base_refusals::Refusal;
 use set_table::{Attrs, Filled, Name, Origin, Row, Slot, SlotRecord, Text, Value};
 
 // What becomes of a set when something is put into it: whether that fits, and the set behind it.
@@ -30,11 +30,7 @@ fn first_classes(from: [Value; Attrs::CLASSES], n: usize) -> [Value; Attrs::CLAS
         text: Text::Plain(Origin::First, 0, 0),
     };
     let mut out = [none; Attrs::CLASSES];
-    let mut i: usize = 0;
-    while i < n {
-        out[i] = from[i];
-        i += 1;
-    }
+    out[..n].copy_from_slice(&from[..n]);
     out
 }
 
@@ -50,11 +46,7 @@ fn first_keys(from: [Row; Attrs::KEYS], n: usize) -> [Row; Attrs::KEYS]
         },
     };
     let mut out = [none; Attrs::KEYS];
-    let mut i: usize = 0;
-    while i < n {
-        out[i] = from[i];
-        i += 1;
-    }
+    out[..n].copy_from_slice(&from[..n]);
     out
 }
 
@@ -65,11 +57,7 @@ fn first_slots(from: [SlotRecord; Attrs::SLOTS], n: usize) -> [SlotRecord; Attrs
 {
     let none = SlotRecord { slot: Slot::Key(0) };
     let mut out = [none; Attrs::SLOTS];
-    let mut i: usize = 0;
-    while i < n {
-        out[i] = from[i];
-        i += 1;
-    }
+    out[..n].copy_from_slice(&from[..n]);
     out
 }
 
@@ -134,12 +122,10 @@ fn put_classes(s: Attrs, from: [Value; Attrs::CLASSES], m: usize) -> Attrs
     ensures { (t : Texts) → Holds result (with_puts t (rows_in s) (map Put.class (take m from))) }
 {
     let mut set = s;
-    let mut i: usize = 0;
-    while i < m {
+    for class in from[..m].iter() {
         let n = set.nclass as usize;
-        set.classes[n] = from[i];
+        set.classes[n] = *class;
         set.nclass = set.nclass + 1;
-        i += 1;
         if 0 < n {
             continue;
         }
@@ -218,19 +204,15 @@ fn merge_rows<'a>(first: &'a [u8], second: &'a [u8], a: Attrs, b: Attrs) -> Fill
     }
     let n = b.norder as usize;
     let mut set = a;
-    let mut i: usize = 0;
-    while i < n {
-        let place = b.order[i];
-        let slot = place.slot;
-        let step = put_slot(first, second, set, b, slot);
+    for i in 0..n {
+        let step = put_slot(first, second, set, b, b.order[i].slot);
         if !step.fits {
             return set_fill::refusing(Refusal::TooManyKeys);
         }
         set = step.set;
-        i += 1;
     }
     Filled {
-        outcome: Outcome::Passed,
+        outcome: Ok(()),
         set,
     }
 }
@@ -241,8 +223,8 @@ pub fn merge_attrs<'a>(first: &'a [u8], second: &'a [u8], target: Attrs, incomin
     ensures outcome_value { outcome_no result.outcome ≡ order_no (merge_order (two first.now second.now) target incoming) }
 {
     match text_checks::check_both(first, second) {
-        Outcome::Refused(r) => set_fill::refusing(r),
-        Outcome::Passed => {
+        Err(r) => set_fill::refusing(r),
+        Ok(()) => {
             if !set_wellformed::table_ok(first, second, target) {
                 return set_fill::refusing(Refusal::NotWellFormed);
             }

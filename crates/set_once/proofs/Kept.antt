@@ -7,6 +7,8 @@ use Prim.Native.Nat.{ℕ, suc, ◌+◌, ◌≤◌, ◌<◌, min, zero-le}
 use native.Mathlib.Numerals.{add-one}
 use native.Mathlib.Omega.{arith}
 use borrow.Author.Tests.{leb-true, leb-false}
+use Rattle.std.specs.List.{list_any}
+use Rattle.std.proofs.lemmas.List.{take_min}
 use lib.Dec.{leb}
 use lib.ListN.{length, get_or, set, take, drop, length-set, length-take, length-map, drop_of_length-le}
 use lib.Seq.{drop-cons, get_or-take, take-suc, take-suc-set, take_all}
@@ -20,86 +22,63 @@ use Rattle.set_table.specs.declared.Attrs.{Attrs}
 use Rattle.set_table.specs.declared.Slot.{Slot}
 use Rattle.set_table.specs.declared.Slot.TheVariants.{Id, Class, Key}
 
--- ---- whether a value is one of the first n classes: i were passed
-pub record Seeks (t : Texts) (v : Value) (classes : List Value) (n i : ℕ) : Type 0 where
-  pub long : length classes ≡ max_classes
-  pub few : n ≤ max_classes
-  pub rest : is_among (value_bytes t v) (map (value_bytes t) (drop i (take n classes))) ≡ is_among (value_bytes t v) (map (value_bytes t) (take n classes))
-
-pub seeks_start : (t : Texts) (v : Value) (classes : List Value) (n : ℕ) → length classes ≡ max_classes → n ≤ max_classes → Seeks t v classes n 0
-seeks_start t v classes n l h = record { long = l; few = h; rest = refl }
-
-module _ {t : Texts} {v : Value} {classes : List Value} {n i : ℕ} (inv : Seeks t v classes n i) where
-  pub seeks_end : n ≤ i → false ≡ is_among (value_bytes t v) (map (value_bytes t) (take n classes))
-  unfolding is_among
-  seeks_end h = rw (drop_of_length-le (take n classes) {i = i} (omega (arith, length-take n classes))) at inv.rest
-
-  module _ (h : i < n) where
-    here : drop i (take n classes) ≡ get_or classes i zero_value ∷ drop (suc i) (take n classes)
-    here = drop-cons (take n classes) i zero_value (omega (arith, length-take n classes, inv.long, inv.few)) ∙ (rw (get_or-take n classes i zero_value h))
-
-    pub seeks_stop : true ≡ same (value_bytes t v) (value_bytes t (get_or classes i zero_value)) → true ≡ is_among (value_bytes t v) (map (value_bytes t) (take n classes))
-    unfolding is_among
-    seeks_stop e = rw (here, sym e) at inv.rest
-
-    pub seeks_go : false ≡ same (value_bytes t v) (value_bytes t (get_or classes i zero_value)) → Seeks t v classes n (i + 1)
-    unfolding is_among
-    seeks_go e = record { long = inv.long; few = inv.few; rest = rw add-one (rw (here, sym e) at inv.rest) }
+-- ---- the answer of an iterator's `any`
+pub any_among : {A : Type 0} (v : List ℕ) (g : A → List ℕ) (xs : List A) (r : Bool) → r ≡ list_any (λ x. same v (g x)) xs → r ≡ is_among v (map g xs)
+unfolding is_among
+any_among {A} v g xs r e = e ∙ go xs
+  where
+    go : (ys : List A) → list_any (λ x. same v (g x)) ys ≡ is_among v (map g ys)
+    go [] = refl
+    go (y ∷ ys) = rw (go ys)
 
 -- ---- one more behind a list whose members are kept each once
 more_kept : (xs : List (List ℕ)) (v : List ℕ) → fresh_after [] (xs ++ (v ∷ [])) ≡ fresh_after [] xs ++ unless_there (is_among v (fresh_after [] xs)) v []
 unfolding fresh_after
 more_kept xs v = fresh-append [] xs (v ∷ []) ∙ (rw ((kept_alike xs).each v))
 
--- i of the first `many` classes were compared, n of them are new and stand at the front
-pub record Keeps (t : Texts) (classes : List Value) (many : ℕ) (kept : List Value) (n i : ℕ) : Type 0 where
-  pub room : many ≤ max_classes
-  pub within : i ≤ many
-  pub long : length classes ≡ max_classes
+-- i of the rows were compared, n of them are new and stand at the front
+pub record Keeps (t : Texts) (rows kept : List Value) (n i : ℕ) : Type 0 where
+  pub room : length rows ≤ max_classes
   pub size : length kept ≡ max_classes
   pub few : n ≤ i
-  pub news : map (value_bytes t) (take n kept) ≡ fresh_after [] (map (value_bytes t) (take i classes))
+  pub news : map (value_bytes t) (take n kept) ≡ fresh_after [] (map (value_bytes t) (take i rows))
 
-pub keeps-start : (t : Texts) (classes : List Value) (many : ℕ) → many ≤ max_classes → length classes ≡ max_classes → Keeps t classes many classes 0 0
+pub keeps-start : (t : Texts) (rows kept : List Value) → length rows ≤ max_classes → length kept ≡ max_classes → Keeps t rows kept 0 0
 unfolding fresh_after
-keeps-start t classes many r l = record { room = r; within = zero-le; long = l; size = l; few = zero-le; news = refl }
+keeps-start t rows kept r l = record { room = r; size = l; few = zero-le; news = refl }
 
-module _ {t : Texts} {classes : List Value} {many : ℕ} {kept : List Value} {n i : ℕ} (inv : Keeps t classes many kept n i) where
-  module _ (h : i < many) where
-    next : fresh_after [] (map (value_bytes t) (take (i + 1) classes))
-        ≡ map (value_bytes t) (take n kept) ++ unless_there (is_among (value_bytes t (get_or classes i zero_value)) (map (value_bytes t) (take n kept))) (value_bytes t (get_or classes i zero_value)) []
+module _ {t : Texts} {rows kept : List Value} {n i : ℕ} (inv : Keeps t rows kept n i) where
+  module _ (h : i < length rows) where
+    next : fresh_after [] (map (value_bytes t) (take (i + 1) rows))
+        ≡ map (value_bytes t) (take n kept) ++ unless_there (is_among (value_bytes t (get_or rows i zero_value)) (map (value_bytes t) (take n kept))) (value_bytes t (get_or rows i zero_value)) []
     next =
-        rw (add-one, take-suc classes i zero_value (omega (arith, inv.long, inv.room)), map-append (value_bytes t) (take i classes) (get_or classes i zero_value ∷ []), inv.news)
-        (more_kept (map (value_bytes t) (take i classes)) (value_bytes t (get_or classes i zero_value)))
+        rw (add-one, take-suc rows i zero_value h, map-append (value_bytes t) (take i rows) (get_or rows i zero_value ∷ []), inv.news)
+        (more_kept (map (value_bytes t) (take i rows)) (value_bytes t (get_or rows i zero_value)))
 
-    pub keeps_same : true ≡ is_among (value_bytes t (get_or classes i zero_value)) (map (value_bytes t) (take n kept)) → Keeps t classes many kept n (i + 1)
+    pub keeps_same : true ≡ is_among (value_bytes t (get_or rows i zero_value)) (map (value_bytes t) (take n kept)) → Keeps t rows kept n (i + 1)
     keeps_same e =
         record {
           room = inv.room;
-          within = omega arith;
-          long = inv.long;
           size = inv.size;
           few = omega (arith, inv.few);
           news = sym (append-nil (map (value_bytes t) (take n kept))) ∙ sym (rw (sym e) at next);
         }
 
-    pub keeps_new : false ≡ is_among (value_bytes t (get_or classes i zero_value)) (map (value_bytes t) (take n kept)) → Keeps t classes many (set kept n (get_or classes i zero_value)) (n + 1) (i + 1)
+    pub keeps_new : false ≡ is_among (value_bytes t (get_or rows i zero_value)) (map (value_bytes t) (take n kept)) → Keeps t rows (set kept n (get_or rows i zero_value)) (n + 1) (i + 1)
     keeps_new e =
         record {
           room = inv.room;
-          within = omega arith;
-          long = inv.long;
-          size = length-set kept n (get_or classes i zero_value) ∙ inv.size;
+          size = length-set kept n (get_or rows i zero_value) ∙ inv.size;
           few = omega (arith, inv.few);
-          news = rw (add-one n, take-suc-set kept n (get_or classes i zero_value) (omega (arith, inv.size, inv.few, inv.room)), map-append (value_bytes t) (take n kept) (get_or classes i zero_value ∷ [])) (sym (rw (sym e) at next));
+          news = rw (add-one n, take-suc-set kept n (get_or rows i zero_value) (omega (arith, inv.size, inv.few, inv.room)), map-append (value_bytes t) (take n kept) (get_or rows i zero_value ∷ [])) (sym (rw (sym e) at next));
         }
 
-  pub keeps_end : (m : ℕ) → many ≡ min m max_classes → many ≤ i → map (value_bytes t) (take n kept) ≡ fresh_after [] (map (value_bytes t) (take m classes))
-  keeps_end m e h = inv.news ∙ ap (λ l. fresh_after [] (map (value_bytes t) l)) (go (leb m max_classes) refl)
-    where
-      go : (x : Bool) → leb m max_classes ≡ x → take i classes ≡ take m classes
-      go true q = let z : i ≡ m = omega (arith, inv.within, leb-true m max_classes q) in rw z
-      go false q = take_all i classes (omega (arith, inv.long, leb-false m max_classes q)) ∙ sym (take_all m classes (omega (arith, inv.long, leb-false m max_classes q)))
+-- the rows are the classes that count
+pub keeps_end : (t : Texts) (classes : List Value) (many m : ℕ) {kept : List Value} {n i : ℕ} → many ≡ min m max_classes → length classes ≡ max_classes → Keeps t (take many classes) kept n i → length (take many classes) ≤ i
+    → map (value_bytes t) (take n kept) ≡ fresh_after [] (map (value_bytes t) (take m classes))
+keeps_end t classes many m {i = i} e l inv h =
+    let q : many ≡ min m (length classes) = rw l e in
+    rw (inv.news, take_all i (take many classes) h, q, take_min m classes)
 
 -- ---- a set with these classes lists what the set means
 

@@ -12,10 +12,7 @@ use set_table::{Attrs, Value};
 fn least(a: usize, b: usize) -> usize
     ensures { result ≡ min a b }
 {
-    if a <= b {
-        return a;
-    }
-    b
+    a.min(b)
 }
 
 // Whether a value stands for the same bytes as one of the first n classes.
@@ -29,15 +26,7 @@ fn is_listed<'a>(
     requires { n ≤ max_classes }
     ensures { result ≡ is_among (value_bytes (two first.now second.now) value) (map (value_bytes (two first.now second.now)) (take n classes)) }
 {
-    let mut i = 0;
-    while i < n {
-        let class = classes[i];
-        if set_marks::same_values(first, second, value, class) {
-            return true;
-        }
-        i += 1;
-    }
-    false
+    classes[..n].iter().any(|class| set_marks::same_values(first, second, value, *class))
 }
 
 // The set with each class at its first place alone: those that equal none before them move up behind each other.
@@ -47,15 +36,11 @@ pub fn classes_once<'a>(first: &'a [u8], second: &'a [u8], set: Attrs) -> Attrs
     let many = least(set.nclass as usize, Attrs::CLASSES);
     let mut classes = set.classes;
     let mut n: usize = 0;
-    let mut i: usize = 0;
-    while i < many {
-        let value = set.classes[i];
-        i += 1;
-        if is_listed(first, second, classes, n, value) {
-            continue;
+    for value in set.classes[..many].iter() {
+        if !is_listed(first, second, classes, n, *value) {
+            classes[n] = *value;
+            n += 1;
         }
-        classes[n] = value;
-        n += 1;
     }
     let mut kept = set;
     kept.classes = classes;

@@ -8,56 +8,56 @@ ghost use Rattle.std.proofs.Math.Seq.{slice};
 ghost use Rattle.set_table.specs.Types.{empty_set, range_bytes, text_at, name_bytes, two, text_over};
 ghost use Rattle.set_table.specs.Rows.{key_at};
 
-use base_refusals::Outcome;
+use base_refusals::Refusal;
 
 // Which of the two lent texts a range is of.
-#[derive(Clone, Copy)]
+#[derive(Clone, Copy, PartialEq, Eq)]
 pub enum Origin {
     First,
     Second,
 }
 
 // What an id, a class or a key's value is: bytes of a text as they stand, bytes of it that were quoted, or nothing from a bare name.
-#[derive(Clone, Copy)]
+#[derive(Clone, Copy, PartialEq, Eq)]
 pub enum Text {
     Plain(Origin, u16, u16),
     Quoted(Origin, u16, u16),
     Empty,
 }
 
-#[derive(Clone, Copy)]
+#[derive(Clone, Copy, PartialEq, Eq)]
 pub struct Value {
     pub text: Text,
 }
 
 // A key's name: bytes of a text, or the fixed name `lang` that `:` gives.
-#[derive(Clone, Copy)]
+#[derive(Clone, Copy, PartialEq, Eq)]
 pub enum Name {
     Range(Origin, u16, u16),
     Lang,
 }
 
-#[derive(Clone, Copy)]
+#[derive(Clone, Copy, PartialEq, Eq)]
 pub struct Row {
     pub name: Name,
     pub value: Value,
 }
 
 // What stands at a place of the order: the id, the classes, or the key of a row.
-#[derive(Clone, Copy)]
+#[derive(Clone, Copy, PartialEq, Eq)]
 pub enum Slot {
     Key(u8),
     Id,
     Class,
 }
 
-#[derive(Clone, Copy)]
+#[derive(Clone, Copy, PartialEq, Eq)]
 pub struct SlotRecord {
     pub slot: Slot,
 }
 
 // The first `nclass` classes, `nkey` keys and `norder` slots count; in a set handed out the rows past them are zero.
-#[derive(Clone, Copy)]
+#[derive(Clone, Copy, PartialEq, Eq)]
 pub struct Attrs {
     pub id: Value,
     pub given: bool,
@@ -70,9 +70,9 @@ pub struct Attrs {
 }
 
 // A set that is handed out, or the empty one and why none is.
-#[derive(Clone, Copy)]
+#[derive(Clone, Copy, PartialEq, Eq)]
 pub struct Filled {
-    pub outcome: Outcome,
+    pub outcome: Result<(), Refusal>,
     pub set: Attrs,
 }
 
@@ -164,17 +164,7 @@ pub fn range_of<'a>(
 fn same_by_last(a: &[u8], b: &[u8]) -> bool
     ensures { result ≡ same a.now b.now }
 {
-    let n = a.len();
-    if n != b.len() {
-        return false;
-    }
-    if n == 0 {
-        return true;
-    }
-    if a[n - 1] != b[n - 1] {
-        return false;
-    }
-    base_lists::same_bytes(a, b)
+    a.len() == b.len() && a.last() == b.last() && base_lists::same_bytes(a, b)
 }
 
 // Whether a name is the bytes given.
@@ -218,17 +208,10 @@ pub fn find_key<'a>(
     ensures { result ≡ key_at (two first.now second.now) name (take n keys) }
 {
     let bytes = name_of(first, second, b"lang", name);
-    let mut k = 0;
-    while k < Attrs::KEYS {
-        if n <= k {
+    for (k, row) in keys.iter().enumerate() {
+        if n <= k || is_named(first, second, row.name, bytes) {
             return k;
         }
-        let row = keys[k];
-        let m = row.name;
-        if is_named(first, second, m, bytes) {
-            return k;
-        }
-        k += 1;
     }
-    k
+    Attrs::KEYS
 }

@@ -1,2 +1,3 @@
 -- Laws about the rows of keys.
 pub mod Keys
+pub mod Each

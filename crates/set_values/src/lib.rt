@@ -32,14 +32,7 @@ fn range_ok<'a>(first: &'a [u8], second: &'a [u8], origin: Origin, from: usize, 
 fn no_lf(s: &[u8]) -> bool
     ensures { result ≡ no_lf s.now }
 {
-    let mut i = 0;
-    while i < s.len() {
-        if s[i] == b'\n' {
-            return false;
-        }
-        i += 1;
-    }
-    true
+    s.iter().all(|b| *b != b'\n')
 }
 
 // Whether a range is one of its text without an LF.
@@ -78,28 +71,14 @@ pub fn ident_ok<'a>(first: &'a [u8], second: &'a [u8], given: bool, v: Value) ->
 fn no_space(s: &[u8]) -> bool
     ensures { result ≡ all (λ b. not (is_space b)) s.now }
 {
-    let mut i = 0;
-    while i < s.len() {
-        if base_bytes::is_space(s[i]) {
-            return false;
-        }
-        i += 1;
-    }
-    true
+    s.iter().all(|b| !base_bytes::is_space(*b))
 }
 
 // Whether each byte is whitespace.
 fn only_space(s: &[u8]) -> bool
     ensures { result ≡ all is_space s.now }
 {
-    let mut i = 0;
-    while i < s.len() {
-        if !base_bytes::is_space(s[i]) {
-            return false;
-        }
-        i += 1;
-    }
-    true
+    s.iter().all(|b| base_bytes::is_space(*b))
 }
 
 // Whether bytes are free of whitespace or nothing but whitespace.

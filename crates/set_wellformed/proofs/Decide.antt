@@ -1,21 +1,23 @@
--- What the loops over the rows of a table ask: how `times`, `keys_apart` and `keys_in` go on from row to row, and the slots by what is there.
+-- What the walks over the rows of a table ask: `times`, `keys_apart` and `keys_in` of the rows that count, and the slots by what is there.
 -- Assumes nothing.
 use mathlib.Core.Path.{◌≡◌, refl, sym, ◌∙◌}
-use mathlib.Core.Bool.{Bool, true, false, cond, not, ◌&&◌}
+use mathlib.Core.Bool.{Bool, true, false, cond, not}
 use mathlib.Core.List.{List, [], ◌∷◌, map}
-use Prim.Native.Nat.{ℕ, zero, suc, ◌+◌, ◌-◌, ◌<◌, ◌≤◌, zero-le}
-use native.Mathlib.Nat.{zero-add, add-zero}
-use native.Mathlib.Numerals.{add-one}
+use Prim.Native.Nat.{ℕ, zero, suc, ◌+◌, ◌<◌, ◌≤◌}
+use native.Mathlib.Nat.{zero-add}
 use native.Mathlib.Omega.{arith}
+use Rattle.std.specs.Bool.{one_answer}
+use Rattle.std.specs.List.{list_all, filter, range_with_len}
+use Rattle.std.proofs.lemmas.List.FromFn.{length-range_with_len, get_or-range_with_len}
 use lib.Dec.{eqb, ltb}
-use lib.ListN.{length, get_or, take, drop, drop_of_length-le}
-use lib.Seq.{drop-cons, get_or-take, length-take-le}
-use borrow.Author.Tests.{ltb-true, ltb-false, lt-ltb, le-leb, not-true, eq-eqb, ne_eqb}
-use Rattle.base_lists.specs.Lists.{same, is_some}
+use lib.ListN.{length, get_or, take}
+use lib.Seq.{get_or-take, length-take-le}
+use borrow.Author.Tests.{ltb-true, ltb-false, lt-ltb, le-leb, not-true, eq-eqb, eqb-true}
+use Rattle.base_lists.specs.Lists.{all, same, is_some}
 use Rattle.base_lists.proofs.Scan.{both}
-use Rattle.base_lists.proofs.Each.{some_take, every_same}
+use Rattle.base_lists.proofs.Each.{some_take, every_same, all_at, all_each}
 use Rattle.base_lists.proofs.More.{contra, same_sym}
-use Rattle.set_table.specs.Types.{Texts, zero_row, zero_value, zero_slot, max_classes, max_keys, max_slots}
+use Rattle.set_table.specs.Types.{Texts, zero_row, zero_value, max_classes, max_keys, max_slots}
 use Rattle.set_table.specs.Rows.{Ident, Rows, rows_in, is_there, is_named, has_key, key_at, slot_in}
 use Rattle.set_table.specs.Shape.{times, slot_number, is_present, name_at}
 use Rattle.set_table.specs.declared.Value.{Value}
@@ -29,30 +31,23 @@ use Rattle.set_table.proofs.Keys.{key_none, key_some, key_named, key_before}
 use Rattle.set_wellformed.specs.WellFormed.{counts_ok, keys_apart, keys_once, slots_ok}
 use Rattle.set_wellformed.specs.Inner.{present_by, keys_in, slots_in}
 
--- ---- how often the slot of a number stands among the first n: c so far
-pub record Timed (a : ℕ) (order : List SlotRecord) (n c k : ℕ) : Type 0 where
-  pub long : n ≤ length order
-  pub few : c ≤ k
-  pub rest : (x : Slot) → a ≡ slot_number x → c + times x (map slot_in (drop k (take n order))) ≡ times x (map slot_in (take n order))
+-- ---- the answers of iterators: what `all` says, and how often a slot stands in an order
+pub all_list : {A : Type 0} (f : A → Bool) (xs : List A) → list_all f xs ≡ all f xs
+unfolding all
+all_list f [] = refl
+all_list f (x ∷ xs) = rw (all_list f xs)
 
-pub timed_start : (a : ℕ) (order : List SlotRecord) (n : ℕ) → n ≤ length order → Timed a order n 0 0
-timed_start a order n h = record { long = h; few = zero-le; rest = λ x e. zero-add (times x (map slot_in (take n order))) }
+pub times_filter : (x : Slot) (ps : List SlotRecord) → length (filter (λ p. eqb (slot_number x) (slot_number p.slot)) ps) ≡ times x (map slot_in ps)
+unfolding times
+times_filter x [] = refl
+times_filter x (p ∷ ps) = go (eqb (slot_number x) (slot_number p.slot)) (times_filter x ps)
+  where
+    few : List SlotRecord
+    few = filter (λ q. eqb (slot_number x) (slot_number q.slot)) ps
 
-module _ {a : ℕ} {order : List SlotRecord} {n c k : ℕ} (inv : Timed a order n c k) where
-  pub timed_go : {m : ℕ} → k < n → m ≡ cond (eqb a (slot_number (slot_in (get_or order k zero_slot)))) 1 0 → Timed a order n (c + m) (k + 1)
-  unfolding times
-  timed_go {m} h e = go (eqb a (slot_number (slot_in (get_or order k zero_slot)))) refl e
-    where
-      rests : (x : Slot) → a ≡ slot_number x → c + times x (map slot_in (get_or order k zero_slot ∷ drop (k + 1) (take n order))) ≡ times x (map slot_in (take n order))
-      rests x i = rw add-one (rw (drop-cons (take n order) k zero_slot (omega (arith, length-take-le n order inv.long)), get_or-take n order k zero_slot h) at (inv.rest x i))
-
-      go : (b : Bool) → eqb a (slot_number (slot_in (get_or order k zero_slot))) ≡ b → m ≡ cond b 1 0 → Timed a order n (c + m) (k + 1)
-      go true q e = record { long = inv.long; few = omega (arith, inv.few); rest = λ x i. omega (arith, rw (← i, q) at (rests x i)) }
-      go false q e = record { long = inv.long; few = omega (arith, inv.few); rest = λ x i. omega (arith, rw (← i, q) at (rests x i)) }
-
-  pub timed_end : (x : Slot) → a ≡ slot_number x → n ≤ k → c ≡ times x (map slot_in (take n order))
-  unfolding times
-  timed_end x i h = sym (add-zero c) ∙ (rw (drop_of_length-le (take n order) {i = k} (omega (arith, length-take-le n order inv.long))) at (inv.rest x i))
+    go : (b : Bool) → length few ≡ times x (map slot_in ps) → length (cond b (p ∷ few) few) ≡ cond b (suc (times x (map slot_in ps))) (times x (map slot_in ps))
+    go true e = rw e
+    go false e = e
 
 -- ---- rows with names of their own, said of any two
 module _ (t : Texts) where
@@ -124,31 +119,36 @@ module _ {t : Texts} {keys : List Row} {n k : ℕ} (inv : Apart t keys n k) wher
   unfolding name_at
   apart_end h = sym (differ_apart t (take n keys) (λ i j q l. let u : j < n = omega (arith, length-take-le n keys inv.long) in rw (get_or-take n keys j zero_row u, get_or-take n keys i zero_row (omega arith)) (inv.front i j q (omega arith))))
 
--- ---- each key once, counted down
-pub record Once (o : List Slot) (r : Bool) (k : ℕ) : Type 0 where
-  pub rest : keys_in o k ≡ r
+-- ---- each key once
+keys_each : (o : List Slot) (n : ℕ) → keys_in o n ≡ true → (k : ℕ) → k < n → times (Key k) o ≡ 1
+unfolding keys_in
+keys_each o zero e k h = absurd (omega arith)
+keys_each o (suc n) e k h = let z = both (eqb (times (Key n) o) 1) (keys_in o n) e in go (keys_each o n z.1 k) (eqb-true (times (Key n) o) 1 z.0) (ltb k n) refl
+  where
+    go : (k < n → times (Key k) o ≡ 1) → times (Key n) o ≡ 1 → (b : Bool) → ltb k n ≡ b → times (Key k) o ≡ 1
+    go f l true q = f (ltb-true k n q)
+    go f l false q = let z : k ≡ n = omega (arith, ltb-false k n q) in rw z l
 
-pub once_start : (o : List Slot) (k : ℕ) → Once o (keys_in o k) k
-once_start o k = record { rest = refl }
+each_keys : (o : List Slot) (n : ℕ) → ((k : ℕ) → k < n → times (Key k) o ≡ 1) → keys_in o n ≡ true
+unfolding keys_in
+each_keys o zero h = refl
+each_keys o (suc n) h = rw (eq-eqb (times (Key n) o) 1 (h n (omega arith))) (each_keys o n (λ k i. h k (omega arith)))
 
-module _ {o : List Slot} {r : Bool} {k : ℕ} (inv : Once o r k) where
-  key_in : 0 < k → eqb (times (Key (k - 1)) o) 1 && keys_in o (k - 1) ≡ r
-  unfolding keys_in
-  key_in h = go k h inv.rest
-    where
-      go : (k : ℕ) → 0 < k → keys_in o k ≡ r → eqb (times (Key (k - 1)) o) 1 && keys_in o (k - 1) ≡ r
-      go zero h e = absurd (omega arith)
-      go (suc k) h e = let z : suc k - 1 ≡ k = omega arith in rw z e
+pub keys_list : (o : List Slot) (n : ℕ) → list_all (λ k. eqb (times (Key k) o) 1) (range_with_len 0 n) ≡ keys_in o n
+keys_list o n = all_list f (range_with_len 0 n) ∙ one_answer (all f (range_with_len 0 n)) (keys_in o n) (to, from) (keys_each o n, each_keys o n)
+  where
+    f : ℕ → Bool
+    f k = eqb (times (Key k) o) 1
 
-  pub once_stop : 0 < k → (times (Key (k - 1)) o ≡ 1 → ⊥) → false ≡ r
-  once_stop h e = rw (ne_eqb (times (Key (k - 1)) o) 1 e) at (key_in h)
+    to : all f (range_with_len 0 n) ≡ true → (k : ℕ) → k < n → times (Key k) o ≡ 1
+    to e k h =
+        let l : k < length (range_with_len 0 n) = rw (length-range_with_len 0 n) h in
+        eqb-true (times (Key k) o) 1 (rw (get_or-range_with_len 0 n k 0 h, zero-add k) at (all_at f 0 (range_with_len 0 n) e k l))
 
-  pub once_go : 0 < k → times (Key (k - 1)) o ≡ 1 → Once o r (k - 1)
-  once_go h e = record { rest = rw (eq-eqb (times (Key (k - 1)) o) 1 e) at (key_in h) }
-
-  pub once_end : k ≤ 0 → true ≡ r
-  unfolding keys_in
-  once_end h = let z : k ≡ 0 = omega arith in rw z at inv.rest
+    from : ((k : ℕ) → k < n → times (Key k) o ≡ 1) → all f (range_with_len 0 n) ≡ true
+    from g =
+        all_each f 0 (range_with_len 0 n)
+        (λ k i. let h : k < n = rw (length-range_with_len 0 n) at i in rw (get_or-range_with_len 0 n k 0 h, zero-add k) (eq-eqb (times (Key k) o) 1 (g k h)))
 
 -- ---- the slots by what is there
 once_in : (s : Rows) (k : ℕ) → k ≤ length s.keys → keys_once s k ≡ keys_in s.order k

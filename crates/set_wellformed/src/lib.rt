@@ -22,15 +22,9 @@ fn classes_ok<'a>(
     requires { n ≤ max_classes }
     ensures { result ≡ all (class_ok (two first.now second.now)) (take n classes) }
 {
-    let mut k = 0;
-    while k < n {
-        let v = classes[k];
-        if !set_values::class_ok(first, second, v) {
-            return false;
-        }
-        k += 1;
-    }
-    true
+    classes[..n]
+        .iter()
+        .all(|v| set_values::class_ok(first, second, *v))
 }
 
 // Whether each of the first n rows may stand.
@@ -38,15 +32,9 @@ fn keys_ok<'a>(first: &'a [u8], second: &'a [u8], keys: [Row; Attrs::KEYS], n: u
     requires { n ≤ max_keys }
     ensures { result ≡ all (key_ok (two first.now second.now)) (take n keys) }
 {
-    let mut k = 0;
-    while k < n {
-        let row = keys[k];
-        if !set_values::key_ok(first, second, row) {
-            return false;
-        }
-        k += 1;
-    }
-    true
+    keys[..n]
+        .iter()
+        .all(|row| set_values::key_ok(first, second, *row))
 }
 
 // Whether the first n rows have names of their own: no row has the name of one before it.
@@ -54,14 +42,10 @@ fn keys_apart<'a>(first: &'a [u8], second: &'a [u8], keys: [Row; Attrs::KEYS], n
     requires { n ≤ max_keys }
     ensures { result ≡ keys_apart (two first.now second.now) (take n keys) }
 {
-    let mut k = 0;
-    while k < n {
-        let row = keys[k];
-        let m = row.name;
-        if set_table::find_key(first, second, keys, k, m) < k {
+    for k in 0..n {
+        if set_table::find_key(first, second, keys, k, keys[k].name) < k {
             return false;
         }
-        k += 1;
     }
     true
 }
@@ -90,15 +74,10 @@ fn times_in(order: [SlotRecord; Attrs::SLOTS], n: usize, x: Slot) -> usize
     ensures { result ≡ times x (map slot_in (take n order)) }
 {
     let a = slot_number(x);
-    let mut c = 0;
-    let mut k = 0;
-    while k < n {
-        let p = order[k];
-        let y = p.slot;
-        c += one_if(a == slot_number(y));
-        k += 1;
-    }
-    c
+    order[..n]
+        .iter()
+        .filter(|p| a == slot_number(p.slot))
+        .count()
 }
 
 // Whether a slot is there, where the first `keys` keys are.
@@ -117,16 +96,7 @@ fn all_there(order: [SlotRecord; Attrs::SLOTS], n: usize, id: bool, class: bool,
     requires { n ≤ max_slots }
     ensures { result ≡ all (present_by id class keys) (map slot_in (take n order)) }
 {
-    let mut k = 0;
-    while k < n {
-        let p = order[k];
-        let y = p.slot;
-        if !is_there(y, id, class, keys) {
-            return false;
-        }
-        k += 1;
-    }
-    true
+    order[..n].iter().all(|p| is_there(p.slot, id, class, keys))
 }
 
 // Whether each key stands once among the first n slots.
@@ -134,14 +104,7 @@ fn keys_once(order: [SlotRecord; Attrs::SLOTS], n: usize, keys: u8) -> bool
     requires { n ≤ max_slots }
     ensures { result ≡ keys_in (map slot_in (take n order)) keys }
 {
-    let mut k = keys;
-    while 0 < k {
-        k -= 1;
-        if times_in(order, n, Slot::Key(k)) != 1 {
-            return false;
-        }
-    }
-    true
+    (0..keys).all(|k| times_in(order, n, Slot::Key(k)) == 1)
 }
 
 // Whether the first n slots name just what is there, once each.

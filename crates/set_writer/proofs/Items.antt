@@ -1,5 +1,6 @@
 -- The items of a set one after the other, and what they are together.
 -- Assumes nothing.
+use Rattle.std.specs.Prelude.{Err, Ok}
 use mathlib.Core.Path.{◌≡◌, refl, sym, ◌∙◌, ap}
 use mathlib.Core.Bool.{Bool, true, false}
 use mathlib.Core.List.{List, [], ◌∷◌, ◌++◌, append_assoc, append-nil, flat_map}
@@ -8,7 +9,6 @@ use native.Mathlib.Nat.{add-zero, add-suc}
 use native.Mathlib.Omega.{arith}
 use borrow.Author.Tests.{ne_eqb, le-leb, lt-leb}
 use Rattle.base_refusals.specs.declared.Refusal.TheVariants.{CanonTooLong}
-use Rattle.set_writer.specs.declared.Wrote.TheVariants.{Refused, Bytes}
 use lib.ListN.{length, set, length-append}
 use lib.Seq.{sets}
 use Rattle.block_grammar.specs.Meaning.{Entry}
@@ -128,14 +128,14 @@ value_short t at name v {s} {q} h e f = item_short at name (value_bytes t v) h (
 -- closing, by what is asked
 module _ (buf : List ℕ) (at : ℕ) {cap : ℕ} {really : Bool} where
   pub close_written : really ≡ true → at + length (closing_bytes at) ≤ cap → {k : ℕ} {buf' : List ℕ} → k ≡ at + length (closing_bytes at) → buf' ≡ sets buf at (closing_bytes at)
-      → (Bytes k ≡ wrote_to cap (at + length (closing_bytes at))) × (buf' ≡ put_if really buf at (closing_bytes at))
+      → (Ok k ≡ wrote_to cap (at + length (closing_bytes at))) × (buf' ≡ put_if really buf at (closing_bytes at))
   unfolding put_if wrote_to
   close_written y h p q = (rw (le-leb (at + length (closing_bytes at)) cap h, p), rw (y, q))
 
-  pub close_over : really ≡ false → {k : ℕ} → k ≡ at + length (closing_bytes at) → cap < k → (Refused CanonTooLong ≡ wrote_to cap (at + length (closing_bytes at))) × (buf ≡ put_if really buf at (closing_bytes at))
+  pub close_over : really ≡ false → {k : ℕ} → k ≡ at + length (closing_bytes at) → cap < k → (Err CanonTooLong ≡ wrote_to cap (at + length (closing_bytes at))) × (buf ≡ put_if really buf at (closing_bytes at))
   unfolding put_if wrote_to
   close_over y p h = (rw (lt-leb (at + length (closing_bytes at)) cap (omega arith)), rw y)
 
-  pub close_measured : really ≡ false → {k : ℕ} → k ≡ at + length (closing_bytes at) → k ≤ cap → (Bytes k ≡ wrote_to cap (at + length (closing_bytes at))) × (buf ≡ put_if really buf at (closing_bytes at))
+  pub close_measured : really ≡ false → {k : ℕ} → k ≡ at + length (closing_bytes at) → k ≤ cap → (Ok k ≡ wrote_to cap (at + length (closing_bytes at))) × (buf ≡ put_if really buf at (closing_bytes at))
   unfolding put_if wrote_to
   close_measured y p h = (rw (le-leb (at + length (closing_bytes at)) cap (omega arith), p), rw y)

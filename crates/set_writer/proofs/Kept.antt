@@ -1,5 +1,6 @@
 -- A set whose classes are each listed once lists what the set means, and what is written of the one is written of the other.
 -- Assumes nothing.
+use Rattle.std.specs.Prelude.{Result}
 use mathlib.Core.Path.{◌≡◌, sym}
 use mathlib.Core.List.{List, map}
 use Prim.Native.Nat.{ℕ, ◌<◌}
@@ -11,8 +12,8 @@ use Rattle.set_table.specs.Rows.{listed_of, meaning_of}
 use Rattle.set_table.specs.declared.Attrs.{Attrs}
 use Rattle.set_canon.specs.Canon.{canon}
 use Rattle.set_once.proofs.Kept.{few_once, lists_once}
-use Rattle.set_writer.specs.declared.Wrote.{Wrote}
 use Rattle.set_writer.specs.Write.{wrote_of, content_after}
+use Rattle.base_refusals.specs.declared.Refusal.{Refusal}
 
 module _ (t : Texts) (a : Attrs) where
   -- fewer than two are each there once
@@ -29,9 +30,9 @@ module _ (t : Texts) (a : Attrs) where
   once_listed e = e
 
   -- what is written of a list that is the set's meaning is written of the set
-  pub by_listed : (buf : List ℕ) {m : List Entry} → m ≡ meaning_of t a → {w : Wrote} {b : List ℕ} → w ≡ wrote_of (canon m) (length buf) → b ≡ content_after buf (canon m)
+  pub by_listed : (buf : List ℕ) {m : List Entry} → m ≡ meaning_of t a → {w : Result ℕ Refusal} {b : List ℕ} → w ≡ wrote_of (canon m) (length buf) → b ≡ content_after buf (canon m)
       → (w ≡ wrote_of (canon (meaning_of t a)) (length buf)) × (b ≡ content_after buf (canon (meaning_of t a)))
   by_listed buf e f g = rw (sym e) (f, g)
 
-  pub by_measured : (size : ℕ) {m : List Entry} → m ≡ meaning_of t a → {w : Wrote} → w ≡ wrote_of (canon m) size → w ≡ wrote_of (canon (meaning_of t a)) size
+  pub by_measured : (size : ℕ) {m : List Entry} → m ≡ meaning_of t a → {w : Result ℕ Refusal} → w ≡ wrote_of (canon m) size → w ≡ wrote_of (canon (meaning_of t a)) size
   by_measured size e f = rw (sym e) f

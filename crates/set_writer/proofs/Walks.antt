@@ -1,5 +1,6 @@
 -- The items of a slot, of the classes one by one, and of the slots one by one.
 -- Assumes nothing.
+use Rattle.std.specs.Prelude.{Err, Result}
 use mathlib.Core.Path.{◌≡◌, refl, sym, ◌∙◌, ap, subst}
 use mathlib.Core.Bool.{Bool, true, false, cond}
 use mathlib.Core.List.{List, [], ◌∷◌, ◌++◌, map, append-nil, flat_map}
@@ -24,11 +25,10 @@ use Rattle.set_table.specs.declared.Attrs.{Attrs}
 use Rattle.set_table.specs.declared.Row.{Row}
 use Rattle.set_table.specs.declared.Slot.{Slot}
 use Rattle.set_table.specs.declared.Slot.TheVariants.{Id, Class, Key}
-use Rattle.set_writer.specs.declared.Wrote.{Wrote}
-use Rattle.set_writer.specs.declared.Wrote.TheVariants.{Refused}
 use Rattle.set_writer.specs.Inner.{max_item, put_if, wrote_to, item_text, items_text, id_pairs, key_pairs, class_pairs, closing_bytes}
 use Rattle.set_writer.proofs.Fills.{put-nothing, Fills, fills_start, fills_end, fills_room, fills_within, fills_go}
 use Rattle.set_writer.proofs.Items.{items_append, items_one, text_from, from_append, from_front}
+use Rattle.base_refusals.specs.declared.Refusal.{Refusal}
 
 pub some_item : (at : ℕ) (name v : List ℕ) → items_text at (pairs_of name (v ∷ [])) ≡ item_text at name v
 unfolding pairs_of
@@ -176,7 +176,7 @@ module _ (t : Texts) (a : Attrs) (really : Bool) (buf : List ℕ) (cap : ℕ) wh
 
 module _ {t : Texts} {a : Attrs} {really : Bool} {buf₀ : List ℕ} {cap : ℕ} {buf : List ℕ} {n p : ℕ} (inv : Walks t a really buf₀ cap buf n p) where
   -- more than fits was measured: nothing is written
-  pub walks_over : cap < n → (Refused CanonTooLong ≡ wrote_to cap (length (canon (listed_of t a)))) × (buf ≡ put_if really buf₀ 0 (canon (listed_of t a)))
+  pub walks_over : cap < n → (Err CanonTooLong ≡ wrote_to cap (length (canon (listed_of t a)))) × (buf ≡ put_if really buf₀ 0 (canon (listed_of t a)))
   unfolding wrote_to put_if
   walks_over h = (rw (lt-leb (length (canon (listed_of t a))) cap (omega (arith, inv.fills.left))), go really refl inv.fits inv.fills)
     where
@@ -192,7 +192,7 @@ module _ {t : Texts} {a : Attrs} {really : Bool} {buf₀ : List ℕ} {cap : ℕ}
     pub close_room : really ≡ true → (n + length (closing_bytes n) ≤ length buf) × (n + length (closing_bytes n) ≤ cap)
     close_room y = (fills_room inv.fills (closing_bytes n) [] none y, omega (arith, fills_within inv.fills (closing_bytes n) [] none, inv.fits y))
 
-    pub walks_end : {r : Wrote} {buf' : List ℕ} → r ≡ wrote_to cap (n + length (closing_bytes n)) → buf' ≡ put_if really buf n (closing_bytes n)
+    pub walks_end : {r : Result ℕ Refusal} {buf' : List ℕ} → r ≡ wrote_to cap (n + length (closing_bytes n)) → buf' ≡ put_if really buf n (closing_bytes n)
         → (r ≡ wrote_to cap (length (canon (listed_of t a)))) × (buf' ≡ put_if really buf₀ 0 (canon (listed_of t a)))
     walks_end e f =
         let z = fills_end (fills_go inv.fills (closing_bytes n) [] none refl f) refl in

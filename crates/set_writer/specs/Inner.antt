@@ -1,5 +1,5 @@
 -- What private functions promise: the canonical text part by part. Nothing that a reader of the public promises has to believe.
-use Rattle.std.specs.Prelude.{ℕ, ◌*◌, ◌+◌, Bool, cond, List, [], ◌∷◌, map, eqb, leb, take}
+use Rattle.std.specs.Prelude.{ℕ, ◌*◌, ◌+◌, Bool, cond, List, [], ◌∷◌, map, eqb, leb, take, Err, Ok, Result}
 use Rattle.std.proofs.lemmas.List.Edits.{sets}
 use Rattle.base_refusals.specs.declared.Refusal.TheVariants.{CanonTooLong}
 use Rattle.base_refusals.specs.Numbers.{max_text}
@@ -9,9 +9,8 @@ use Rattle.set_table.specs.Types.{Texts, name_bytes, value_bytes, max_classes}
 use Rattle.set_table.specs.Rows.{Ident, id_values}
 use Rattle.set_table.specs.declared.Value.{Value}
 use Rattle.set_table.specs.declared.Row.{Row}
-use Rattle.set_writer.specs.declared.Wrote.{Wrote}
-use Rattle.set_writer.specs.declared.Wrote.TheVariants.{Refused, Bytes}
 use Rattle.base_bytes.specs.Bytes.{close_brace, open_brace, space}
+use Rattle.base_refusals.specs.declared.Refusal.{Refusal}
 
 -- ---- an item
 
@@ -56,5 +55,5 @@ unfoldable pub put_if : Bool → List ℕ → ℕ → List ℕ → List ℕ
 put_if really buf at xs = cond really (sets buf at xs) buf
 
 -- n bytes, if they are no more than `cap`
-unfoldable pub wrote_to : ℕ → ℕ → Wrote
-wrote_to cap n = cond (leb n cap) (Bytes n) (Refused CanonTooLong)
+unfoldable pub wrote_to : ℕ → ℕ → Result ℕ Refusal
+wrote_to cap n = cond (leb n cap) (Ok n) (Err CanonTooLong)

@@ -12,25 +12,14 @@ ghost use Rattle.set_writer.specs.Write.{wrote_paper, room_order, wrote_of, cont
 ghost use Rattle.set_marks.specs.Marks.{bytes_in};
 ghost use Rattle.set_writer.specs.Inner.{lead_byte, item_text, items_text, closing_bytes, put_if, wrote_to, max_item, max_items, id_pairs, key_pairs, class_pairs};
 
-use base_refusals::{Outcome, Refusal};
+use base_refusals::Refusal;
 use set_table::{Attrs, Name, Origin, Row, Slot, Text, Value};
-use text_escapes::Piece;
-
-// How many bytes were written, or why none were.
-#[derive(Clone, Copy)]
-pub enum Wrote {
-    Refused(Refusal),
-    Bytes(usize),
-}
 
 // The lesser of two numbers.
 fn least(a: usize, b: usize) -> usize
     ensures { result ≡ min a b }
 {
-    if a <= b {
-        return a;
-    }
-    b
+    a.min(b)
 }
 
 // Writes a byte with its backslash.
@@ -56,16 +45,11 @@ fn put_escaped(out: &mut [u8], at: usize, s: &[u8], quoted: bool) -> usize
 {
     let mut k = at;
     let mut i = 0;
-    'pieces: loop {
-        match set_marks::value_piece(s, i, quoted) {
-            Piece::End => break 'pieces k,
-            Piece::Byte(b, next) => {
-                k = put_marked(out, k, b);
-                i = next;
-                continue 'pieces;
-            }
-        }
+    while let Some((b, next)) = set_marks::value_piece(s, i, quoted) {
+        k = put_marked(out, k, b);
+        i = next;
     }
+    k
 }
 
 // The byte before an item: a brace before the first, else a space.
@@ -184,11 +168,8 @@ fn class_items<'a>(
 {
     let many = least(n, Attrs::CLASSES);
     let mut k = at;
-    let mut i = 0;
-    while i < many {
-        let value = classes[i];
-        k = item(out, k, b"class", first, second, value, really);
-        i += 1;
+    for value in classes[..many].iter() {
+        k = item(out, k, b"class", first, second, *value, really);
     }
     k
 }
@@ -220,20 +201,20 @@ fn close_end(at: usize) -> usize
 }
 
 // Closes the text, or only measures it.
-fn close(out: &mut [u8], at: usize, cap: usize, really: bool) -> Wrote
+fn close(out: &mut [u8], at: usize, cap: usize, really: bool) -> Result<usize, Refusal>
     requires at_le_max_text { at ≤ max_text }
     requires at_in_bounds { really ≡ true → (at + length (closing_bytes at) ≤ length out.old) × (at + length (closing_bytes at) ≤ cap) }
     ensures value { result ≡ wrote_to cap (at + length (closing_bytes at)) }
     ensures out_after { out.new ≡ put_if really out.old at (closing_bytes at) }
 {
     if really {
-        return Wrote::Bytes(put_close(out, at));
+        return Ok(put_close(out, at));
     }
     let end = close_end(at);
     if cap < end {
-        return Wrote::Refused(Refusal::CanonTooLong);
+        return Err(Refusal::CanonTooLong);
     }
-    Wrote::Bytes(end)
+    Ok(end)
 }
 
 // The key of a slot that names no row.
@@ -256,7 +237,7 @@ fn walk<'a>(
     out: &mut [u8],
     cap: usize,
     really: bool,
-) -> Wrote
+) -> Result<usize, Refusal>
     requires cap_le_max_text { cap ≤ max_text }
     requires set_len_bound { really ≡ true → (length (canon (listed_of (two first.now second.now) set)) ≤ cap) × (cap ≤ length out.old) }
     ensures value { result ≡ wrote_to cap (length (canon (listed_of (two first.now second.now) set))) }
@@ -265,54 +246,48 @@ fn walk<'a>(
     let slots = least(set.norder as usize, Attrs::SLOTS);
     let keys = least(set.nkey as usize, Attrs::KEYS);
     let mut n = 0;
-    let mut p = 0;
-    'slots: loop {
-        if cap < n {
-            return Wrote::Refused(Refusal::CanonTooLong);
-        }
-        if slots <= p {
-            return close(out, n, cap, really);
-        }
-        let place = set.order[p];
-        let slot = place.slot;
-        p += 1;
-        match slot {
-            Slot::Id => {
-                n = id_item(out, n, first, second, set.given, set.id, really);
-                continue 'slots;
-            }
+    for p in 0..slots {
+        n = match set.order[p].slot {
+            Slot::Id => id_item(out, n, first, second, set.given, set.id, really),
             Slot::Class => {
                 let many = set.nclass as usize;
-                n = class_items(out, n, first, second, set.classes, many, really);
-                continue 'slots;
+                class_items(out, n, first, second, set.classes, many, really)
             }
             Slot::Key(row) => {
                 let k = row as usize;
-                if k < keys {
-                    n = key_item(out, n, first, second, set.keys[k], really);
-                    continue 'slots;
-                }
-                n = key_item(out, n, first, second, no_row(), really);
-                continue 'slots;
+                let row = if k < keys { set.keys[k] } else { no_row() };
+                key_item(out, n, first, second, row, really)
             }
+        };
+        if cap < n {
+            return Err(Refusal::CanonTooLong);
         }
     }
+    close(out, n, cap, really)
 }
 
 // The canonical text of a set with every class that it lists, where it has room.
-fn write_listed<'a>(first: &'a [u8], second: &'a [u8], set: Attrs, out: &mut [u8]) -> Wrote
+fn write_listed<'a>(
+    first: &'a [u8],
+    second: &'a [u8],
+    set: Attrs,
+    out: &mut [u8],
+) -> Result<usize, Refusal>
     ensures value { result ≡ wrote_of (canon (listed_of (two first.now second.now) set)) (length out.old) }
     ensures out_after { out.new ≡ content_after out.old (canon (listed_of (two first.now second.now) set)) }
 {
     let cap = least(out.len(), base_refusals::MAX_TEXT);
-    match walk(first, second, set, out, cap, false) {
-        Wrote::Refused(why) => Wrote::Refused(why),
-        Wrote::Bytes(_) => walk(first, second, set, out, cap, true),
-    }
+    walk(first, second, set, out, cap, false)?;
+    walk(first, second, set, out, cap, true)
 }
 
 // The canonical text of a set at the front of lent memory, where it has room. Where fewer than two classes are listed there is nothing to compare.
-pub fn write_set<'a>(first: &'a [u8], second: &'a [u8], set: Attrs, out: &mut [u8]) -> Wrote
+pub fn write_set<'a>(
+    first: &'a [u8],
+    second: &'a [u8],
+    set: Attrs,
+    out: &mut [u8],
+) -> Result<usize, Refusal>
     ensures value { result ≡ wrote_of (canon (meaning_of (two first.now second.now) set)) (length out.old) }
     ensures out_after { out.new ≡ content_after out.old (canon (meaning_of (two first.now second.now) set)) }
     ensures result_value { wrote_paper result ≡ on_paper (room_order (canon (meaning_of (two first.now second.now) set)) (length out.old)) (length (canon (meaning_of (two first.now second.now) set)) ∷ []) }
@@ -325,7 +300,7 @@ pub fn write_set<'a>(first: &'a [u8], second: &'a [u8], set: Attrs, out: &mut [u
 }
 
 // How many bytes the text has that lists every class of the set; nothing is written.
-fn measure_listed<'a>(first: &'a [u8], second: &'a [u8], set: Attrs) -> Wrote
+fn measure_listed<'a>(first: &'a [u8], second: &'a [u8], set: Attrs) -> Result<usize, Refusal>
     ensures { result ≡ wrote_of (canon (listed_of (two first.now second.now) set)) max_text }
 {
     let mut none = [0u8; 1];
@@ -340,7 +315,7 @@ fn measure_listed<'a>(first: &'a [u8], second: &'a [u8], set: Attrs) -> Wrote
 }
 
 // How many bytes the canonical text of a set has, if it isn't too long: what `write_set` says for a buffer of 65,535 bytes, without the buffer.
-pub fn measure_set<'a>(first: &'a [u8], second: &'a [u8], set: Attrs) -> Wrote
+pub fn measure_set<'a>(first: &'a [u8], second: &'a [u8], set: Attrs) -> Result<usize, Refusal>
     ensures value { result ≡ wrote_of (canon (meaning_of (two first.now second.now) set)) max_text }
     ensures result_value { wrote_paper result ≡ on_paper (room_order (canon (meaning_of (two first.now second.now) set)) max_text) (length (canon (meaning_of (two first.now second.now) set)) ∷ []) }
 {
@@ -352,21 +327,22 @@ pub fn measure_set<'a>(first: &'a [u8], second: &'a [u8], set: Attrs) -> Wrote
 }
 
 // The writer: the canonical text of a well-formed set at the front of lent memory, where it has room.
-pub fn write_attrs<'a>(first: &'a [u8], second: &'a [u8], set: Attrs, out: &mut [u8]) -> Wrote
+pub fn write_attrs<'a>(
+    first: &'a [u8],
+    second: &'a [u8],
+    set: Attrs,
+    out: &mut [u8],
+) -> Result<usize, Refusal>
     ensures value { result ≡ attrs_wrote (two first.now second.now) set (length out.old) }
     ensures out_after { out.new ≡ attrs_content (two first.now second.now) set out.old }
     ensures result_value { wrote_paper result ≡ on_paper (writer_order (two first.now second.now) set (length out.old)) (length (canon (meaning_of (two first.now second.now) set)) ∷ []) }
 {
-    match text_checks::check_both(first, second) {
-        Outcome::Refused(why) => Wrote::Refused(why),
-        Outcome::Passed => {
-            if !set_wellformed::table_ok(first, second, set) {
-                return Wrote::Refused(Refusal::NotWellFormed);
-            }
-            if set.norder == 0 {
-                return Wrote::Refused(Refusal::EmptySet);
-            }
-            write_set(first, second, set, out)
-        }
+    text_checks::check_both(first, second)?;
+    if !set_wellformed::table_ok(first, second, set) {
+        return Err(Refusal::NotWellFormed);
     }
+    if set.norder == 0 {
+        return Err(Refusal::EmptySet);
+    }
+    write_set(first, second, set, out)
 }

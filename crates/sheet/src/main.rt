@@ -2,7 +2,7 @@
 // files that its arguments name, one after the other and each under a heading, and for `-` standard input.
 #![tactic(auto)]
 
-use sheet_files::{Sheet, System};
+use sheet_files::System;
 use sheet_report::{Part, Told};
 
 fn main(rt: HostRuntime) {
@@ -14,31 +14,27 @@ fn main(rt: HostRuntime) {
 
 fn report_all(rt: &impl System, text: &mut [u8], join: &mut [u8], out: &mut [u8]) {
     let count = sheet_files::count(rt);
-    let mut i = 0;
-    while i < count {
+    for i in 0..count {
         report_on(rt, i, text, join, out);
-        i += 1;
     }
 }
 
 // The report on one sheet, where there is such a file.
 fn report_on(rt: &impl System, i: usize, text: &mut [u8], join: &mut [u8], out: &mut [u8]) {
     match sheet_files::read(rt, i, text) {
-        Sheet::Missing => {}
-        Sheet::Bytes(n) => write_report(rt, set_table::bytes_of(text, 0, n), join, out),
+        None => {}
+        Some(n) => write_report(rt, set_table::bytes_of(text, 0, n), join, out),
     }
 }
 
-// Writes the report part by part. A proved loop has to end, so it counts its turns down, from a number that no sheet uses up.
+// Writes the report part by part. A proved loop has to end: this one goes on for more turns than any sheet needs.
 fn write_report(rt: &impl Print, text: &[u8], join: &mut [u8], out: &mut [u8]) {
     let mut part = sheet_report::report_start(text, join, out);
-    let mut turns = u64::MAX;
-    while turns > 0 {
+    for _ in 0..u64::MAX {
         if !write_part(rt, part, out) {
             return;
         }
         part = sheet_report::report_part(text, part.at, part.line, join, out);
-        turns -= 1;
     }
 }
 
@@ -47,10 +43,5 @@ fn write_part(rt: &impl Print, part: Part, out: &[u8]) -> bool {
     if !sheet_files::say(rt, set_table::bytes_of(out, 0, part.len)) {
         return false;
     }
-    let told = part.told;
-    match told {
-        Told::More => true,
-        Told::Done => false,
-        Told::Refused(_) => false,
-    }
+    matches!(part.told, Ok(Told::More))
 }

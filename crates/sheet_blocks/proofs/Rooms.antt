@@ -1,5 +1,6 @@
 -- A join buffer as long as the text is long enough: the tries of a sheet don't depend on its length then, and 9 can't arise.
 -- Assumes nothing.
+use Rattle.std.specs.Prelude.{Err, Ok}
 use mathlib.Core.Path.{◌≡◌, refl, sym, ◌∙◌, ap}
 use mathlib.Core.Bool.{Bool, true, false, cond, not, ◌&&◌}
 use mathlib.Core.List.{List, [], ◌∷◌, map}
@@ -17,7 +18,6 @@ use Rattle.text_lines.specs.declared.Range.{Range}
 use Rattle.run_scanners.specs.Scanners.{holds_open}
 use Rattle.run_joins.specs.Joins.{Lined, So, may_join, after}
 use Rattle.run_lines.specs.Runs.{as_is, start, Run, ended, run_from, run_at}
-use Rattle.base_refusals.specs.declared.Outcome.TheVariants.{Passed, Refused}
 use Rattle.run_lines.proofs.Bounds.{never_full}
 use Rattle.read_blocks.specs.Blocks.{lines_of, run_found, found}
 use Rattle.read_lengths.specs.Lengths.{flush_left}
@@ -34,7 +34,7 @@ same-run cap more h so (l ∷ ls) e = go (may_join so l) (ltb cap n) refl (is_in
     n = length (after so l).text
 
     R : Bool → Bool → Bool → Run → Run
-    R x y z rest = cond x (cond y (ended (Refused JoinFull) so) (cond z (ended Passed (after so l)) rest)) (ended (Refused NoReading) so)
+    R x y z rest = cond x (cond y (ended (Err JoinFull) so) (cond z (ended (Ok tt) (after so l)) rest)) (ended (Err NoReading) so)
 
     go : (x y : Bool) → ltb cap n ≡ y → (z : Bool) → eqb (outcome_no (R x y z (run_from cap (after so l) ls)).stop) 9 ≡ false
         → (eqb (outcome_no (run_from cap (after so l) ls).stop) 9 ≡ false → run_from cap (after so l) ls ≡ run_from more (after so l) ls)

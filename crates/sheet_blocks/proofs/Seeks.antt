@@ -1,5 +1,6 @@
 -- The loop of `next_block`: before the line at `from`, the first block among the tries to come is the one sought.
 -- Assumes nothing.
+use Rattle.std.specs.Prelude.{Err}
 use mathlib.Core.Path.{◌≡◌, refl, sym, ◌∙◌, ap}
 use mathlib.Core.Bool.{true, false, not}
 use mathlib.Core.List.{List}
@@ -16,7 +17,6 @@ use Rattle.text_lines.specs.Lines.{line_from}
 use Rattle.text_lines.specs.declared.LineEnd.{LineEnd}
 use Rattle.text_lines.proofs.Lines.{next_beyond}
 use Rattle.run_lines.specs.Runs.{past_lines}
-use Rattle.base_refusals.specs.declared.Outcome.TheVariants.{Refused}
 use Rattle.read_blocks.specs.Blocks.{nothing, found, join_holds, block_by, block_of, sized, unread}
 use Rattle.read_lengths.specs.Lengths.{flush_left}
 use Rattle.read_blocks.specs.declared.Block.{Block}
@@ -42,7 +42,7 @@ too_long_lem t at buf h w = let z = nothing_read t at buf TextTooLong (sized_lon
 
 -- "and answer 9, right after 2, for a shorter one"
 pub too_short : (t : List ℕ) (at : ℕ) (buf : List ℕ) {x : Block} {b : List ℕ} {r : Next} → length t ≤ max_text → length buf < max_text → Read t (length t) buf x b
-    → r ≡ record { skipped = 0; at = at; block = block_by (record { outcome = Refused JoinFull; set = x.set }) 0 0 0 at }
+    → r ≡ record { skipped = 0; at = at; block = block_by (record { outcome = Err JoinFull; set = x.set }) 0 0 0 at }
     → (r ≡ next_of t (length buf) at) × (b ≡ join_behind buf (next_tries t (length buf) at))
 unfolding next_of next_tries join_behind
 too_short t at buf h j w e =

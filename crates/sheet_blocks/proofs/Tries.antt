@@ -1,5 +1,6 @@
 -- The tries of a sheet step by step: what is found at a line, and what comes behind it.
 -- Assumes nothing.
+use Rattle.std.specs.Prelude.{Err, Ok, Result}
 use mathlib.Core.Path.{◌≡◌, refl, sym, ◌∙◌, ap}
 use mathlib.Core.Bool.{Bool, true, false, not, cond, ◌&&◌, ◌||◌}
 use mathlib.Core.List.{List, [], ◌∷◌}
@@ -30,8 +31,6 @@ use Rattle.block_chain.specs.Chain.{good_line}
 use Rattle.block_chain.specs.Computed.{read_blocks, blocks_from}
 use Rattle.run_joins.specs.Joins.{Lined, So}
 use Rattle.run_lines.specs.Runs as runs
-use Rattle.base_refusals.specs.declared.Outcome as outcomes
-use Rattle.base_refusals.specs.declared.Outcome.TheVariants as outcome
 use Rattle.run_lines.proofs.Bounds.{run_by_lem, text_le}
 use Rattle.block_trimmed_line.specs.Fronts.{front_of, opens_at, begins_indented}
 use Rattle.read_blocks.specs.Blocks.{Found, nothing, closed_run, ended_run, run_found, found, joined_in, lines_of, join_holds}
@@ -65,9 +64,9 @@ module _ (P : Found → Type 0) (t : List ℕ) (at base cap : ℕ) where
       closed true e = y r refl e
       closed false e = n r refl NoReading
 
-      go : (x : outcomes.Outcome) → P (ended_run r x)
-      go outcome.Passed = closed (good_line r.text 0 (length r.text)) refl
-      go (outcome.Refused q) = n r refl q
+      go : (x : Result (Unit {0}) Refusal) → P (ended_run r x)
+      go (Ok _) = closed (good_line r.text 0 (length r.text)) refl
+      go (Err q) = n r refl q
 
 module _ (P : Found → Type 0) (t : List ℕ) (at cap : ℕ) where
   pub flush_by : P (nothing NothingThere) → P (found t at 0 cap) → P (flush_left t cap at)

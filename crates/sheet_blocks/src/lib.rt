@@ -1,16 +1,15 @@
 // The blocks of a sheet, one after the other.
 #![tactic(auto)]
 
-ghost use Rattle.std.specs.Prelude.{not, ◌≡◌, length, drop};
+ghost use Rattle.std.specs.Prelude.{not, ◌≡◌, length, drop, Err};
 ghost use Rattle.base_refusals.specs.Numbers.{outcome_no};
 ghost use Rattle.base_refusals.specs.Orders.{order_no};
 ghost use Rattle.text_lines.specs.Lines.{before_lf};
 ghost use Rattle.sheet_blocks.specs.Sheets.{may_open, join_behind, next_of, next_tries, next_order};
 ghost use Rattle.base_refusals.specs.declared.Refusal.TheVariants.{JoinFull};
-ghost use Rattle.base_refusals.specs.declared.Outcome.TheVariants.{Refused};
 ghost use Rattle.read_blocks.specs.Blocks.{block_by};
 
-use base_refusals::{Outcome, Refusal};
+use base_refusals::Refusal;
 use read_blocks::Block;
 use set_table::Attrs;
 
@@ -61,13 +60,13 @@ fn at_once(at: usize, block: Block) -> Next
 
 // The join buffer is shorter than whole sheets need; the set is an empty one.
 fn short_join(set: Attrs, at: usize) -> Next
-    ensures { result ≡ record { skipped = 0; at = at; block = block_by (record { outcome = Refused JoinFull; set = set }) 0 0 0 at } }
+    ensures { result ≡ record { skipped = 0; at = at; block = block_by (record { outcome = Err JoinFull; set = set }) 0 0 0 at } }
 {
     Next {
         skipped: 0,
         at,
         block: Block {
-            outcome: Outcome::Refused(Refusal::JoinFull),
+            outcome: Err(Refusal::JoinFull),
             set,
             lines: 0,
             lookahead: 0,
@@ -95,12 +94,8 @@ pub fn next_block(text: &[u8], at: usize, join: &mut [u8]) -> Next
     }
     let mut skipped = 0;
     let mut from = at;
-    'lines: loop {
-        if text.len() <= from {
-            let mut block = read_blocks::read_at(text, from, join);
-            block.next = at;
-            return at_once(at, block);
-        }
+    // A while: where a line ends is known only once it is gone through, so no range or iterator gives the places.
+    while from < text.len() {
         if may_open(text, from) {
             let block = read_blocks::read_at(text, from, join);
             if block.lines != 0 {
@@ -110,14 +105,12 @@ pub fn next_block(text: &[u8], at: usize, join: &mut [u8]) -> Next
                     block,
                 };
             }
-            let l = text_lines::line_from(text, from);
-            skipped += 1;
-            from = l.next;
-            continue 'lines;
         }
         let l = text_lines::line_from(text, from);
         skipped += 1;
         from = l.next;
-        continue 'lines;
     }
+    let mut block = read_blocks::read_at(text, from, join);
+    block.next = at;
+    at_once(at, block)
 }

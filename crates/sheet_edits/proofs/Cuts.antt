@@ -1,6 +1,8 @@
 -- How the old and the new text fall into the part that stays before, the lines that are read again, and the part that stays behind; and what may be replaced by
 -- rule and by computing.
 -- Assumes nothing.
+use Rattle.std.proofs.lemmas.Option.{some_pair_parts}
+use Rattle.std.specs.Prelude.{None, Option, Some}
 use mathlib.Core.Path.{◌≡◌, refl, sym, ◌∙◌, ap}
 use mathlib.Core.Bool.{Bool, true, false, cond, not}
 use mathlib.Core.List.{List, [], ◌∷◌, ◌++◌, append-nil, append_assoc}
@@ -22,8 +24,6 @@ use Rattle.base_refusals.specs.Orders.{in_order, on_paper}
 use Rattle.base_refusals.specs.declared.Refusal.TheVariants.{NothingThere}
 use Rattle.text_lines.specs.Lines.{eol, lines, line_from, line_of, behind_lfs, line_start, is_no_line}
 use Rattle.text_lines.specs.declared.Range.{Range}
-use Rattle.text_lines.specs.declared.Line as places
-use Rattle.text_lines.specs.declared.Line.TheVariants as place
 use Rattle.text_lines.proofs.Lines.{line_found, next_le, next_beyond}
 use Rattle.text_lines.proofs.Counted.{line_paper_lem}
 use Rattle.block_trimmed_line.specs.Fronts.{begins_indented}
@@ -32,10 +32,6 @@ use Rattle.sheet_splits.proofs.Lines.{whole_drop}
 use Rattle.sheet_edits.specs.Edits.{is_flat, flat_from, last_flat, till_flat, keeps, more_again, span_by, span_to, span_from, span_of, again_in, again_by, again_of, is_again, Replaced}
 use Rattle.sheet_edits.specs.Rules.{FlatLine}
 use Rattle.sheet_edits.proofs.Walks.{till_le}
-use Rattle.sheet_edits.specs.declared.Span as spans
-use Rattle.sheet_edits.specs.declared.Span.TheVariants as span
-use Rattle.sheet_edits.specs.declared.Again as agains
-use Rattle.sheet_edits.specs.declared.Again.TheVariants as again
 
 -- ---- texts that are empty or end in LF
 
@@ -163,7 +159,7 @@ lfs_grow (b ∷ s) (suc m) (suc n) h = go (eqb b 10) (lfs_grow s m n (omega arit
     go true h k = omega arith
     go false h k = omega arith
 
-start_is : (n : ℕ) (t : List ℕ) (r : Range) → line_of n t ≡ place.At r → r.from ≡ line_start n t
+start_is : (n : ℕ) (t : List ℕ) (r : Range) → line_of n t ≡ Some r → r.from ≡ line_start n t
 unfolding on_paper in_order number_of
 start_is n t r e = go (is_no_line n t) (rw e at (line_paper_lem n t))
   where
@@ -171,13 +167,21 @@ start_is n t r e = go (is_no_line n t) (rw e at (line_paper_lem n t))
     go true h = let z : ◌≡◌ {A = ℕ} 0 3 = ap (λ x. x.number) h in absurd (omega arith)
     go false h = ap (λ x. get_or x.values 0 0) h
 
-module _ (t : List ℕ) (a b : ℕ) {from to : ℕ} (e : span_of t a b ≡ span.At from to) where
+-- what two answers of three numbers share
+pub some_parts : {a b c x y z : ℕ} → ◌≡◌ {A = Option (ℕ × ℕ × ℕ)} (Some (a, b, c)) (Some (x, y, z)) → (a ≡ x) × (b ≡ y) × (c ≡ z)
+some_parts {a} {b} {c} e = (
+  ap (λ (o : Option (ℕ × ℕ × ℕ)). elim o [ None ↦ a | Some u ↦ u.0 ]) e,
+  ap (λ (o : Option (ℕ × ℕ × ℕ)). elim o [ None ↦ b | Some u ↦ u.1 ]) e,
+  ap (λ (o : Option (ℕ × ℕ × ℕ)). elim o [ None ↦ c | Some u ↦ u.2 ]) e,
+)
+
+module _ (t : List ℕ) (a b : ℕ) {from to : ℕ} (e : span_of t a b ≡ Some (from, to)) where
   record Spans : Type 0 where
     pub order : a ≤ b
     pub first : Range
     pub last : Range
-    pub is_first : line_of a t ≡ place.At first
-    pub is_last : line_of b t ≡ place.At last
+    pub is_first : line_of a t ≡ Some first
+    pub is_last : line_of b t ≡ Some last
     pub starts : from ≡ first.from
     pub ends : to ≡ (line_from t last.from).next
 
@@ -185,13 +189,13 @@ module _ (t : List ℕ) (a b : ℕ) {from to : ℕ} (e : span_of t a b ≡ span.
   unfolding span_of span_to
   spans_are = go (ltb b a) refl (line_of a t) refl (line_of b t) refl e
     where
-      go : (x : Bool) → ltb b a ≡ x → (l : places.Line) → line_of a t ≡ l → (k : places.Line) → line_of b t ≡ k → cond x span.Missing (span_from t b l) ≡ span.At from to → Spans
+      go : (x : Bool) → ltb b a ≡ x → (l : Option Range) → line_of a t ≡ l → (k : Option Range) → line_of b t ≡ k → cond x None (span_from t b l) ≡ Some (from, to) → Spans
       go true x l p k q h = let z : ◌≡◌ {A = ℕ} 0 1 = cc in absurd (omega arith)
-      go false x place.Missing p k q h = let z : ◌≡◌ {A = ℕ} 0 1 = cc in absurd (omega arith)
-      go false x (place.At r) p place.Missing q h = let y = rw q at h in let z : ◌≡◌ {A = ℕ} 0 1 = cc in absurd (omega arith)
-      go false x (place.At r) p (place.At s) q h =
-          let y : span_by t r.from (place.At s) ≡ span.At from to = rw q at h in
-          record { order = ltb-false b a x; first = r; last = s; is_first = p; is_last = q; starts = cc; ends = cc }
+      go false x None p k q h = let z : ◌≡◌ {A = ℕ} 0 1 = cc in absurd (omega arith)
+      go false x (Some r) p None q h = let y = rw q at h in let z : ◌≡◌ {A = ℕ} 0 1 = cc in absurd (omega arith)
+      go false x (Some r) p (Some s) q h =
+          let y : span_by t r.from (Some s) ≡ Some (from, to) = rw q at h in
+          record { order = ltb-false b a x; first = r; last = s; is_first = p; is_last = q; starts = sym (some_pair_parts _ _ _ _ y).0; ends = sym (some_pair_parts _ _ _ _ y).1 }
 
   pub span_within : (from ≤ to) × (to ≤ length t)
   span_within =
@@ -222,7 +226,7 @@ kept old new from to e =
     record { room = leb-true (from + (length old - to)) (length new) x.0; front = same_true (take from new) (take from old) y.0; end = same_true (drop (length new - (length old - to)) new) (drop to old) y.1 }
 
 module _ (old new : List ℕ) (a b : ℕ) where
-  module _ {from to : ℕ} (q : span_of old a b ≡ span.At from to) where
+  module _ {from to : ℕ} (q : span_of old a b ≡ Some (from, to)) where
     module _ (k : keeps old new from to ≡ true) where
       abbrev new_to : ℕ
       new_to = length new - (length old - to)
@@ -292,35 +296,36 @@ module _ (old new : List ℕ) (a b : ℕ) where
         let g : drop (length new - (length old - to)) new ≡ drop to old = ap (drop (length new - (length old - to))) (e ∙ sym (append_assoc (take from old) x (drop to old))) ∙ drop_at (take from old ++ x) (drop to old) (length new - (length old - to)) z in
         rw (le-leb (from + (length old - to)) (length new) (omega (arith, n)), same_of f, same_of g)
 
-  pub again_cuts : {p e n : ℕ} → again_of old new a b ≡ again.Lines p e n → Cuts old new p e n
+  pub again_cuts : {p e n : ℕ} → again_of old new a b ≡ Some (p, e, n) → Cuts old new p e n
   unfolding again_of again_in
   again_cuts {p} {e} {n} = go (span_of old a b) refl
     where
-      here : (from to : ℕ) → span_of old a b ≡ span.At from to → (x : Bool) → keeps old new from to ≡ x
-          → cond x (again.Lines (last_flat (take from old)) (to + more_again old new to) (length new - (length old - to) + more_again old new to)) again.Missing ≡ again.Lines p e n → Cuts old new p e n
+      here : (from to : ℕ) → span_of old a b ≡ Some (from, to) → (x : Bool) → keeps old new from to ≡ x
+          → cond {A = Option (ℕ × ℕ × ℕ)} x (Some (last_flat (take from old), to + more_again old new to, length new - (length old - to) + more_again old new to)) None ≡ Some (p, e, n) → Cuts old new p e n
       here from to q true k h =
-          let i : last_flat (take from old) ≡ p = cc in
-          let j : to + more_again old new to ≡ e = cc in
-          let l : length new - (length old - to) + more_again old new to ≡ n = cc in
+          let w = some_parts h in
+          let i : last_flat (take from old) ≡ p = w.0 in
+          let j : to + more_again old new to ≡ e = w.1 in
+          let l : length new - (length old - to) + more_again old new to ≡ n = w.2 in
           rw (i, j, l) at (cuts q k)
       here from to q false k h = let z : ◌≡◌ {A = ℕ} 0 1 = cc in absurd (omega arith)
 
-      go : (s : spans.Span) → span_of old a b ≡ s → again_by old new s ≡ again.Lines p e n → Cuts old new p e n
-      go span.Missing q h = let z : ◌≡◌ {A = ℕ} 0 1 = cc in absurd (omega arith)
-      go (span.At from to) q h = here from to q (keeps old new from to) refl h
+      go : (s : Option (ℕ × ℕ)) → span_of old a b ≡ s → again_by old new s ≡ Some (p, e, n) → Cuts old new p e n
+      go None q h = let z : ◌≡◌ {A = ℕ} 0 1 = cc in absurd (omega arith)
+      go (Some (from, to)) q h = here from to q (keeps old new from to) refl h
 
   pub again_replaced : is_again (again_of old new a b) ≡ true → Replaced old new a b
   unfolding again_of again_in
   again_replaced = go (span_of old a b) refl
     where
-      here : (from to : ℕ) → span_of old a b ≡ span.At from to → (x : Bool) → keeps old new from to ≡ x
-          → is_again (cond x (again.Lines (last_flat (take from old)) (to + more_again old new to) (length new - (length old - to) + more_again old new to)) again.Missing) ≡ true → Replaced old new a b
+      here : (from to : ℕ) → span_of old a b ≡ Some (from, to) → (x : Bool) → keeps old new from to ≡ x
+          → is_again (cond {A = Option (ℕ × ℕ × ℕ)} x (Some (last_flat (take from old), to + more_again old new to, length new - (length old - to) + more_again old new to)) None) ≡ true → Replaced old new a b
       here from to q true k h = replaced q k
       here from to q false k h = contra false h refl
 
-      go : (s : spans.Span) → span_of old a b ≡ s → is_again (again_by old new s) ≡ true → Replaced old new a b
-      go span.Missing q h = contra false h refl
-      go (span.At from to) q h = here from to q (keeps old new from to) refl h
+      go : (s : Option (ℕ × ℕ)) → span_of old a b ≡ s → is_again (again_by old new s) ≡ true → Replaced old new a b
+      go None q h = contra false h refl
+      go (Some (from, to)) q h = here from to q (keeps old new from to) refl h
 
   pub replaced_again : Replaced old new a b → is_again (again_of old new a b) ≡ true
   unfolding again_of again_in

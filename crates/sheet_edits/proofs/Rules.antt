@@ -1,5 +1,6 @@
 -- The lines that are read again: by what they are, and by computing.
 -- Assumes nothing.
+use Rattle.std.specs.Prelude.{Some}
 use mathlib.Core.Path.{◌≡◌, refl, sym, ◌∙◌, ap}
 use mathlib.Core.Bool.{Bool, true, false, cond}
 use mathlib.Core.List.{List, [], ◌∷◌, ◌++◌, append_assoc}
@@ -16,9 +17,8 @@ use Rattle.block_trimmed_line.specs.Fronts.{begins_indented}
 use Rattle.sheet_splits.specs.Parting.{is_whole}
 use Rattle.sheet_edits.specs.Edits.{is_flat, flat_from, last_flat, till_flat, more_again, again_in, again_of, is_again, Replaced}
 use Rattle.sheet_edits.specs.Rules.{FlatLine, LastFlat, FirstFlat, ReadAgain}
-use Rattle.sheet_edits.specs.declared.Again.TheVariants as again
 use Rattle.sheet_edits.proofs.Walks.{till_le}
-use Rattle.sheet_edits.proofs.Cuts.{whole_snoc, snoc_append, till_stops, last_flat_lem, span_within, keeps-all, again_replaced}
+use Rattle.sheet_edits.proofs.Cuts.{whole_snoc, snoc_append, till_stops, last_flat_lem, span_within, keeps-all, again_replaced, some_parts}
 
 -- where such a line begins behind x, the byte there says so
 here_flat : (t x : List ℕ) (b : ℕ) (s : List ℕ) → t ≡ x ++ (b ∷ s) → FlatLine t (length x) → is_flat (is_whole x) b ≡ true
@@ -130,23 +130,24 @@ module _ (old new : List ℕ) (a b : ℕ) where
     first_of : FirstFlat new (r.from + length r.middle) (length new - (length old - r.to) + more)
     first_of = first_moved (first_line front (drop r.to old)) (sym new_is) front_length (omega (arith, front_end, more_is))
 
-    computed : again_of old new a b ≡ again.Lines (last_flat (take r.from old)) (r.to + more) (length new - (length old - r.to) + more)
+    computed : again_of old new a b ≡ Some (last_flat (take r.from old), r.to + more, length new - (length old - r.to) + more)
     unfolding again_of again_in
     computed = rw (r.lines, keeps-all old new a b r.lines r.middle r.text)
 
     place_of : r.to + more + length new ≡ length new - (length old - r.to) + more + length old
     place_of = omega (arith, new_length, to_within.1)
 
-  pub again_rule : {p e n : ℕ} → again_of old new a b ≡ again.Lines p e n → ReadAgain old new a b p e n
+  pub again_rule : {p e n : ℕ} → again_of old new a b ≡ Some (p, e, n) → ReadAgain old new a b p e n
   again_rule {p} {e} {n} q =
       let r = again_replaced old new a b (ap (λ x. is_again x) q) in
-      let c : again.Lines (last_flat (take r.from old)) (r.to + more_again old new r.to) (length new - (length old - r.to) + more_again old new r.to) ≡ again.Lines p e n = sym (computed r) ∙ q in
-      let i : last_flat (take r.from old) ≡ p = cc in
-      let j : r.to + more_again old new r.to ≡ e = cc in
-      let k : length new - (length old - r.to) + more_again old new r.to ≡ n = cc in
+      let c : Some (last_flat (take r.from old), r.to + more_again old new r.to, length new - (length old - r.to) + more_again old new r.to) ≡ Some (p, e, n) = sym (computed r) ∙ q in
+      let w = some_parts c in
+      let i : last_flat (take r.from old) ≡ p = w.0 in
+      let j : r.to + more_again old new r.to ≡ e = w.1 in
+      let k : length new - (length old - r.to) + more_again old new r.to ≡ n = w.2 in
       record { replaced = r; begin = rw i at (last_line (take r.from old)); end = rw k at (first_of r); old_end = omega (arith, j, k, place_of r) }
 
-  pub rule_again : {p e n : ℕ} → ReadAgain old new a b p e n → again_of old new a b ≡ again.Lines p e n
+  pub rule_again : {p e n : ℕ} → ReadAgain old new a b p e n → again_of old new a b ≡ Some (p, e, n)
   rule_again {p} {e} {n} w =
       let r = w.replaced in
       let l = last_line (take r.from old) in

@@ -1,5 +1,6 @@
 -- The loops over a text's bytes and lines, and the tests of a replaced part.
 -- Assumes nothing.
+use Rattle.std.specs.Prelude.{Some, None}
 use mathlib.Core.Path.{◌≡◌, refl, sym, ◌∙◌, ap}
 use mathlib.Core.Bool.{Bool, true, false, cond, not}
 use mathlib.Core.List.{List, [], ◌∷◌, ◌++◌}
@@ -10,7 +11,6 @@ use native.Mathlib.Omega.{arith}
 use borrow.Author.Tests.{le-leb, lt-leb, leb-true, not-true, not-false}
 use Rattle.base_lists.proofs.Scan.{both}
 use Rattle.base_bytes.specs.Bytes.{is_indent}
-use Rattle.sheet_edits.specs.declared.Again.TheVariants as again
 use lib.Dec.{eqb}
 use lib.ListN.{length, get_or, take, drop, drop_of_length-le, length-drop, length-take}
 use lib.Seq.{slice, drop-cons, take_all, take-suc, take-length, length-take-le, get_or-take}
@@ -18,8 +18,6 @@ use Rattle.base_lists.specs.Lists.{same}
 use Rattle.text_lines.specs.Lines.{lines, line_from, line_of}
 use Rattle.text_lines.specs.declared.Range.{Range}
 use Rattle.text_lines.specs.declared.LineEnd.{LineEnd}
-use Rattle.text_lines.specs.declared.Line.TheVariants as place
-use Rattle.sheet_edits.specs.declared.Span.TheVariants as span
 use Rattle.text_lines.proofs.Lines.{lines_end, line_at_lem, next_beyond, next_le}
 use Rattle.sheet_splits.specs.Parting.{is_whole}
 use Rattle.sheet_edits.specs.Edits.{span_to, is_flat, flat_from, last_flat, till_flat, keeps, again_in}
@@ -196,7 +194,7 @@ pub more_le : (old : List ℕ) (to : ℕ) {ys : List ℕ} {m : ℕ} → ys ≡ s
 more_le old to j g = omega (arith, g, ap length j, length-drop to (take (length old) old), length-take (length old) old)
 
 module _ (old new : List ℕ) (from to : ℕ) {k : Bool} (e : k ≡ keeps old new from to) where
-  pub not_again : not k ≡ true → again.Missing ≡ again_in old new from to
+  pub not_again : not k ≡ true → None ≡ again_in old new from to
   unfolding again_in
   not_again y = rw (← e, not-true k y)
 
@@ -206,7 +204,7 @@ module _ (old new : List ℕ) (from to : ℕ) {k : Bool} (e : k ≡ keeps old ne
     again_room = leb-true (from + (length old - to)) (length new) (both _ _ (sym e ∙ not-false k y)).0
 
     pub again_lines : {xs ys zs : List ℕ} {w : Bool} {m p : ℕ} → xs ≡ slice 0 (length new - (length old - to)) new → w ≡ is_whole xs → ys ≡ slice to (length old) old → m ≡ till_flat w ys
-        → zs ≡ slice 0 from old → p ≡ last_flat zs → again.Lines p (to + m) (length new - (length old - to) + m) ≡ again_in old new from to
+        → zs ≡ slice 0 from old → p ≡ last_flat zs → Some (p, to + m, length new - (length old - to) + m) ≡ again_in old new from to
     unfolding again_in
     again_lines i f j g l h =
         let z = rw (j, take_all (length old) old (omega arith), f, i) at g in
@@ -214,6 +212,6 @@ module _ (old new : List ℕ) (from to : ℕ) {k : Bool} (e : k ≡ keeps old ne
 
 -- ---- the lines of an edit
 
-pub one_line : (t : List ℕ) (a b : ℕ) {r : Range} {l : LineEnd} → line_of a t ≡ place.At r → a ≡ b → l ≡ line_from t r.from → span.At r.from l.next ≡ span_to t r.from b
+pub one_line : (t : List ℕ) (a b : ℕ) {r : Range} {l : LineEnd} → line_of a t ≡ Some r → a ≡ b → l ≡ line_from t r.from → Some (r.from, l.next) ≡ span_to t r.from b
 unfolding span_to
 one_line t a b e f g = rw (← f, e, g)

@@ -1,43 +1,38 @@
 -- "mend after lines a to b were replaced": which lines of the new text are read again.
-use Rattle.std.specs.Prelude.{ℕ, suc, ◌+◌, ◌-◌, ◌≡◌, Bool, true, false, cond, not, ◌&&◌, List, [], ◌∷◌, ◌++◌, eqb, leb, ltb, length, take, drop}
+use Rattle.std.specs.Prelude.{ℕ, suc, ◌+◌, ◌-◌, ◌≡◌, Bool, true, false, cond, not, ◌&&◌, List, [], ◌∷◌, ◌++◌, eqb, leb, ltb, length, take, drop, None, Option, Some}
 use Rattle.std.proofs.Math.Seq.{slice}
 use Rattle.base_lists.specs.Lists.{same}
 use Rattle.base_bytes.specs.Bytes.{is_indent, lf}
 use Rattle.base_refusals.specs.Numbers.{Paper, refused_paper, passed_paper}
 use Rattle.base_refusals.specs.declared.Refusal.TheVariants.{NothingThere}
 use Rattle.text_lines.specs.Lines.{line_from, line_of}
-use Rattle.text_lines.specs.declared.Line as places
-use Rattle.text_lines.specs.declared.Line.TheVariants as place
 use Rattle.sheet_splits.specs.Parting.{is_whole}
-use Rattle.sheet_edits.specs.declared.Span as spans
-use Rattle.sheet_edits.specs.declared.Span.TheVariants as span
-use Rattle.sheet_edits.specs.declared.Again as agains
-use Rattle.sheet_edits.specs.declared.Again.TheVariants as again
+use Rattle.text_lines.specs.declared.Range.{Range}
 
 -- ---- 3: "lines a to b not in the old text"
 
 -- from the line that begins at `from` up to line b, with its LF
-abbrev pub span_by : List ℕ → ℕ → places.Line → spans.Span
-span_by t from place.Missing = span.Missing
-span_by t from (place.At r) = span.At from (line_from t r.from).next
+abbrev pub span_by : List ℕ → ℕ → Option Range → Option (ℕ × ℕ)
+span_by t from None = None
+span_by t from (Some r) = Some (from, (line_from t r.from).next)
 
-unfoldable pub span_to : List ℕ → ℕ → ℕ → spans.Span
+unfoldable pub span_to : List ℕ → ℕ → ℕ → Option (ℕ × ℕ)
 span_to t from b = span_by t from (line_of b t)
 
-abbrev pub span_from : List ℕ → ℕ → places.Line → spans.Span
-span_from t b place.Missing = span.Missing
-span_from t b (place.At r) = span_to t r.from b
+abbrev pub span_from : List ℕ → ℕ → Option Range → Option (ℕ × ℕ)
+span_from t b None = None
+span_from t b (Some r) = span_to t r.from b
 
 -- lines a to b of a text: where the first begins, and where the line behind the last does
-unfoldable pub span_of : List ℕ → ℕ → ℕ → spans.Span
-span_of t a b = cond (ltb b a) span.Missing (span_from t b (line_of a t))
+unfoldable pub span_of : List ℕ → ℕ → ℕ → Option (ℕ × ℕ)
+span_of t a b = cond (ltb b a) None (span_from t b (line_of a t))
 
 -- by rule: "the new text .. beginning with the old bytes before line a and, without overlap, ending with those after line b": some middle stands in the place of these
 -- lines
 pub record Replaced (old new : List ℕ) (a b : ℕ) : Type 0 where
   pub from : ℕ
   pub to : ℕ
-  pub lines : span_of old a b ≡ span.At from to
+  pub lines : span_of old a b ≡ Some (from, to)
   pub middle : List ℕ
   pub text : new ≡ take from old ++ (middle ++ drop to old)
 
@@ -72,30 +67,30 @@ till_flat fresh (b ∷ s) = cond (is_flat fresh b) 0 (suc (till_flat (eqb b lf) 
 abbrev pub more_again : List ℕ → List ℕ → ℕ → ℕ
 more_again old new to = till_flat (is_whole (take (length new - (length old - to)) new)) (drop to old)
 
-unfoldable pub again_in : List ℕ → List ℕ → ℕ → ℕ → agains.Again
+unfoldable pub again_in : List ℕ → List ℕ → ℕ → ℕ → Option (ℕ × ℕ × ℕ)
 again_in old new from to =
     cond (keeps old new from to)
-    (again.Lines (last_flat (take from old)) (to + more_again old new to) (length new - (length old - to) + more_again old new to))
-    again.Missing
+    (Some (last_flat (take from old), to + more_again old new to, length new - (length old - to) + more_again old new to))
+    None
 
-abbrev pub again_by : List ℕ → List ℕ → spans.Span → agains.Again
-again_by old new span.Missing = again.Missing
-again_by old new (span.At from to) = again_in old new from to
+abbrev pub again_by : List ℕ → List ℕ → Option (ℕ × ℕ) → Option (ℕ × ℕ × ℕ)
+again_by old new None = None
+again_by old new (Some (from, to)) = again_in old new from to
 
-unfoldable pub again_of : List ℕ → List ℕ → ℕ → ℕ → agains.Again
+unfoldable pub again_of : List ℕ → List ℕ → ℕ → ℕ → Option (ℕ × ℕ × ℕ)
 again_of old new a b = again_by old new (span_of old a b)
 
 -- on paper: 3, or the three places
-abbrev pub again_paper : agains.Again → Paper
-again_paper again.Missing = refused_paper NothingThere
-again_paper (again.Lines p e n) = passed_paper (p ∷ e ∷ n ∷ [])
+abbrev pub again_paper : Option (ℕ × ℕ × ℕ) → Paper
+again_paper None = refused_paper NothingThere
+again_paper (Some (p, e, n)) = passed_paper (p ∷ e ∷ n ∷ [])
 
 -- whether there is one
-abbrev pub is_again : agains.Again → Bool
-is_again again.Missing = false
-is_again (again.Lines p e n) = true
+abbrev pub is_again : Option (ℕ × ℕ × ℕ) → Bool
+is_again None = false
+is_again (Some (p, e, n)) = true
 
 -- the lines themselves
-abbrev pub again_text : List ℕ → agains.Again → List ℕ
-again_text new again.Missing = []
-again_text new (again.Lines p e n) = slice p n new
+abbrev pub again_text : List ℕ → Option (ℕ × ℕ × ℕ) → List ℕ
+again_text new None = []
+again_text new (Some (p, e, n)) = slice p n new

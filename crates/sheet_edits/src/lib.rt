@@ -7,49 +7,32 @@ ghost use Rattle.sheet_splits.specs.Parting.{is_whole};
 ghost use Rattle.sheet_edits.specs.Edits.{span_to, span_of, keeps, is_flat, last_flat, till_flat, again_in, again_of, again_paper};
 ghost use Rattle.base_bytes.specs.Bytes.{lf};
 
-use text_lines::Line;
-
-// Where the first of some lines begins and where the line behind the last does; or that they aren't lines of the text.
-#[derive(Clone, Copy)]
-enum Span {
-    Missing,
-    At(usize, usize),
-}
-
-// Where the lines that are read again begin, where they end in the old text and where in the new one; or that the new text isn't the old one with these
-// lines replaced.
-#[derive(Clone, Copy)]
-pub enum Again {
-    Missing,
-    Lines(usize, usize, usize),
-}
-
 // The lines from the one that begins at `from` up to line b.
-fn span_to(text: &[u8], from: usize, b: usize) -> Span
+fn span_to(text: &[u8], from: usize, b: usize) -> Option<(usize, usize)>
     ensures { result ≡ span_to text.now from b }
 {
     match text_lines::line_of(text, b) {
-        Line::Missing => Span::Missing,
-        Line::At(l) => {
+        None => None,
+        Some(l) => {
             let e = text_lines::line_from(text, l.from);
-            Span::At(from, e.next)
+            Some((from, e.next))
         }
     }
 }
 
 // Lines a to b.
-fn span_of(text: &[u8], a: usize, b: usize) -> Span
+fn span_of(text: &[u8], a: usize, b: usize) -> Option<(usize, usize)>
     ensures { result ≡ span_of text.now a b }
 {
     if b < a {
-        return Span::Missing;
+        return None;
     }
     match text_lines::line_of(text, a) {
-        Line::Missing => Span::Missing,
-        Line::At(l) => {
+        None => None,
+        Some(l) => {
             if a == b {
                 let e = text_lines::line_from(text, l.from);
-                return Span::At(l.from, e.next);
+                return Some((l.from, e.next));
             }
             span_to(text, l.from, b)
         }
@@ -113,9 +96,7 @@ fn begins_flat(text: &[u8], at: usize) -> bool
 fn last_flat(text: &[u8]) -> usize
     ensures { result ≡ last_flat text.now }
 {
-    let mut i = text.len();
-    while 1 < i {
-        i -= 1;
+    for i in (1..text.len()).rev() {
         if begins_flat(text, i) {
             return i;
         }
@@ -128,16 +109,13 @@ fn till_flat(text: &[u8], front: bool) -> usize
     ensures { (result ≡ till_flat front text.now) × (result ≤ length text.now) }
 {
     let mut fresh = front;
-    let mut i = 0;
-    while i < text.len() {
-        let b = text[i];
-        if is_flat(fresh, b) {
+    for (i, b) in text.iter().enumerate() {
+        if is_flat(fresh, *b) {
             return i;
         }
-        fresh = b == b'\n';
-        i += 1;
+        fresh = *b == b'\n';
     }
-    i
+    text.len()
 }
 
 // How many lines a text has.
@@ -146,6 +124,7 @@ pub fn line_count(text: &[u8]) -> usize
 {
     let mut n: usize = 0;
     let mut at = 0;
+    // A while: where a line ends is known only once it is gone through, so no range or iterator gives the places.
     while at < text.len() {
         let l = text_lines::line_from(text, at);
         n += 1;
@@ -155,28 +134,28 @@ pub fn line_count(text: &[u8]) -> usize
 }
 
 // The lines to read again, where those from one place up to another were replaced.
-fn again_in(old: &[u8], new: &[u8], from: usize, to: usize) -> Again
+fn again_in(old: &[u8], new: &[u8], from: usize, to: usize) -> Option<(usize, usize, usize)>
     requires { to ≤ length old.now }
     ensures { result ≡ again_in old.now new.now from to }
 {
     if !keeps_rest(old, new, from, to) {
-        return Again::Missing;
+        return None;
     }
     let end = new.len() - (old.len() - to);
     let fresh = is_whole(set_table::bytes_of(new, 0, end));
     let more = till_flat(set_table::bytes_of(old, to, old.len()), fresh);
     let first = last_flat(set_table::bytes_of(old, 0, from));
-    Again::Lines(first, to + more, end + more)
+    Some((first, to + more, end + more))
 }
 
 // The lines to read again after lines a to b were replaced: from the last line before a that begins with neither space nor tab, else from the front, up to the
 // first such line behind the replaced part, else to the end.
-pub fn lines_again(old: &[u8], new: &[u8], a: usize, b: usize) -> Again
+pub fn lines_again(old: &[u8], new: &[u8], a: usize, b: usize) -> Option<(usize, usize, usize)>
     ensures value { result ≡ again_of old.now new.now a b }
     ensures result_value { again_paper result ≡ again_paper (again_of old.now new.now a b) }
 {
     match span_of(old, a, b) {
-        Span::Missing => Again::Missing,
-        Span::At(from, to) => again_in(old, new, from, to),
+        None => None,
+        Some((from, to)) => again_in(old, new, from, to),
     }
 }

@@ -25,13 +25,6 @@ impl System for HostRuntime {
     }
 }
 
-// How many bytes a sheet has, or that there is no such file.
-#[derive(Clone, Copy)]
-pub enum Sheet {
-    Missing,
-    Bytes(usize),
-}
-
 // How many sheets there are. The first argument is the program's own name.
 pub fn count(rt: &impl Env) -> usize {
     let n = words(rt);
@@ -93,12 +86,12 @@ pub fn first_is(rt: &impl Env, word: &[u8]) -> bool {
 }
 
 // Reads a sheet by its number, counted from 0, into lent memory. One that an argument names stands under a heading, and `-` names standard input.
-pub fn read(rt: &impl System, i: usize, text: &mut [u8]) -> Sheet {
+pub fn read(rt: &impl System, i: usize, text: &mut [u8]) -> Option<usize> {
     if !is_there(rt, 0) {
-        return Sheet::Bytes(read_input(rt, text));
+        return Some(read_input(rt, text));
     }
     if i == usize::MAX {
-        return Sheet::Missing;
+        return None;
     }
     let mut name = [0u8; NAME];
     let n = word(rt, i, &mut name);
@@ -106,29 +99,29 @@ pub fn read(rt: &impl System, i: usize, text: &mut [u8]) -> Sheet {
     say(rt, &name[..n]);
     say(rt, b" <==\n");
     match read_named(rt, &name[..n], text) {
-        Ok(k) => Sheet::Bytes(k),
+        Ok(k) => Some(k),
         Err(_) => {
             say(rt, b"not there\n");
-            Sheet::Missing
+            None
         }
     }
 }
 
 // The same without a heading. What can't be read is told on standard error.
-pub fn read_plain(rt: &impl System, i: usize, text: &mut [u8]) -> Sheet {
+pub fn read_plain(rt: &impl System, i: usize, text: &mut [u8]) -> Option<usize> {
     if !is_there(rt, 0) {
-        return Sheet::Bytes(read_input(rt, text));
+        return Some(read_input(rt, text));
     }
     if i == usize::MAX {
-        return Sheet::Missing;
+        return None;
     }
     let mut name = [0u8; NAME];
     let n = word(rt, i, &mut name);
     match read_named(rt, &name[..n], text) {
-        Ok(k) => Sheet::Bytes(k),
+        Ok(k) => Some(k),
         Err(why) => {
             fail(rt, &name[..n], why);
-            Sheet::Missing
+            None
         }
     }
 }
@@ -164,15 +157,12 @@ fn read_input(rt: &impl Input, text: &mut [u8]) -> usize {
 // Reads until the memory is full, the input ends or a read fails, and answers how many bytes came.
 fn read_full(from: &mut impl Read, text: &mut [u8]) -> usize {
     let mut done = 0;
+    // A while: a read brings as many bytes as it likes, so no range or iterator gives its steps.
     while done < text.len() {
-        let n = match from.read(&mut text[done..]) {
-            Ok(n) => n,
-            Err(_) => 0,
-        };
-        if n == 0 {
-            return done;
+        match from.read(&mut text[done..]) {
+            Ok(0) | Err(_) => break,
+            Ok(n) => done += n,
         }
-        done += n;
     }
     done
 }

@@ -1,5 +1,6 @@
 -- What is wrong with a line, by each way through the tests.
 -- Assumes nothing.
+use Rattle.std.specs.Prelude.{Err, Ok, Result}
 use mathlib.Core.Path.{◌≡◌, refl, sym, ◌∙◌, ap}
 use mathlib.Core.Bool.{Bool, true, false, cond, not, ◌&&◌}
 use mathlib.Core.List.{List, [], ◌∷◌}
@@ -13,8 +14,6 @@ use Rattle.base_lists.specs.Lists.{same, over}
 use Rattle.base_refusals.specs.Numbers.{max_text}
 use Rattle.base_refusals.specs.declared.Refusal.{Refusal}
 use Rattle.base_refusals.specs.declared.Refusal.TheVariants.{NothingThere}
-use Rattle.base_refusals.specs.declared.Outcome.{Outcome}
-use Rattle.base_refusals.specs.declared.Outcome.TheVariants as outcome
 use Rattle.text_lines.specs.Lines.{line_from, line_at}
 use Rattle.block_trimmed_line.specs.Fronts.{front_of, opens_at, begins_indented}
 use Rattle.block_trimmed_line.specs.declared.Front.{Front}
@@ -47,17 +46,17 @@ module _ (t : List ℕ) (at from : ℕ) (buf : List ℕ) {j : Joined} {b : List 
   abbrev Runs : Finding → List ℕ → Type 0
   Runs r c = (r ≡ run_finding t (length buf) at from) × (c ≡ run_holds t (length buf) at buf)
 
-  pub run_closed : j.stop ≡ outcome.Passed → {r : Finding} → r ≡ joined_finding t at j.lines (take j.len b) → Runs r b
+  pub run_closed : j.stop ≡ Ok tt → {r : Finding} → r ≡ joined_finding t at j.lines (take j.len b) → Runs r b
   unfolding run_finding run_holds
   run_closed q {r} f =
-      let s : (run_at (length buf) 0 t at).stop ≡ outcome.Passed = rw e at q in
+      let s : (run_at (length buf) 0 t at).stop ≡ (Ok tt) = rw e at q in
       (rw (s) (rw (joined_is t at 0 buf e w, e) at f), rw s w)
 
-  pub run-stopped : {q : Refusal} → j.stop ≡ outcome.Refused q → length b ≡ length buf → {s : Stop} → s ≡ stop_at t at j.lines → {x : RefusedRun} {c : List ℕ} → x ≡ handed_out (refused_at (length b) t at)
+  pub run-stopped : {q : Refusal} → j.stop ≡ Err q → length b ≡ length buf → {s : Stop} → s ≡ stop_at t at j.lines → {x : RefusedRun} {c : List ℕ} → x ≡ handed_out (refused_at (length b) t at)
       → c ≡ over (refused_at (length b) t at).text b → {k : Kind} → k ≡ left_kind x.answer → {r : Finding} → r ≡ stop_finding s from k → Runs r c
   unfolding run_finding run_holds
   run-stopped {q} h l p {x} {c} u v m f =
-      let s : (run_at (length buf) 0 t at).stop ≡ outcome.Refused q = rw e at h in
+      let s : (run_at (length buf) 0 t at).stop ≡ Err q = rw e at h in
       (rw s (rw (m, u, p, e, l) at f), rw s (rw (l, w) at v))
 
 -- ---- a line that opens with a brace and is no block
@@ -197,7 +196,7 @@ module _ (t : List ℕ) (at : ℕ) (buf : List ℕ) (fits : length t ≤ max_tex
           block_is : is_block g ≡ true
           block_is = (rw flush_is at (block_counted t at (length buf))) ∙ ap not some
 
-          module _ {d : Outcome} (m : d ≡ block_verdict (two t (slice 0 x.joined b)) x.set x.outcome) where
+          module _ {d : Result (Unit {0}) Refusal} (m : d ≡ block_verdict (two t (slice 0 x.joined b)) x.set x.outcome) where
             verdict : d ≡ verdict_at t (record { line = 0; at = at; found = g })
             unfolding verdict_at block_of join_holds
             verdict = rw (read_is, held_is, take-append_seam (joined_in g) (drop (length (joined_in g)) buf)) at m

@@ -1,5 +1,6 @@
 -- The loop of `next_finding`: before the line at `from`, the first finding among the tries to come is the one sought.
 -- Assumes nothing.
+use Rattle.std.specs.Prelude.{Err, None, Ok, Some}
 use mathlib.Core.Path.{◌≡◌, refl, sym, ◌∙◌, ap}
 use mathlib.Core.Bool.{Bool, true, false, cond, not}
 use mathlib.Core.List.{List, [], ◌∷◌}
@@ -25,8 +26,6 @@ use Rattle.sheet_verdicts.specs.Verdicts.{verdict_at}
 use Rattle.sheet_findings.specs.declared.Kind.{Kind}
 use Rattle.sheet_findings.specs.declared.Finding.{Finding}
 use Rattle.sheet_findings.specs.declared.Step.{Step}
-use Rattle.sheet_findings.specs.declared.Told as tolds
-use Rattle.sheet_findings.specs.declared.Told.TheVariants as told
 use Rattle.sheet_findings.specs.declared.Next.{Next}
 use Rattle.sheet_findings.specs.Findings.{is_clear, finding_of, lines_past, only_found, try_at, step_of, step_holds, at_once, first_found, next_finding, holds_up_to, next_holds, next_order, found_paper}
 
@@ -70,7 +69,7 @@ unfolding next_finding on_paper in_order
 next_paper t cap at = go (too_long t) (ltb cap max_text) (only_found t cap (tries_at t cap 0 at))
   where
     next : Bool → Bool → List Try → Next
-    next x y zs = cond x (at_once (told.Refused TextTooLong) at) (cond y (at_once (told.Refused JoinFull) at) (first_found t cap at zs))
+    next x y zs = cond x (at_once (Err TextTooLong) at) (cond y (at_once (Err JoinFull) at) (first_found t cap at zs))
 
     go : (x y : Bool) (zs : List Try)
         → found_paper (next x y zs).told ≡ on_paper (Ground.given TextTooLong x ∷ Ground.given JoinFull y ∷ []) (found_paper (next x y zs).told).values
@@ -85,11 +84,11 @@ said k e = record { value = e.0; join_after = e.1; told_value = ap (λ z. found_
 
 -- ---- before the loop
 
-pub too_long_lem : (t : List ℕ) (at : ℕ) (buf : List ℕ) → max_text < length t → {r : Next} → r ≡ at_once (told.Refused TextTooLong) at → (r ≡ next_finding t (length buf) at) × (buf ≡ next_holds t (length buf) at buf)
+pub too_long_lem : (t : List ℕ) (at : ℕ) (buf : List ℕ) → max_text < length t → {r : Next} → r ≡ at_once (Err TextTooLong) at → (r ≡ next_finding t (length buf) at) × (buf ≡ next_holds t (length buf) at buf)
 unfolding next_finding next_holds
 too_long_lem t at buf h e = let z = lt-ltb max_text (length t) h in (rw z e, rw z)
 
-pub too_short : (t : List ℕ) (at : ℕ) (buf : List ℕ) → length t ≤ max_text → length buf < max_text → {r : Next} → r ≡ at_once (told.Refused JoinFull) at
+pub too_short : (t : List ℕ) (at : ℕ) (buf : List ℕ) → length t ≤ max_text → length buf < max_text → {r : Next} → r ≡ at_once (Err JoinFull) at
     → (r ≡ next_finding t (length buf) at) × (buf ≡ next_holds t (length buf) at buf)
 unfolding next_finding next_holds
 too_short t at buf h k e = let z = le-ltb max_text (length t) h in let y = lt-ltb (length buf) max_text k in (rw (z, y) e, rw (z, y))
@@ -115,7 +114,7 @@ module _ {t : List ℕ} {at : ℕ} {buf₀ buf : List ℕ} {skipped from : ℕ} 
   abbrev Answers : Next → List ℕ → Type 0
   Answers r b = (r ≡ next_finding t (length buf₀) at) × (b ≡ next_holds t (length buf₀) at buf₀)
 
-  pub seeks_end : length t ≤ from → {r : Next} → r ≡ at_once told.Done at → Answers r buf
+  pub seeks_end : length t ≤ from → {r : Next} → r ≡ at_once (Ok None) at → Answers r buf
   unfolding only_found holds_up_to
   seeks_end h e = let z = tries_end t (length buf₀) skipped from h in (e ∙ (rw z at inv.next), rw z at inv.join)
 
@@ -166,7 +165,7 @@ module _ {t : List ℕ} {at : ℕ} {buf₀ buf : List ℕ} {skipped from : ℕ} 
           join = rw (lines_is, next_is, held) (rw (z, w) at inv.join);
         }
 
-    pub seeks_found : x ≡ false → Answers (record { told = told.Found r.finding; skipped = skipped; at = from; lines = r.lines; next = r.next }) b
+    pub seeks_found : x ≡ false → Answers (record { told = Ok (Some r.finding); skipped = skipped; at = from; lines = r.lines; next = r.next }) b
     unfolding only_found holds_up_to
     seeks_found y =
         let z = tries_step t (length buf₀) skipped from h in

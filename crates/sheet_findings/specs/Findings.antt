@@ -1,16 +1,12 @@
 -- The lines of a sheet that look like a block and are none: what is wrong with each. Document 01: "A block is one good line, else .. a wrapped run".
-use Rattle.std.specs.Prelude.{ℕ, ◌+◌, ◌-◌, Bool, true, false, cond, ◌&&◌, not, List, [], ◌∷◌, eqb, ltb, take, drop}
+use Rattle.std.specs.Prelude.{ℕ, ◌+◌, ◌-◌, Bool, true, false, cond, ◌&&◌, not, List, [], ◌∷◌, eqb, ltb, take, drop, Err, None, Ok, Option, Result, Some}
 use Rattle.std.proofs.Math.Seq.{slice}
 use Rattle.base_lists.specs.Lists.{same, over}
 use Rattle.base_refusals.specs.Numbers.{max_text, too_long, number_of, Paper, refused_paper, passed_paper}
 use Rattle.base_refusals.specs.Orders.{Ground}
 use Rattle.base_refusals.specs.declared.Refusal.{Refusal}
 use Rattle.base_refusals.specs.declared.Refusal.TheVariants.{TextTooLong, JoinFull}
-use Rattle.base_refusals.specs.declared.Outcome as outcomes
-use Rattle.base_refusals.specs.declared.Outcome.TheVariants as outcome
 use Rattle.text_lines.specs.Lines.{ranges}
-use Rattle.block_grammar.specs.declared.Place.{Place}
-use Rattle.block_grammar.specs.declared.Place.TheVariants.{Nothing, At}
 use Rattle.block_faults.specs.Faults.{fault_from}
 use Rattle.block_faults.specs.declared.Fault as faults
 use Rattle.block_faults.specs.declared.Fault.TheVariants as fault
@@ -32,8 +28,6 @@ use Rattle.sheet_findings.specs.declared.Kind as kinds
 use Rattle.sheet_findings.specs.declared.Kind.TheVariants as kind
 use Rattle.sheet_findings.specs.declared.Finding.{Finding}
 use Rattle.sheet_findings.specs.declared.Step.{Step}
-use Rattle.sheet_findings.specs.declared.Told as tolds
-use Rattle.sheet_findings.specs.declared.Told.TheVariants as told
 use Rattle.sheet_findings.specs.declared.Next.{Next}
 
 -- ---- a finding
@@ -62,19 +56,19 @@ here k place = record { kind = k; row = 0; place = place; number = 0 }
 -- ---- blocks that should stand back to back to the end
 
 -- "no close": for a quote that is left open, or by itself
-abbrev pub open_by : ℕ → Place → Finding
-open_by at Nothing = here kind.Unclosed at
-open_by at (At p) = here kind.Quoted p
+abbrev pub open_by : ℕ → Option ℕ → Finding
+open_by at None = here kind.Unclosed at
+open_by at (Some p) = here kind.Quoted p
 
 unfoldable pub open_finding : List ℕ → ℕ → Finding
 open_finding s at = open_by at (quote_left s at)
 
 -- text behind the last `}`, no close, or "a place": where the payload went wrong
-abbrev pub chain_by : List ℕ → faults.Fault → Finding
-chain_by s fault.Good = here kind.Clear 0
-chain_by s (fault.Behind i) = here kind.Behind i
-chain_by s (fault.Open i) = open_finding s i
-chain_by s (fault.Wrong i) = here kind.Mistake i
+abbrev pub chain_by : List ℕ → Option faults.Fault → Finding
+chain_by s None = here kind.Clear 0
+chain_by s (Some (fault.Behind i)) = here kind.Behind i
+chain_by s (Some (fault.Open i)) = open_finding s i
+chain_by s (Some (fault.Wrong i)) = here kind.Mistake i
 
 unfoldable pub chain_finding : List ℕ → ℕ → Finding
 chain_finding s from = chain_by s (fault_from (drop from s) 0 from)
@@ -89,11 +83,11 @@ unfoldable pub joined_finding : List ℕ → ℕ → ℕ → List ℕ → Findin
 joined_finding t at n s = placed (chain_finding s 0) (source_of t at n (chain_finding s 0).place)
 
 -- `refused_brace_run` says Lines: the run is refused only for a line too far left
-abbrev pub left_kind : replies.RunReply → kinds.Kind
-left_kind (reply.No n) = kind.Left
-left_kind (reply.Lines n) = kind.Shallow
-left_kind reply.NoEnd = kind.Left
-left_kind (reply.Refused r) = kind.Left
+abbrev pub left_kind : Result replies.RunReply Refusal → kinds.Kind
+left_kind (Ok (reply.No n)) = kind.Left
+left_kind (Ok (reply.Lines n)) = kind.Shallow
+left_kind (Ok reply.NoEnd) = kind.Left
+left_kind (Err r) = kind.Left
 
 abbrev pub stopped : kinds.Kind → Stop → ℕ → Finding
 stopped k s n = record { kind = k; row = s.row; place = s.place; number = n }
@@ -110,9 +104,9 @@ unfoldable pub stop_finding : Stop → ℕ → kinds.Kind → Finding
 stop_finding s from left = stop_by s from left s.why
 
 -- "The run ends at the first line with a `}` after which the joined text holds no open block; that text must then be a good line." Else the run has stopped before.
-abbrev pub run_by : List ℕ → ℕ → ℕ → ℕ → Run → outcomes.Outcome → Finding
-run_by t cap at from r outcome.Passed = joined_finding t at r.lines r.text
-run_by t cap at from r (outcome.Refused q) = stop_finding (stop_at t at r.lines) from (left_kind (refused_at cap t at).answer)
+abbrev pub run_by : List ℕ → ℕ → ℕ → ℕ → Run → Result (Unit {0}) Refusal → Finding
+run_by t cap at from r (Ok _) = joined_finding t at r.lines r.text
+run_by t cap at from r (Err q) = stop_finding (stop_at t at r.lines) from (left_kind (refused_at cap t at).answer)
 
 unfoldable pub run_finding : List ℕ → ℕ → ℕ → ℕ → Finding
 run_finding t cap at from = run_by t cap at from (run_at cap 0 t at) (run_at cap 0 t at).stop
@@ -144,9 +138,9 @@ line_finding t cap at = cond (opens_at t at) (cond (has_none (found t at 0 cap))
 -- ---- a line that the sheet program tries
 
 -- "for 6, 7 or 10 `refused`"
-abbrev pub limit_finding : outcomes.Outcome → ℕ → Finding
-limit_finding outcome.Passed place = here kind.Clear 0
-limit_finding (outcome.Refused r) place = record { kind = kind.Limit; row = 0; place = place; number = number_of r }
+abbrev pub limit_finding : Result (Unit {0}) Refusal → ℕ → Finding
+limit_finding (Ok _) place = here kind.Clear 0
+limit_finding (Err r) place = record { kind = kind.Limit; row = 0; place = place; number = number_of r }
 
 -- what is wrong with it: of a block what the report says of it
 unfoldable pub finding_of : List ℕ → ℕ → Try → Finding
@@ -181,15 +175,15 @@ step_of t cap at =
       next = past_lines (lines_past (flush_left t cap at)) t at;
     }
 
-abbrev pub at_once : tolds.Told → ℕ → Next
+abbrev pub at_once : Result (Option Finding) Refusal → ℕ → Next
 at_once x at = record { told = x; skipped = 0; at = at; lines = 0; next = at }
 
 -- the first of those whose lines are numbered from 0, so that its number says how many lines are gone past before it
 abbrev pub first_found : List ℕ → ℕ → ℕ → List Try → Next
-first_found t cap at [] = at_once told.Done at
+first_found t cap at [] = at_once (Ok None) at
 first_found t cap at (x ∷ xs) =
     record {
-      told = told.Found (finding_of t cap x);
+      told = Ok (Some (finding_of t cap x));
       skipped = x.line;
       at = x.at;
       lines = lines_past x.found;
@@ -200,15 +194,15 @@ first_found t cap at (x ∷ xs) =
 -- answer 9, right after 2, for a shorter one" (2 is for the caller to ask)
 unfoldable pub next_finding : List ℕ → ℕ → ℕ → Next
 next_finding t cap at =
-    cond (too_long t) (at_once (told.Refused TextTooLong) at)
-    (cond (ltb cap max_text) (at_once (told.Refused JoinFull) at)
+    cond (too_long t) (at_once (Err TextTooLong) at)
+    (cond (ltb cap max_text) (at_once (Err JoinFull) at)
     (first_found t cap at (only_found t cap (tries_at t cap 0 at))))
 
 -- ---- "a second run in one call writes over the front of what the first left": the join buffer
 
-abbrev pub run_holds_by : List ℕ → ℕ → ℕ → List ℕ → Run → outcomes.Outcome → List ℕ
-run_holds_by t cap at buf r outcome.Passed = over r.text buf
-run_holds_by t cap at buf r (outcome.Refused q) = over (refused_at cap t at).text (over r.text buf)
+abbrev pub run_holds_by : List ℕ → ℕ → ℕ → List ℕ → Run → Result (Unit {0}) Refusal → List ℕ
+run_holds_by t cap at buf r (Ok _) = over r.text buf
+run_holds_by t cap at buf r (Err q) = over (refused_at cap t at).text (over r.text buf)
 
 unfoldable pub run_holds : List ℕ → ℕ → ℕ → List ℕ → List ℕ
 run_holds t cap at buf = run_holds_by t cap at buf (run_at cap 0 t at) (run_at cap 0 t at).stop
@@ -234,7 +228,7 @@ next_holds t cap at buf = cond (too_long t) buf (cond (ltb cap max_text) buf (ho
 abbrev pub next_order : List ℕ → ℕ → List Ground
 next_order t cap = Ground.given TextTooLong (too_long t) ∷ Ground.given JoinFull (ltb cap max_text) ∷ []
 
-abbrev pub found_paper : tolds.Told → Paper
-found_paper (told.Refused r) = refused_paper r
-found_paper told.Done = passed_paper []
-found_paper (told.Found f) = passed_paper (kind_no f.kind ∷ f.row ∷ f.place ∷ f.number ∷ [])
+abbrev pub found_paper : Result (Option Finding) Refusal → Paper
+found_paper (Err r) = refused_paper r
+found_paper (Ok None) = passed_paper []
+found_paper (Ok (Some f)) = passed_paper (kind_no f.kind ∷ f.row ∷ f.place ∷ f.number ∷ [])

@@ -6,11 +6,9 @@ ghost use Rattle.base_refusals.specs.Numbers.{max_text};
 ghost use Rattle.base_refusals.specs.Orders.{on_paper};
 ghost use Rattle.block_trimmed_line.specs.Fronts.{front_of, opens_at};
 ghost use Rattle.sheet_findings.specs.Findings.{kind_no, is_clear, here, open_finding, chain_finding, joined_finding, left_kind, stop_finding, run_finding, run_holds, fault_finding, fault_holds, indented_finding, mark_finding, limit_finding, step_of, step_holds, next_finding, next_holds, next_order, found_paper};
-ghost use Rattle.sheet_findings.specs.declared.Told.TheVariants.{Refused, Done};
 
-use base_refusals::{Outcome, Refusal};
+use base_refusals::Refusal;
 use block_faults::Fault;
-use block_grammar::Place;
 use block_trimmed_line::Front;
 use run_refused::RunReply;
 use run_stops::{Stop, Why};
@@ -52,18 +50,10 @@ pub struct Step {
     pub next: usize,
 }
 
-// Why nothing is looked at; that nothing more is found; or a finding.
-#[derive(Clone, Copy)]
-pub enum Told {
-    Refused(Refusal),
-    Done,
-    Found(Finding),
-}
-
 // The next finding: how many lines are gone past before its line, where that begins, how many it takes, and where to go on.
 #[derive(Clone, Copy)]
 pub struct Next {
-    pub told: Told,
+    pub told: Result<Option<Finding>, Refusal>,
     pub skipped: usize,
     pub at: usize,
     pub lines: usize,
@@ -107,8 +97,8 @@ fn open_finding(s: &[u8], at: usize) -> Finding
     ensures { result ≡ open_finding s.now at }
 {
     match run_stops::quote_left(s, at) {
-        Place::Nothing => here(Kind::Unclosed, at),
-        Place::At(p) => here(Kind::Quoted, p),
+        None => here(Kind::Unclosed, at),
+        Some(p) => here(Kind::Quoted, p),
     }
 }
 
@@ -117,10 +107,10 @@ fn chain_finding(s: &[u8], from: usize) -> Finding
     ensures { result ≡ chain_finding s.now from }
 {
     match block_faults::chain_fault(s, from) {
-        Fault::Good => here(Kind::Clear, 0),
-        Fault::Behind(i) => here(Kind::Behind, i),
-        Fault::Open(i) => open_finding(s, i),
-        Fault::Wrong(i) => here(Kind::Mistake, i),
+        None => here(Kind::Clear, 0),
+        Some(Fault::Behind(i)) => here(Kind::Behind, i),
+        Some(Fault::Open(i)) => open_finding(s, i),
+        Some(Fault::Wrong(i)) => here(Kind::Mistake, i),
     }
 }
 
@@ -140,14 +130,14 @@ fn joined_finding(text: &[u8], at: usize, lines: usize, joined: &[u8]) -> Findin
 }
 
 // Whether a line too far left is all that is wrong with a run.
-fn left_kind(answer: RunReply) -> Kind
+fn left_kind(answer: Result<RunReply, Refusal>) -> Kind
     ensures { result ≡ left_kind answer }
 {
     match answer {
-        RunReply::No(_) => Kind::Left,
-        RunReply::Lines(_) => Kind::Shallow,
-        RunReply::NoEnd => Kind::Left,
-        RunReply::Refused(_) => Kind::Left,
+        Ok(RunReply::No(_)) => Kind::Left,
+        Ok(RunReply::Lines(_)) => Kind::Shallow,
+        Ok(RunReply::NoEnd) => Kind::Left,
+        Err(_) => Kind::Left,
     }
 }
 
@@ -193,8 +183,8 @@ fn run_finding(text: &[u8], at: usize, from: usize, join: &mut [u8]) -> Finding
     let j = run_lines::join_run(text, at, 0, join);
     let stop = j.stop;
     match stop {
-        Outcome::Passed => joined_finding(text, at, j.lines, &join[..j.len]),
-        Outcome::Refused(_) => {
+        Ok(()) => joined_finding(text, at, j.lines, &join[..j.len]),
+        Err(_) => {
             let s = run_stops::run_stop(text, at, j.lines);
             let r = run_refused::refused_run_at(text, at, join);
             let answer = r.answer;
@@ -232,12 +222,12 @@ fn mark_finding(text: &[u8], at: usize) -> Finding
 }
 
 // What the report says of a block whose brace stands at the place.
-fn limit_finding(verdict: Outcome, place: usize) -> Finding
+fn limit_finding(verdict: Result<(), Refusal>, place: usize) -> Finding
     ensures { result ≡ limit_finding verdict place }
 {
     match verdict {
-        Outcome::Passed => here(Kind::Clear, 0),
-        Outcome::Refused(why) => Finding {
+        Ok(()) => here(Kind::Clear, 0),
+        Err(why) => Finding {
             kind: Kind::Limit,
             row: 0,
             place,
@@ -290,7 +280,7 @@ fn step_at(text: &[u8], at: usize, join: &mut [u8]) -> Step
 }
 
 // Nothing is told but that.
-fn at_once(told: Told, at: usize) -> Next
+fn at_once(told: Result<Option<Finding>, Refusal>, at: usize) -> Next
     ensures { result ≡ record { told = told; skipped = 0; at = at; lines = 0; next = at } }
 {
     Next {
@@ -316,16 +306,16 @@ pub fn next_finding(text: &[u8], at: usize, join: &mut [u8]) -> Next
     ensures told_value { found_paper result.told ≡ on_paper (next_order text.now (length join.old)) (found_paper (next_finding text.now (length join.old) at).told).values }
 {
     if base_refusals::MAX_TEXT < text.len() {
-        return at_once(Told::Refused(Refusal::TextTooLong), at);
+        return at_once(Err(Refusal::TextTooLong), at);
     }
     if join.len() < base_refusals::MAX_TEXT {
-        return at_once(Told::Refused(Refusal::JoinFull), at);
+        return at_once(Err(Refusal::JoinFull), at);
     }
     let mut skipped = 0;
     let mut from = at;
     'lines: loop {
         if text.len() <= from {
-            return at_once(Told::Done, at);
+            return at_once(Ok(None), at);
         }
         let step = step_at(text, from, join);
         let finding = step.finding;
@@ -336,7 +326,7 @@ pub fn next_finding(text: &[u8], at: usize, join: &mut [u8]) -> Next
             continue 'lines;
         }
         return Next {
-            told: Told::Found(finding),
+            told: Ok(Some(finding)),
             skipped,
             at: from,
             lines: step.lines,

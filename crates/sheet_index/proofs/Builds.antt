@@ -1,5 +1,6 @@
 -- Building: measuring the records of a sheet, then laying them.
 -- Assumes nothing.
+use Rattle.std.specs.Prelude.{Err, None, Ok, Option, Result, Some}
 use mathlib.Core.Path.{◌≡◌, refl, sym, ◌∙◌, ap}
 use mathlib.Core.Bool.{Bool, true, false}
 use mathlib.Core.List.{List, [], ◌∷◌, ◌++◌, append-nil, flat_map}
@@ -16,8 +17,6 @@ use Rattle.base_refusals.specs.Numbers.{max_text}
 use Rattle.base_refusals.specs.Orders.{in_order, on_paper}
 use Rattle.base_refusals.specs.declared.Refusal.{Refusal}
 use Rattle.base_refusals.specs.declared.Refusal.TheVariants.{JoinFull, TableFull, IndexTooLong}
-use Rattle.base_refusals.specs.declared.Outcome as outcomes
-use Rattle.base_refusals.specs.declared.Outcome.TheVariants as outcome
 use Rattle.base_refusals.proofs.Orders.{paper_by}
 use Rattle.text_checks.specs.Check.{text_order, check_of}
 use Rattle.set_marks.specs.Marks.{bytes_in, raw_text, raw_bytes, is_quoted_text, is_quoted}
@@ -34,14 +33,10 @@ use Rattle.sheet_records.specs.Listed.{id_of, listed_if, records_of}
 use Rattle.sheet_records.specs.Writing.{raw_id, line_fits, put_of, line_over, table_size, row_over}
 use Rattle.sheet_records.specs.Inner.{line_size}
 use Rattle.sheet_records.specs.declared.IndexRow.{IndexRow}
-use Rattle.sheet_records.specs.declared.PutLine.{PutLine}
-use Rattle.sheet_records.specs.declared.PutLine.TheVariants as put
 use Rattle.set_marks.proofs.Values.{bytes_short}
 use Rattle.sheet_records.proofs.Lines.{header_long, front_laid, line_size_lem, row_next, numbers_short}
 use Rattle.sheet_index.specs.Building.{sheet_order, room_for, laid_by, build_order, built_of, built_text, built_table, built_tries, built_paper}
 use Rattle.sheet_index.specs.Inner.{set_record, block_adds, lines_text, most_line, adds_sizes, sizes_of, put_added, added_over, room_to_join, checked_order, checked_built}
-use Rattle.sheet_index.specs.declared.Built as built
-use Rattle.sheet_index.specs.declared.Built.TheVariants as build
 use Rattle.sheet_index.specs.declared.Sizes.{Sizes}
 use Rattle.sheet_index.proofs.Steps.{order_met, order_past, join_twice}
 use Rattle.sheet_index.proofs.Rounds as round
@@ -64,9 +59,9 @@ pub measures_start : (t join : List ℕ) → length t ≤ max_text → max_text 
 measures_start t join k j = record { left = records_of t; rounds = round.rounds_start t join k j; count = omega arith; size = sym (index_long (records_of t)); few = omega arith; short = omega arith }
 
 -- a block adds one record at most
-adds_one : (r : Record) (o : outcomes.Outcome) → length (listed_if r o) ≤ 1
-adds_one r outcome.Passed = omega arith
-adds_one r (outcome.Refused q) = omega arith
+adds_one : (r : Record) (o : Result (Unit {0}) Refusal) → length (listed_if r o) ≤ 1
+adds_one r (Ok _) = omega arith
+adds_one r (Err q) = omega arith
 
 module _ {t join₀ join : List ℕ} {at line records bytes : ℕ} (inv : Measures t join₀ join at line records bytes)
     {r : Next} {join' : List ℕ} (e : r ≡ next_of t (length join) at) (j : join' ≡ join_behind join (next_tries t (length join) at)) where
@@ -154,26 +149,26 @@ table_whole t buf h e = e ∙ front_laid buf (table_numbers (index_rows (records
 
 -- what is written for a record whose verdict is o, where it has room
 module _ (buf : List ℕ) (k : ℕ) (r : Record) (more : List Record) where
-  fits_so : (o : outcomes.Outcome) → k + length (lines_text (listed_if r o ++ more)) ≤ length buf → o ≡ outcome.Passed → line_fits (length buf) k r ≡ true
+  fits_so : (o : Result (Unit {0}) Refusal) → k + length (lines_text (listed_if r o ++ more)) ≤ length buf → o ≡ Ok tt → line_fits (length buf) k r ≡ true
   unfolding flat_map
   fits_so o h e = le-leb (k + length (record_line r)) (length buf) (omega (arith, length-append (record_line r) (lines_text more), ap (λ x. length (lines_text (listed_if r x ++ more))) e))
 
-  pub none_added : (o : outcomes.Outcome) {p : PutLine} → k + length (lines_text (listed_if r o ++ more)) ≤ length buf → p ≡ put_added (length buf) k (listed_if r o) → p ≡ put.NoRoom → listed_if r o ≡ []
+  pub none_added : (o : Result (Unit {0}) Refusal) {p : Option IndexRow} → k + length (lines_text (listed_if r o ++ more)) ≤ length buf → p ≡ put_added (length buf) k (listed_if r o) → p ≡ None → listed_if r o ≡ []
   unfolding put_added put_of
-  none_added (outcome.Refused q) h e f = refl
-  none_added outcome.Passed h e f = let z : put.Row (row_at k r) ≡ put.NoRoom = sym (rw (fits_so outcome.Passed h refl) at (sym f ∙ e)) in let g : ◌≡◌ {A = ℕ} 0 1 = cc in absurd (omega arith)
+  none_added (Err q) h e f = refl
+  none_added (Ok _) h e f = let z : Some (row_at k r) ≡ None = sym (rw (fits_so (Ok tt) h refl) at (sym f ∙ e)) in let g : ◌≡◌ {A = ℕ} 0 1 = cc in absurd (omega arith)
 
-  pub one-added : (o : outcomes.Outcome) {p : PutLine} {e : IndexRow} → k + length (lines_text (listed_if r o ++ more)) ≤ length buf → p ≡ put_added (length buf) k (listed_if r o) → p ≡ put.Row e
+  pub one-added : (o : Result (Unit {0}) Refusal) {p : Option IndexRow} {e : IndexRow} → k + length (lines_text (listed_if r o ++ more)) ≤ length buf → p ≡ put_added (length buf) k (listed_if r o) → p ≡ Some e
       → (listed_if r o ≡ r ∷ []) × ((e ≡ row_at k r) × (added_over buf k (listed_if r o) ≡ sets buf k (record_line r)))
   unfolding put_added put_of added_over line_over
-  one-added (outcome.Refused q) h e f = let z : ◌≡◌ {A = ℕ} 0 1 = cc in absurd (omega arith)
-  one-added outcome.Passed {p} {e = x} h e f =
-      let w = fits_so outcome.Passed h refl in
-      let z : put.Row x ≡ put.Row (row_at k r) = rw w at (sym f ∙ e) in
+  one-added (Err q) h e f = let z : ◌≡◌ {A = ℕ} 0 1 = cc in absurd (omega arith)
+  one-added (Ok _) {p} {e = x} h e f =
+      let w = fits_so (Ok tt) h refl in
+      let z : Some x ≡ Some (row_at k r) = rw w at (sym f ∙ e) in
       let g : x ≡ row_at k r = cc in
       (refl, (g, rw w))
 
-  pub none_over : (o : outcomes.Outcome) → listed_if r o ≡ [] → added_over buf k (listed_if r o) ≡ buf
+  pub none_over : (o : Result (Unit {0}) Refusal) → listed_if r o ≡ [] → added_over buf k (listed_if r o) ≡ buf
   unfolding added_over
   none_over o e = rw e
 
@@ -186,13 +181,13 @@ module _ {t join₀ table₀ out₀ join table out : List ℕ} {at line i k : �
       let w = round.rounds_none inv.rounds e j z in
       (w.1, (rw w.0 at inv.rows, rw w.0 at inv.text))
 
-  module _ (z : r.block.lines ≡ 0 → ⊥) {p : PutLine} {out' : List ℕ}
+  module _ (z : r.block.lines ≡ 0 → ⊥) {p : Option IndexRow} {out' : List ℕ}
       (q : p ≡ put_added (length out) k (block_adds (two t (slice 0 r.block.joined join')) (line + r.skipped) r.block.lines r.at r.block.set r.block.outcome))
       (o : out' ≡ added_over out k (block_adds (two t (slice 0 r.block.joined join')) (line + r.skipped) r.block.lines r.at r.block.set r.block.outcome)) where
     abbrev rec : Record
     rec = set_record (two t (slice 0 r.block.joined join')) (line + r.skipped) r.block.lines r.at r.block.set
 
-    abbrev verdict : outcomes.Outcome
+    abbrev verdict : Result (Unit {0}) Refusal
     verdict = block_verdict (two t (slice 0 r.block.joined join')) r.block.set r.block.outcome
 
     abbrev w : round.Next-round t join₀ join' r.block.next (line + r.skipped + r.block.lines) inv.left (block_adds (two t (slice 0 r.block.joined join')) (line + r.skipped) r.block.lines r.at r.block.set r.block.outcome)
@@ -201,7 +196,7 @@ module _ {t join₀ table₀ out₀ join table out : List ℕ} {at line i k : �
     room_is : k + length (lines_text (block_adds (two t (slice 0 r.block.joined join')) (line + r.skipped) r.block.lines r.at r.block.set r.block.outcome ++ w.more)) ≤ length out
     room_is = rw w.is at inv.room
 
-    pub lays_pass : p ≡ put.NoRoom → Lays t join₀ table₀ out₀ join' table out' r.block.next (line + r.skipped + r.block.lines) i k
+    pub lays_pass : p ≡ None → Lays t join₀ table₀ out₀ join' table out' r.block.next (line + r.skipped + r.block.lines) i k
     lays_pass y =
         let a = none_added out k rec w.more verdict room_is q y in
         let b : out' ≡ out = o ∙ none_over out k rec w.more verdict a in
@@ -218,7 +213,7 @@ module _ {t join₀ table₀ out₀ join table out : List ℕ} {at line i k : �
           few = omega (arith, inv.few, round.next_past inv.rounds e j z);
         }
 
-    module _ {row : IndexRow} (y : p ≡ put.Row row) where
+    module _ {row : IndexRow} (y : p ≡ Some row) where
       one : (listed_if rec verdict ≡ rec ∷ []) × ((row ≡ row_at k rec) × (added_over out k (listed_if rec verdict) ≡ sets out k (record_line rec)))
       one = one-added out k rec w.more verdict room_is q y
 
@@ -293,21 +288,21 @@ module _ (t : Texts) (n k at : ℕ) (a : Attrs) (hn : n < 2 ^ 64) (hk : k < 2 ^ 
 
 -- ---- by the verdict
 
-module _ (r : Record) {v o : outcomes.Outcome} (e : v ≡ o) where
-  pub adds_none : {q : Refusal} → v ≡ outcome.Refused q → (record { records = 0; bytes = 0 } ≡ adds_sizes (listed_if r o)) × (◌≤◌ 0 most_line)
+module _ (r : Record) {v o : Result (Unit {0}) Refusal} (e : v ≡ o) where
+  pub adds_none : {q : Refusal} → v ≡ Err q → (record { records = 0; bytes = 0 } ≡ adds_sizes (listed_if r o)) × (◌≤◌ 0 most_line)
   unfolding flat_map
   adds_none f = rw (← e, f) (refl, omega arith)
 
-  pub adds_some : {b : ℕ} → v ≡ outcome.Passed → (b ≡ length (record_line r)) × (b ≤ most_line) → (record { records = 1; bytes = b } ≡ adds_sizes (listed_if r o)) × (b ≤ most_line)
+  pub adds_some : {b : ℕ} → v ≡ Ok tt → (b ≡ length (record_line r)) × (b ≤ most_line) → (record { records = 1; bytes = b } ≡ adds_sizes (listed_if r o)) × (b ≤ most_line)
   unfolding flat_map
   adds_some f q = rw (← e, f) (rw (q.0, append-nil (record_line r)), q.1)
 
   module _ (buf : List ℕ) (k : ℕ) where
-    pub puts_none : {q : Refusal} → v ≡ outcome.Refused q → (put.NoRoom ≡ put_added (length buf) k (listed_if r o)) × (buf ≡ added_over buf k (listed_if r o))
+    pub puts_none : {q : Refusal} → v ≡ Err q → (None ≡ put_added (length buf) k (listed_if r o)) × (buf ≡ added_over buf k (listed_if r o))
     unfolding put_added added_over
     puts_none f = rw (← e, f) (refl, refl)
 
-    pub puts_some : {p : PutLine} {b : List ℕ} → v ≡ outcome.Passed → p ≡ put_of (length buf) k r → b ≡ line_over buf k r → (p ≡ put_added (length buf) k (listed_if r o)) × (b ≡ added_over buf k (listed_if r o))
+    pub puts_some : {p : Option IndexRow} {b : List ℕ} → v ≡ Ok tt → p ≡ put_of (length buf) k r → b ≡ line_over buf k r → (p ≡ put_added (length buf) k (listed_if r o)) × (b ≡ added_over buf k (listed_if r o))
     unfolding put_added added_over
     puts_some f g h = rw (← e, f) (g, h)
 
@@ -324,19 +319,19 @@ module _ (t join₀ table₀ out₀ : List ℕ) where
   size = length out₀
 
   -- what is promised behind 1 and 2
-  abbrev pub Checked : built.Built → List ℕ → List ℕ → List ℕ → Type 0
+  abbrev pub Checked : Result (ℕ × ℕ) Refusal → List ℕ → List ℕ → List ℕ → Type 0
   Checked r join table out =
       (r ≡ checked_built t cap n size)
       × ((join ≡ join_behind join₀ (laid_by (room_to_join cap) (tries_at t max_text 1 0)))
       × ((table ≡ over (laid_by (checked_order t cap n size) (table_numbers (index_rows (records_of t)))) table₀)
       × (out ≡ over (laid_by (checked_order t cap n size) (index_text (records_of t))) out₀)))
 
-  pub checked_join : cap < max_text → Checked (build.Refused JoinFull) join₀ table₀ out₀
+  pub checked_join : cap < max_text → Checked (Err JoinFull) join₀ table₀ out₀
   unfolding checked_built in_order join_behind
   checked_join h = rw (lt-ltb cap max_text h) (refl, (refl, (refl, refl)))
 
   module _ (wide : max_text ≤ cap) {s : Sizes} (e : s ≡ sizes_of (records_of t)) {join : List ℕ} (j : join ≡ join_behind join₀ (tries_at t max_text 1 0)) where
-    pub checked_table : table_size n < s.records → Checked (build.Refused TableFull) join table₀ out₀
+    pub checked_table : table_size n < s.records → Checked (Err TableFull) join table₀ out₀
     unfolding checked_built in_order room_for
     checked_table h = let k : table_size n < length (records_of t) = rw e at h in rw (le-ltb cap max_text wide, lt-ltb (table_size n) (length (records_of t)) k) (refl, (j, (refl, refl)))
 
@@ -344,7 +339,7 @@ module _ (t join₀ table₀ out₀ : List ℕ) where
       seats : length (records_of t) ≤ table_size n
       seats = rw e at fits
 
-      pub checked_text : size < s.bytes → Checked (build.Refused IndexTooLong) join table₀ out₀
+      pub checked_text : size < s.bytes → Checked (Err IndexTooLong) join table₀ out₀
       unfolding checked_built in_order room_for
       checked_text h =
           let k : size < length (index_text (records_of t)) = rw e at h in
@@ -355,14 +350,14 @@ module _ (t join₀ table₀ out₀ : List ℕ) where
         lay_room = (seats, rw e at room)
 
         pub checked_whole : {join' table out : List ℕ} → join' ≡ join_behind join (tries_at t max_text 1 0) → table ≡ over (table_numbers (index_rows (records_of t))) table₀ → out ≡ over (index_text (records_of t)) out₀
-            → Checked (build.Index s.records s.bytes) join' table out
+            → Checked (Ok (s.records, s.bytes)) join' table out
         unfolding checked_built in_order room_for
         checked_whole a b c =
             rw (le-ltb cap max_text wide, le-ltb (table_size n) (length (records_of t)) seats, le-ltb size (length (index_text (records_of t))) lay_room.1, e)
             (refl, (a ∙ rw j (join_twice join₀ (tries_at t max_text 1 0)), (b, c)))
 
   -- what is promised
-  abbrev pub Builds : built.Built → List ℕ → List ℕ → List ℕ → Type 0
+  abbrev pub Builds : Result (ℕ × ℕ) Refusal → List ℕ → List ℕ → List ℕ → Type 0
   Builds r join table out =
       (r ≡ built_of t cap n size)
       × ((join ≡ join_behind join₀ (built_tries t cap))
@@ -373,15 +368,15 @@ module _ (t join₀ table₀ out₀ : List ℕ) where
   paper : built_paper (built_of t cap n size) ≡ on_paper (build_order t cap n size) (length (records_of t) ∷ length (index_text (records_of t)) ∷ [])
   unfolding built_of on_paper in_order
   paper =
-      paper_by built_paper build.Refused (length (records_of t) ∷ length (index_text (records_of t)) ∷ []) (λ r. refl) (build_order t cap n size) [] {next = build.Index (length (records_of t)) (length (index_text (records_of t)))} refl
+      paper_by built_paper Err (length (records_of t) ∷ length (index_text (records_of t)) ∷ []) (λ r. refl) (build_order t cap n size) [] {next = Ok (length (records_of t), length (index_text (records_of t)))} refl
       ∙ ap (λ gs. on_paper gs (length (records_of t) ∷ length (index_text (records_of t)) ∷ [])) (append-nil (build_order t cap n size))
 
-  module _ {c : outcomes.Outcome} (e : c ≡ check_of t) where
-    pub builds_refused : {why : Refusal} → c ≡ outcome.Refused why → Builds (build.Refused why) join₀ table₀ out₀
+  module _ {c : Result (Unit {0}) Refusal} (e : c ≡ check_of t) where
+    pub builds_refused : {why : Refusal} → c ≡ Err why → Builds (Err why) join₀ table₀ out₀
     unfolding built_of built_tries built_table built_text build_order sheet_order check_of join_behind
     builds_refused {why} f =
-        let m : in_order outcome.Refused (text_order t) outcome.Passed ≡ outcome.Refused why = sym e ∙ f in
-        let r : build.Refused why ≡ built_of t cap n size = sym (order_met build.Refused (build.Index (length (records_of t)) (length (index_text (records_of t)))) (text_order t) (checked_order t cap n size) m) in (
+        let m : in_order Err (text_order t) (Ok tt) ≡ Err why = sym e ∙ f in
+        let r : Err why ≡ built_of t cap n size = sym (order_met Err (Ok (length (records_of t), length (index_text (records_of t)))) (text_order t) (checked_order t cap n size) m) in (
           r,
           (
             ap (join_behind join₀) (sym (order_met (λ q. []) (tries_at t max_text 1 0) (text_order t) (room_to_join cap) m)),
@@ -395,11 +390,11 @@ module _ (t join₀ table₀ out₀ : List ℕ) where
           ),
         )
 
-    pub builds_passed : {b : built.Built} {join table out : List ℕ} → c ≡ outcome.Passed → Checked b join table out → Builds b join table out
+    pub builds_passed : {b : Result (ℕ × ℕ) Refusal} {join table out : List ℕ} → c ≡ Ok tt → Checked b join table out → Builds b join table out
     unfolding built_of built_tries built_table built_text build_order sheet_order check_of checked_built
     builds_passed {b} f h =
-        let m : in_order outcome.Refused (text_order t) outcome.Passed ≡ outcome.Passed = sym e ∙ f in
-        let r : b ≡ built_of t cap n size = h.0 ∙ sym (order_past build.Refused (build.Index (length (records_of t)) (length (index_text (records_of t)))) (text_order t) (checked_order t cap n size) m) in (
+        let m : in_order Err (text_order t) (Ok tt) ≡ (Ok tt) = sym e ∙ f in
+        let r : b ≡ built_of t cap n size = h.0 ∙ sym (order_past Err (Ok (length (records_of t), length (index_text (records_of t)))) (text_order t) (checked_order t cap n size) m) in (
           r,
           (
             h.1.0 ∙ ap (join_behind join₀) (sym (order_past (λ q. []) (tries_at t max_text 1 0) (text_order t) (room_to_join cap) m)),

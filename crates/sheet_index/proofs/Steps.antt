@@ -1,5 +1,6 @@
 -- Orders in two parts, and the join buffer behind the same tries twice over.
 -- Assumes nothing.
+use Rattle.std.specs.Prelude.{Err}
 use mathlib.Core.Path.{◌≡◌, refl, sym, ◌∙◌, ap}
 use mathlib.Core.Bool.{Bool, true, false}
 use mathlib.Core.List.{List, [], ◌∷◌, ◌++◌, append_assoc, append-nil}
@@ -10,17 +11,16 @@ use lib.Dec.{leb}
 use lib.ListN.{length, drop, length-append, length-drop, drop_of_length-le}
 use lib.Seq.{drop-drop, drop-append-le, drop-append_seam}
 use Rattle.base_lists.specs.Lists.{over}
+use Rattle.base_refusals.specs.Numbers.{passed}
 use Rattle.base_refusals.specs.Orders.{Ground, in_order}
 use Rattle.base_refusals.specs.declared.Refusal.{Refusal}
-use Rattle.base_refusals.specs.declared.Outcome as outcomes
-use Rattle.base_refusals.specs.declared.Outcome.TheVariants as outcome
 use Rattle.read_blocks.specs.Blocks.{joined_in, join_holds}
 use Rattle.sheet_blocks.specs.Sheets.{Try, join_behind}
 
 -- ---- an order whose first part is asked by itself
 
 module _ {A : Type 0} (f : Refusal → A) (x : A) where
-  pub order_met : (gs hs : List Ground) {r : Refusal} → in_order outcome.Refused gs outcome.Passed ≡ outcome.Refused r → in_order f (gs ++ hs) x ≡ f r
+  pub order_met : (gs hs : List Ground) {r : Refusal} → in_order Err gs passed ≡ Err r → in_order f (gs ++ hs) x ≡ f r
   unfolding in_order
   order_met [] hs e = let z : ◌≡◌ {A = ℕ} 0 1 = cc in absurd (omega arith)
   order_met (Ground.given q true ∷ gs) hs {r} e = let z : q ≡ r = cc in ap f z
@@ -28,7 +28,7 @@ module _ {A : Type 0} (f : Refusal → A) (x : A) where
   order_met (Ground.lacking q true ∷ gs) hs e = order_met gs hs e
   order_met (Ground.lacking q false ∷ gs) hs {r} e = let z : q ≡ r = cc in ap f z
 
-  pub order_past : (gs hs : List Ground) → in_order outcome.Refused gs outcome.Passed ≡ outcome.Passed → in_order f (gs ++ hs) x ≡ in_order f hs x
+  pub order_past : (gs hs : List Ground) → in_order Err gs passed ≡ passed → in_order f (gs ++ hs) x ≡ in_order f hs x
   unfolding in_order
   order_past [] hs e = refl
   order_past (Ground.given q true ∷ gs) hs e = let z : ◌≡◌ {A = ℕ} 0 1 = cc in absurd (omega arith)
@@ -37,8 +37,8 @@ module _ {A : Type 0} (f : Refusal → A) (x : A) where
   order_past (Ground.lacking q false ∷ gs) hs e = let z : ◌≡◌ {A = ℕ} 0 1 = cc in absurd (omega arith)
 
 -- where no ground of both parts holds, none of either does
-pub order_parts : (gs hs : List Ground) → in_order outcome.Refused (gs ++ hs) outcome.Passed ≡ outcome.Passed
-    → (in_order outcome.Refused gs outcome.Passed ≡ outcome.Passed) × (in_order outcome.Refused hs outcome.Passed ≡ outcome.Passed)
+pub order_parts : (gs hs : List Ground) → in_order Err (gs ++ hs) passed ≡ passed
+    → (in_order Err gs passed ≡ passed) × (in_order Err hs passed ≡ passed)
 unfolding in_order
 order_parts [] hs e = (refl, e)
 order_parts (Ground.given q true ∷ gs) hs e = let z : ◌≡◌ {A = ℕ} 0 1 = cc in absurd (omega arith)

@@ -1,5 +1,5 @@
 -- "Wanted: build, read, ..": what is answered, and what then stands in the lent table and the lent buffer.
-use Rattle.std.specs.Prelude.{ℕ, Bool, true, false, List, [], ◌∷◌, ◌++◌, ltb, length}
+use Rattle.std.specs.Prelude.{ℕ, Bool, true, false, List, [], ◌∷◌, ◌++◌, ltb, length, Err, Ok, Result}
 use Rattle.base_refusals.specs.Numbers.{max_text, Paper, refused_paper, passed_paper}
 use Rattle.base_refusals.specs.Orders.{Ground, in_order}
 use Rattle.base_refusals.specs.declared.Refusal.TheVariants.{JoinFull, NotAnIndex, TableFull, AnotherVersion, IndexTooLong}
@@ -10,10 +10,7 @@ use Rattle.sheet_records.specs.Listed.{records_of}
 use Rattle.sheet_records.specs.Computed.{Index, not_index, rows, is_other, read_index}
 use Rattle.sheet_records.specs.Writing.{table_size}
 use Rattle.sheet_records.specs.declared.IndexRow.{IndexRow}
-use Rattle.sheet_index.specs.declared.Built as built
-use Rattle.sheet_index.specs.declared.Built.TheVariants as build
-use Rattle.sheet_index.specs.declared.Counted as counted
-use Rattle.sheet_index.specs.declared.Counted.TheVariants as count
+use Rattle.base_refusals.specs.declared.Refusal.{Refusal}
 
 -- ---- the orders
 
@@ -44,8 +41,8 @@ unfoldable pub build_order : List ℕ → ℕ → ℕ → ℕ → List Ground
 build_order t cap n size = sheet_order t cap ++ room_for n size (records_of t)
 
 -- how many records, and how many bytes of index text
-unfoldable pub built_of : List ℕ → ℕ → ℕ → ℕ → built.Built
-built_of t cap n size = in_order build.Refused (build_order t cap n size) (build.Index (length (records_of t)) (length (index_text (records_of t))))
+unfoldable pub built_of : List ℕ → ℕ → ℕ → ℕ → Result (ℕ × ℕ) Refusal
+built_of t cap n size = in_order Err (build_order t cap n size) (Ok (length (records_of t), length (index_text (records_of t))))
 
 unfoldable pub built_text : List ℕ → ℕ → ℕ → ℕ → List ℕ
 built_text t cap n size = laid_by (build_order t cap n size) (index_text (records_of t))
@@ -57,9 +54,9 @@ built_table t cap n size = laid_by (build_order t cap n size) (table_numbers (in
 unfoldable pub built_tries : List ℕ → ℕ → List Try
 built_tries t cap = laid_by (sheet_order t cap) (tries_at t max_text 1 0)
 
-abbrev pub built_paper : built.Built → Paper
-built_paper (build.Refused r) = refused_paper r
-built_paper (build.Index k n) = passed_paper (k ∷ n ∷ [])
+abbrev pub built_paper : Result (ℕ × ℕ) Refusal → Paper
+built_paper (Err r) = refused_paper r
+built_paper (Ok (k, n)) = passed_paper (k ∷ n ∷ [])
 
 -- ---- reading: the index text t and a table of n numbers
 
@@ -71,12 +68,12 @@ rows_read (rows es) = es
 unfoldable pub count_order : List ℕ → ℕ → List Ground
 count_order t n = form_order t ++ (Ground.given TableFull (ltb (table_size n) (length (rows_read (read_index t)))) ∷ [])
 
-unfoldable pub counted_of : List ℕ → ℕ → counted.Counted
-counted_of t n = in_order count.Refused (count_order t n) (count.Rows (length (rows_read (read_index t))))
+unfoldable pub counted_of : List ℕ → ℕ → Result ℕ Refusal
+counted_of t n = in_order Err (count_order t n) (Ok (length (rows_read (read_index t))))
 
 unfoldable pub counted_table : List ℕ → ℕ → List ℕ
 counted_table t n = laid_by (count_order t n) (table_numbers (rows_read (read_index t)))
 
-abbrev pub counted_paper : counted.Counted → Paper
-counted_paper (count.Refused r) = refused_paper r
-counted_paper (count.Rows k) = passed_paper (k ∷ [])
+abbrev pub counted_paper : Result ℕ Refusal → Paper
+counted_paper (Err r) = refused_paper r
+counted_paper (Ok k) = passed_paper (k ∷ [])

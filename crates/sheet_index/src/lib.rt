@@ -1,7 +1,7 @@
 // An index beside a sheet: building it, reading it, and looking a record up.
 #![tactic(auto)]
 
-ghost use Rattle.std.specs.Prelude.{◌≡◌, true, suc, ◌≤◌, ◌+◌, [], ◌∷◌, length};
+ghost use Rattle.std.specs.Prelude.{◌≡◌, true, suc, ◌≤◌, ◌+◌, [], ◌∷◌, length, None, Ok};
 ghost use Rattle.std.proofs.Math.Seq.{slice};
 ghost use Rattle.base_lists.specs.Lists.{over};
 ghost use Rattle.base_refusals.specs.Numbers.{max_text};
@@ -12,37 +12,14 @@ ghost use Rattle.sheet_records.specs.Records.{record_line, index_header, index_t
 ghost use Rattle.sheet_records.specs.Listed.{records_of};
 ghost use Rattle.sheet_records.specs.Writing.{put_of, line_over, table_size};
 ghost use Rattle.sheet_records.specs.Computed.{read_index, rows_from, id_in, record_in};
-ghost use Rattle.sheet_index.specs.declared.LookUp.TheVariants.{Missing};
 ghost use Rattle.sheet_index.specs.Building.{laid_by, build_order, built_of, built_text, built_table, built_tries, built_paper, is_read, rows_read, form_order, count_order, counted_of, counted_table, counted_paper};
 ghost use Rattle.sheet_index.specs.Finding.{is_id, first_with, values_with, records_by, find_record, table_rows, find_row, look_paper};
 ghost use Rattle.sheet_index.specs.Inner.{set_record, block_adds, most_line, adds_sizes, sizes_of, put_added, added_over, room_to_join, checked_order, checked_built, counted_by, or_first, found_among};
 
-use base_refusals::{Outcome, Refusal};
+use base_refusals::Refusal;
 use read_blocks::Block;
 use set_table::Attrs;
-use sheet_records::{IndexRow, PutLine, RecordAt};
-
-// How many records, and how many bytes of index text, or why none.
-#[derive(Clone, Copy)]
-pub enum Built {
-    Refused(Refusal),
-    Index(usize, usize),
-}
-
-// How many rows were read, or why none.
-#[derive(Clone, Copy)]
-pub enum Counted {
-    Refused(Refusal),
-    Rows(usize),
-}
-
-// The first line, the line count and the offset of the record that was looked for, or that there is none.
-#[derive(Clone, Copy)]
-pub enum LookUp {
-    Refused(Refusal),
-    Missing,
-    Row(usize, usize, usize),
-}
+use sheet_records::IndexRow;
 
 // How many records a sheet has, and how many bytes their index.
 #[derive(Clone, Copy)]
@@ -76,11 +53,11 @@ fn added<'a>(text: &'a [u8], join: &'a [u8], n: usize, at: usize, block: Block) 
     ensures { (result ≡ adds_sizes (block_adds (two text.now (slice 0 block.joined join.now)) n block.lines at block.set block.outcome)) × (result.bytes ≤ most_line) }
 {
     match sheet_verdicts::verdict_of(text, join, block) {
-        Outcome::Refused(_) => Sizes {
+        Err(_) => Sizes {
             records: 0,
             bytes: 0,
         },
-        Outcome::Passed => {
+        Ok(()) => {
             let joined = set_table::bytes_of(join, 0, block.joined);
             let bytes = set_len(text, joined, n, block.lines, at, block.set);
             Sizes { records: 1, bytes }
@@ -124,7 +101,7 @@ fn put_set<'a>(
     lines: usize,
     at: usize,
     set: Attrs,
-) -> PutLine
+) -> Option<IndexRow>
     ensures value { result ≡ put_of (length out.old) k (set_record (two first.now second.now) n lines at set) }
     ensures out_after { out.new ≡ line_over out.old k (set_record (two first.now second.now) n lines at set) }
 {
@@ -143,13 +120,13 @@ fn put_block<'a>(
     n: usize,
     at: usize,
     block: Block,
-) -> PutLine
+) -> Option<IndexRow>
     ensures value { result ≡ put_added (length out.old) k (block_adds (two text.now (slice 0 block.joined join.now)) n block.lines at block.set block.outcome) }
     ensures out_after { out.new ≡ added_over out.old k (block_adds (two text.now (slice 0 block.joined join.now)) n block.lines at block.set block.outcome) }
 {
     match sheet_verdicts::verdict_of(text, join, block) {
-        Outcome::Refused(_) => PutLine::NoRoom,
-        Outcome::Passed => {
+        Err(_) => None,
+        Ok(()) => {
             let joined = set_table::bytes_of(join, 0, block.joined);
             put_set(out, k, text, joined, n, block.lines, at, block.set)
         }
@@ -177,12 +154,12 @@ fn lay(text: &[u8], join: &mut [u8], table: &mut [usize], out: &mut [u8])
         }
         let n = line + next.skipped;
         match put_block(out, k, text, join, n, next.at, block) {
-            PutLine::NoRoom => {
+            None => {
                 line = n + block.lines;
                 at = block.next;
                 continue 'sheet;
             }
-            PutLine::Row(row) => {
+            Some(row) => {
                 sheet_records::put_row(table, i, row);
                 i += 1;
                 k = row.next;
@@ -195,7 +172,12 @@ fn lay(text: &[u8], join: &mut [u8], table: &mut [usize], out: &mut [u8])
 }
 
 // Builds the index of a sheet that is a text: measured first, so that a refusal leaves table and buffer.
-fn build_checked(text: &[u8], join: &mut [u8], table: &mut [usize], out: &mut [u8]) -> Built
+fn build_checked(
+    text: &[u8],
+    join: &mut [u8],
+    table: &mut [usize],
+    out: &mut [u8],
+) -> Result<(usize, usize), Refusal>
     requires { length text.now ≤ max_text }
     ensures value { result ≡ checked_built text.now (length join.old) (length table.old) (length out.old) }
     ensures join_after { join.new ≡ join_behind join.old (laid_by (room_to_join (length join.old)) (tries_at text.now max_text 1 0)) }
@@ -203,46 +185,49 @@ fn build_checked(text: &[u8], join: &mut [u8], table: &mut [usize], out: &mut [u
     ensures out_after { out.new ≡ over (laid_by (checked_order text.now (length join.old) (length table.old) (length out.old)) (index_text (records_of text.now))) out.old }
 {
     if join.len() < base_refusals::MAX_TEXT {
-        return Built::Refused(Refusal::JoinFull);
+        return Err(Refusal::JoinFull);
     }
     let sizes = measure(text, join);
     if table.len() / 5 < sizes.records {
-        return Built::Refused(Refusal::TableFull);
+        return Err(Refusal::TableFull);
     }
     if out.len() < sizes.bytes {
-        return Built::Refused(Refusal::IndexTooLong);
+        return Err(Refusal::IndexTooLong);
     }
     lay(text, join, table, out);
-    Built::Index(sizes.records, sizes.bytes)
+    Ok((sizes.records, sizes.bytes))
 }
 
 // The index of a sheet, its text in lent memory and its rows in a lent table, or why there is none.
-pub fn build_index(text: &[u8], join: &mut [u8], table: &mut [usize], out: &mut [u8]) -> Built
+pub fn build_index(
+    text: &[u8],
+    join: &mut [u8],
+    table: &mut [usize],
+    out: &mut [u8],
+) -> Result<(usize, usize), Refusal>
     ensures value { result ≡ built_of text.now (length join.old) (length table.old) (length out.old) }
     ensures join_after { join.new ≡ join_behind join.old (built_tries text.now (length join.old)) }
     ensures table_after { table.new ≡ over (built_table text.now (length join.old) (length table.old) (length out.old)) table.old }
     ensures out_after { out.new ≡ over (built_text text.now (length join.old) (length table.old) (length out.old)) out.old }
     ensures result_value { built_paper result ≡ on_paper (build_order text.now (length join.old) (length table.old) (length out.old)) (length (records_of text.now) ∷ length (index_text (records_of text.now)) ∷ []) }
 {
-    match text_checks::check_text(text) {
-        Outcome::Refused(why) => Built::Refused(why),
-        Outcome::Passed => build_checked(text, join, table, out),
-    }
+    text_checks::check_text(text)?;
+    build_checked(text, join, table, out)
 }
 
 // Counts the rows of an index text behind its first line.
-fn count_from(index: &[u8]) -> Counted
+fn count_from(index: &[u8]) -> Result<usize, Refusal>
     ensures { result ≡ counted_by 0 (rows_from (suc (length index.now)) index.now (length index_header)) }
 {
     let mut n: usize = 0;
     let mut at = sheet_records::HEADER;
     'rows: loop {
         if index.len() <= at {
-            return Counted::Rows(n);
+            return Ok(n);
         }
         match sheet_records::record_at(index, at) {
-            RecordAt::Bad => return Counted::Refused(Refusal::NotAnIndex),
-            RecordAt::Good(e) => {
+            None => return Err(Refusal::NotAnIndex),
+            Some(e) => {
                 n += 1;
                 at = e.next;
                 continue 'rows;
@@ -252,13 +237,11 @@ fn count_from(index: &[u8]) -> Counted
 }
 
 // Counts the rows of an index text.
-fn count_rows(index: &[u8]) -> Counted
+fn count_rows(index: &[u8]) -> Result<usize, Refusal>
     ensures { result ≡ counted_by 0 (read_index index.now) }
 {
-    match sheet_records::head_of(index) {
-        Outcome::Refused(why) => Counted::Refused(why),
-        Outcome::Passed => count_from(index),
-    }
+    sheet_records::head_of(index)?;
+    count_from(index)
 }
 
 // Lays the rows of an index text, which have room.
@@ -273,8 +256,8 @@ fn lay_rows(index: &[u8], table: &mut [usize])
             return;
         }
         match sheet_records::record_at(index, at) {
-            RecordAt::Bad => return,
-            RecordAt::Good(e) => {
+            None => return,
+            Some(e) => {
                 sheet_records::put_row(table, k, e);
                 k += 1;
                 at = e.next;
@@ -285,21 +268,17 @@ fn lay_rows(index: &[u8], table: &mut [usize])
 }
 
 // Reads an index text into a lent table; the whole text is read before the table counts.
-pub fn read_index(index: &[u8], table: &mut [usize]) -> Counted
+pub fn read_index(index: &[u8], table: &mut [usize]) -> Result<usize, Refusal>
     ensures value { result ≡ counted_of index.now (length table.old) }
     ensures table_after { table.new ≡ over (counted_table index.now (length table.old)) table.old }
     ensures result_value { counted_paper result ≡ on_paper (count_order index.now (length table.old)) (length (rows_read (read_index index.now)) ∷ []) }
 {
-    match count_rows(index) {
-        Counted::Refused(why) => Counted::Refused(why),
-        Counted::Rows(n) => {
-            if table.len() / 5 < n {
-                return Counted::Refused(Refusal::TableFull);
-            }
-            lay_rows(index, table);
-            Counted::Rows(n)
-        }
+    let n = count_rows(index)?;
+    if table.len() / 5 < n {
+        return Err(Refusal::TableFull);
     }
+    lay_rows(index, table);
+    Ok(n)
 }
 
 // Whether the id that a row says is the one looked for.
@@ -313,34 +292,38 @@ fn has_id<'a>(index: &'a [u8], from: usize, to: usize, id: &'a [u8]) -> bool
 }
 
 // What was found, or else this row if it has the id.
-fn first_of<'a>(found: LookUp, index: &'a [u8], row: IndexRow, id: &'a [u8]) -> LookUp
+fn first_of<'a>(
+    found: Result<Option<(usize, usize, usize)>, Refusal>,
+    index: &'a [u8],
+    row: IndexRow,
+    id: &'a [u8],
+) -> Result<Option<(usize, usize, usize)>, Refusal>
     ensures { result ≡ or_first found (first_with id.now (record_in index.now row ∷ [])) }
 {
-    match found {
-        LookUp::Refused(why) => LookUp::Refused(why),
-        LookUp::Row(line, count, offset) => LookUp::Row(line, count, offset),
-        LookUp::Missing => {
+    match found? {
+        Some((line, count, offset)) => Ok(Some((line, count, offset))),
+        None => {
             if has_id(index, row.from, row.to, id) {
-                return LookUp::Row(row.line, row.count, row.offset);
+                return Ok(Some((row.line, row.count, row.offset)));
             }
-            LookUp::Missing
+            Ok(None)
         }
     }
 }
 
 // Looks an id up in an index text behind its first line.
-fn find_from<'a>(index: &'a [u8], id: &'a [u8]) -> LookUp
-    ensures { result ≡ found_among index.now Missing id.now (rows_from (suc (length index.now)) index.now (length index_header)) }
+fn find_from<'a>(index: &'a [u8], id: &'a [u8]) -> Result<Option<(usize, usize, usize)>, Refusal>
+    ensures { result ≡ found_among index.now (Ok None) id.now (rows_from (suc (length index.now)) index.now (length index_header)) }
 {
-    let mut found = LookUp::Missing;
+    let mut found = Ok(None);
     let mut at = sheet_records::HEADER;
     'rows: loop {
         if index.len() <= at {
             return found;
         }
         match sheet_records::record_at(index, at) {
-            RecordAt::Bad => return LookUp::Refused(Refusal::NotAnIndex),
-            RecordAt::Good(e) => {
+            None => return Err(Refusal::NotAnIndex),
+            Some(e) => {
                 found = first_of(found, index, e, id);
                 at = e.next;
                 continue 'rows;
@@ -350,18 +333,24 @@ fn find_from<'a>(index: &'a [u8], id: &'a [u8]) -> LookUp
 }
 
 // The first record of an id in an index text, which is read whole.
-pub fn find_record<'a>(index: &'a [u8], id: &'a [u8]) -> LookUp
+pub fn find_record<'a>(
+    index: &'a [u8],
+    id: &'a [u8],
+) -> Result<Option<(usize, usize, usize)>, Refusal>
     ensures value { result ≡ find_record index.now id.now }
     ensures result_value { look_paper result ≡ on_paper (form_order index.now) (values_with id.now (records_by index.now (rows_read (read_index index.now)))) }
 {
-    match sheet_records::head_of(index) {
-        Outcome::Refused(why) => LookUp::Refused(why),
-        Outcome::Passed => find_from(index, id),
-    }
+    sheet_records::head_of(index)?;
+    find_from(index, id)
 }
 
 // The first record of an id over rows already read: n of them, or as many as the table has.
-pub fn find_row<'a>(index: &'a [u8], table: &[usize], n: usize, id: &'a [u8]) -> LookUp
+pub fn find_row<'a>(
+    index: &'a [u8],
+    table: &[usize],
+    n: usize,
+    id: &'a [u8],
+) -> Result<Option<(usize, usize, usize)>, Refusal>
     ensures value { result ≡ find_row index.now table.now n id.now }
     ensures result_value { look_paper result ≡ on_paper [] (values_with id.now (records_by index.now (table_rows n table.now))) }
 {
@@ -369,13 +358,13 @@ pub fn find_row<'a>(index: &'a [u8], table: &[usize], n: usize, id: &'a [u8]) ->
     let mut i = 0;
     'rows: loop {
         if n <= k {
-            return LookUp::Missing;
+            return Ok(None);
         }
         if table.len() - i < 5 {
-            return LookUp::Missing;
+            return Ok(None);
         }
         if has_id(index, table[i + 3], table[i + 4], id) {
-            return LookUp::Row(table[i], table[i + 1], table[i + 2]);
+            return Ok(Some((table[i], table[i + 1], table[i + 2])));
         }
         k += 1;
         i += 5;

@@ -1,5 +1,6 @@
 -- The listing laid part by part: the fields of a line, the lines of a table, the line of a refusal, and the whole.
 -- Assumes nothing.
+use Rattle.std.specs.Prelude.{Option}
 use mathlib.Core.Path.{◌≡◌, refl, sym, ◌∙◌}
 use mathlib.Core.List.{List, [], ◌∷◌, ◌++◌, append_assoc, append-nil}
 use Prim.Native.Nat.{ℕ, zero, suc, ◌+◌, ◌-◌, ◌*◌, ◌^◌, ◌≤◌, ◌<◌}
@@ -17,7 +18,6 @@ use Rattle.text_digits.proofs.Decimals.{decimal_le}
 use Rattle.sheet_valves.specs.Tables.{variant_count, wheels}
 use Rattle.sheet_valves.specs.Pairs.{row_of}
 use Rattle.sheet_valves.proofs.Pairs.{row_from, row_from_lem}
-use Rattle.sheet_valves.specs.declared.Valve.{Valve}
 use Rattle.sheet_valves.specs.declared.Table.{Table}
 use Rattle.sheet_variants.specs.declared.Variants.{Variants}
 use Rattle.sheet_report.specs.Puts.{PutAt, line_front}
@@ -41,7 +41,7 @@ variant_le {n} e h = omega (arith, e, decimal_le n 2 (omega arith) (omega arith)
 pub field_le : {n k : ℕ} → k ≡ length (9 ∷ decimal n) → n < 2 ^ 64 → k ≤ 21
 field_le {n} e h = omega (arith, e, decimal_le n 20 (omega arith) (omega arith))
 
-pub fields_put : (a b c d : Valve) {buf : List ℕ} {at e f g h : ℕ} {p q r s : List ℕ}
+pub fields_put : (a b c d : Option ℕ) {buf : List ℕ} {at e f g h : ℕ} {p q r s : List ℕ}
     → PutAt buf at (valve_field a) e p → PutAt p e (valve_field b) f q → PutAt q f (valve_field c) g r → PutAt r g (valve_field d) h s
     → PutAt buf at (fields_text (a ∷ b ∷ c ∷ d ∷ [])) h s
 unfolding fields_text mathlib.Core.List.flat_map

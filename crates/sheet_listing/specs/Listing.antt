@@ -1,16 +1,12 @@
 -- The listing of a sheet: the dealers' table as text, or the line of its refusal.
-use Rattle.std.specs.Prelude.{ℕ, zero, suc, cond, ltb}
+use Rattle.std.specs.Prelude.{ℕ, zero, suc, cond, ltb, Err, None, Ok, Option, Result, Some}
 use mathlib.Core.List.{List, [], ◌∷◌, ◌++◌, flat_map}
 use Rattle.base_bytes.specs.Bytes.{tab, lf, hyphen}
 use Rattle.base_refusals.specs.Numbers.{number_of}
 use Rattle.base_refusals.specs.declared.Refusal.{Refusal}
-use Rattle.base_refusals.specs.declared.Outcome as outcomes
-use Rattle.base_refusals.specs.declared.Outcome.TheVariants as outcome
 use Rattle.text_digits.specs.Decimal.{decimal}
 use Rattle.sheet_valves.specs.Tables.{variant_count}
 use Rattle.sheet_valves.specs.Pairs.{row_of}
-use Rattle.sheet_valves.specs.declared.Valve.{Valve}
-use Rattle.sheet_valves.specs.declared.Valve.TheVariants.{Unfilled, Fitted}
 use Rattle.sheet_valves.specs.declared.Table.{Table}
 use Rattle.sheet_variants.specs.declared.Variants as answer
 use Rattle.sheet_report.specs.Report.{refused_word, report_line}
@@ -18,15 +14,15 @@ use Rattle.sheet_report.specs.Report.{refused_word, report_line}
 -- ---- a table
 
 -- the valve of a wheel, `-` where the cell is unfilled
-abbrev pub valve_text : Valve → List ℕ
-valve_text Unfilled = hyphen ∷ []
-valve_text (Fitted n) = decimal n
+abbrev pub valve_text : Option ℕ → List ℕ
+valve_text None = hyphen ∷ []
+valve_text (Some n) = decimal n
 
 -- a field stands behind a tab
-abbrev pub valve_field : Valve → List ℕ
+abbrev pub valve_field : Option ℕ → List ℕ
 valve_field x = tab ∷ valve_text x
 
-unfoldable pub fields_text : List Valve → List ℕ
+unfoldable pub fields_text : List (Option ℕ) → List ℕ
 fields_text xs = flat_map valve_field xs
 
 -- a line: the variant, and a field for each wheel
@@ -54,9 +50,9 @@ refusal_text n k v r = report_line refused_word n k (decimal (number_of r) ++ va
 
 -- ---- the whole
 
-abbrev pub listing_by : answer.Variants → outcomes.Outcome → List ℕ
-listing_by a (outcome.Refused r) = refusal_text a.line a.lines a.variant r
-listing_by a outcome.Passed = table_text a.table
+abbrev pub listing_by : answer.Variants → Result (Unit {0}) Refusal → List ℕ
+listing_by a (Err r) = refusal_text a.line a.lines a.variant r
+listing_by a (Ok _) = table_text a.table
 
 unfoldable pub listing : answer.Variants → List ℕ
 listing a = listing_by a a.outcome

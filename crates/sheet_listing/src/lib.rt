@@ -9,8 +9,8 @@ ghost use Rattle.sheet_valves.specs.Tables.{variant_count};
 ghost use Rattle.sheet_report.specs.Puts.{PutAt};
 ghost use Rattle.sheet_listing.specs.Listing.{valve_field, fields_text, row_text, table_text, variant_field, refusal_text, listing, listing_in, max_listing};
 
-use base_refusals::{Outcome, Refusal};
-use sheet_valves::{Cell, Table, Valve};
+use base_refusals::Refusal;
+use sheet_valves::{Cell, Table};
 use sheet_variants::Variants;
 
 // No listing is longer: 30 lines of at most two digits, four fields of a tab and at most three digits, and the LF.
@@ -34,11 +34,11 @@ fn put_cell(out: &mut [u8], at: usize, cell: Cell) -> usize
 {
     let valve = cell.valve;
     match valve {
-        Valve::Unfilled => {
+        None => {
             base_lists::put_bytes(out, at, b"\t-");
             at + 2
         }
-        Valve::Fitted(n) => {
+        Some(n) => {
             let k = text_digits::put_field(out, at, n as u64);
             at + k
         }
@@ -81,10 +81,8 @@ fn lay_table(table: Table, out: &mut [u8]) -> usize
     ensures upper_bound { result ≤ max_listing }
 {
     let mut at = 0;
-    let mut v = 0;
-    while v < Table::VARIANTS {
+    for v in 0..Table::VARIANTS {
         at = put_row(out, at, table, v);
-        v += 1;
     }
     at
 }
@@ -124,8 +122,8 @@ fn lay(answer: Variants, out: &mut [u8]) -> usize
 {
     let outcome = answer.outcome;
     match outcome {
-        Outcome::Refused(why) => lay_refused(answer.line, answer.lines, answer.variant, why, out),
-        Outcome::Passed => lay_table(answer.table, out),
+        Err(why) => lay_refused(answer.line, answer.lines, answer.variant, why, out),
+        Ok(()) => lay_table(answer.table, out),
     }
 }
 

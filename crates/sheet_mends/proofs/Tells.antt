@@ -1,5 +1,6 @@
 -- Records told one after the other: one, those of a part of a sheet, and those that are kept.
 -- Assumes nothing.
+use Rattle.std.specs.Prelude.{Err, None, Ok, Option, Result, Some}
 use mathlib.Core.Path.{◌≡◌, refl, sym, ◌∙◌, ap}
 use mathlib.Core.Bool.{Bool, true, false, cond, ◌&&◌}
 use mathlib.Core.List.{List, [], ◌∷◌, ◌++◌, map, map-append, append_assoc, flat_map}
@@ -13,8 +14,6 @@ use lib.Seq.{slice, sets, length-slice, length-sets}
 use Rattle.base_lists.proofs.Parts.{drop_past, seam}
 use Rattle.base_refusals.specs.Numbers.{max_text}
 use Rattle.base_refusals.specs.declared.Refusal.{Refusal}
-use Rattle.base_refusals.specs.declared.Outcome as outcomes
-use Rattle.base_refusals.specs.declared.Outcome.TheVariants as outcome
 use Rattle.set_marks.specs.Marks.{bytes_in, raw_bytes, is_quoted}
 use Rattle.set_marks.proofs.Values.{bytes_short}
 use Rattle.set_table.specs.Types.{Texts, two}
@@ -29,8 +28,6 @@ use Rattle.sheet_records.specs.Computed.{record_at, id_in, record_in}
 use Rattle.sheet_records.specs.Writing.{raw_id, line_fits, line_over, table_size, row_over}
 use Rattle.sheet_records.specs.Inner.{line_size, end_text}
 use Rattle.sheet_records.specs.declared.IndexRow.{IndexRow}
-use Rattle.sheet_records.specs.declared.RecordAt.{RecordAt}
-use Rattle.sheet_records.specs.declared.RecordAt.TheVariants.{Bad, Good}
 use Rattle.sheet_records.proofs.Lines.{end_long, line_size_lem, numbers_short, row_next}
 use Rattle.sheet_records.proofs.Written.{row_reads}
 use Rattle.sheet_index.specs.Inner.{set_record, block_adds, lines_text, most_line}
@@ -95,20 +92,20 @@ module _ (index : List ℕ) (t : Telling) where
       let s = size_le (length (numbers_text n k at)) a.given (length (bytes_in q raw)) in
       (rw (← id_is ts a, ← r.0, ← y) e, (omega (arith, z), omega (arith, x, l, s, numbers_short n k at hn hk ha, bytes_short q raw, r.1)))
 
-  module _ (r : Record) {v o : outcomes.Outcome} (e : v ≡ o) where
-    pub block_none : {q : Refusal} → v ≡ outcome.Refused q → (t ≡ tell_all index t (listed_if r o)) × at_most 1 most_line t.so t.so
+  module _ (r : Record) {v o : Result (Unit {0}) Refusal} (e : v ≡ o) where
+    pub block_none : {q : Refusal} → v ≡ Err q → (t ≡ tell_all index t (listed_if r o)) × at_most 1 most_line t.so t.so
     unfolding tell_all
     block_none f = rw (← e, f) (refl, (omega arith, omega arith))
 
-    pub block_some : {u : Telling} → v ≡ outcome.Passed → (u ≡ tell_one index t r) × at_most 1 most_line t.so u.so → (u ≡ tell_all index t (listed_if r o)) × at_most 1 most_line t.so u.so
+    pub block_some : {u : Telling} → v ≡ Ok tt → (u ≡ tell_one index t r) × at_most 1 most_line t.so u.so → (u ≡ tell_all index t (listed_if r o)) × at_most 1 most_line t.so u.so
     unfolding tell_all
     block_some f g = rw (← e, f) g
 
 -- ---- the records of a part of a sheet
 
-moved_if : (d o : ℕ) (r : Record) (q : outcomes.Outcome) → map (moved_on d o) (listed_if r q) ≡ listed_if (moved_on d o r) q
-moved_if d o r outcome.Passed = refl
-moved_if d o r (outcome.Refused w) = refl
+moved_if : (d o : ℕ) (r : Record) (q : Result (Unit {0}) Refusal) → map (moved_on d o) (listed_if r q) ≡ listed_if (moved_on d o r) q
+moved_if d o r (Ok _) = refl
+moved_if d o r (Err w) = refl
 
 pub record Tells (t index join₀ table₀ out₀ join table out : List ℕ) (line offset : ℕ) (so told : Progress) (at own : ℕ) : Type 0 where
   pub left : List Record
@@ -222,7 +219,7 @@ pub record First (index : List ℕ) (to ll lo at : ℕ) (left : List Record) : T
   pub one : Record
   pub more : List Record
   pub is : left ≡ one ∷ more
-  pub reads : record_at index at ≡ Good (row_at at (moved_on ll lo one))
+  pub reads : record_at index at ≡ Some (row_at at (moved_on ll lo one))
   pub says : record_in index (row_at at (moved_on ll lo one)) ≡ moved_on ll lo one
   pub bounds : InBounds (moved_on ll lo one)
   pub on : slice (row_at at (moved_on ll lo one)).next to index ≡ lines_text (map (moved_on ll lo) more)
@@ -246,7 +243,7 @@ module _ {t index table₀ out₀ table out : List ℕ} {from to ll ml lo mo : �
   unfolding tell_all
   keeps_end h = (rw (none_left h) at inv.rest, (omega (arith, inv.few, inv.within, inv.inside, inv.size), omega (arith, inv.short, inv.within, inv.inside, inv.size)))
 
-  module _ {got : RecordAt} (g : got ≡ record_at index at) (h : at < to) where
+  module _ {got : Option IndexRow} (g : got ≡ record_at index at) (h : at < to) where
     pub first : First index to ll lo at inv.left
     unfolding flat_map AllIn
     first = go inv.left inv.text inv.in_range
@@ -271,15 +268,15 @@ module _ {t index table₀ out₀ table out : List ℕ} {from to ll ml lo mo : �
               past = omega (arith, n, part_long, ap length e ∙ length-append (record_line R) ls);
             }
 
-    pub keeps_bad : {A : Type 0} → got ≡ Bad → A
-    keeps_bad b = let y : Bad ≡ Good (row_at at (moved_on ll lo first.one)) = sym b ∙ (g ∙ first.reads) in let z : ◌≡◌ {A = ℕ} 0 1 = cc in absurd (omega arith)
+    pub keeps_bad : {A : Type 0} → got ≡ None → A
+    keeps_bad b = let y : None ≡ Some (row_at at (moved_on ll lo first.one)) = sym b ∙ (g ∙ first.reads) in let z : ◌≡◌ {A = ℕ} 0 1 = cc in absurd (omega arith)
 
-    module _ {e : IndexRow} (b : got ≡ Good e) where
+    module _ {e : IndexRow} (b : got ≡ Some e) where
       abbrev R : Record
       R = moved_on ll lo first.one
 
       row_is_lem : e ≡ row_at at (moved_on ll lo first.one)
-      row_is_lem = let y : Good e ≡ Good (row_at at (moved_on ll lo first.one)) = sym b ∙ (g ∙ first.reads) in cc
+      row_is_lem = let y : Some e ≡ Some (row_at at (moved_on ll lo first.one)) = sym b ∙ (g ∙ first.reads) in cc
 
       says_is : record_in index e ≡ moved_on ll lo first.one
       says_is = ap (record_in index) row_is_lem ∙ first.says

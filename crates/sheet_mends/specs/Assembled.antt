@@ -1,5 +1,5 @@
 -- What the functions promise that put the parts of a mended index together. No definition of a public promise rests on these.
-use Rattle.std.specs.Prelude.{ℕ, ◌+◌, ◌≤◌, ◌≡◌, List, [], ◌∷◌, ◌++◌, map, ltb, length, take, drop}
+use Rattle.std.specs.Prelude.{ℕ, ◌+◌, ◌≤◌, ◌≡◌, List, [], ◌∷◌, ◌++◌, map, ltb, length, take, drop, Err, Ok, Result, Some}
 use Rattle.std.proofs.Math.Seq.{slice}
 use Rattle.base_lists.specs.Lists.{over, same}
 use Rattle.base_refusals.specs.Numbers.{max_text}
@@ -11,19 +11,17 @@ use Rattle.sheet_records.specs.Records.{Record, AllIn, index_text, index_rows, t
 use Rattle.sheet_records.specs.Listed.{records_of}
 use Rattle.sheet_index.specs.Building.{room_for, laid_by}
 use Rattle.sheet_index.specs.Inner.{lines_text}
-use Rattle.sheet_index.specs.declared.Built.{Built}
-use Rattle.sheet_index.specs.declared.Built.TheVariants as build
 use Rattle.sheet_splits.specs.Parting.{MayPart, moved_on}
 use Rattle.sheet_edits.specs.Edits.{again_of, is_again, again_text}
-use Rattle.sheet_edits.specs.declared.Again.TheVariants as again
 use Rattle.sheet_mends.specs.Mending.{version_order, old_order}
 use Rattle.sheet_mends.specs.Inner.{most_index}
 use Rattle.sheet_mends.specs.declared.Progress.{Progress}
 use Rattle.sheet_mends.specs.declared.Seen.{Seen}
+use Rattle.base_refusals.specs.declared.Refusal.{Refusal}
 
 -- the lines from p up to e of the old text are read again, which end at n of the new one: for some lines that were replaced
 abbrev pub AreAgain : List ℕ → List ℕ → ℕ → ℕ → ℕ → Type 0
-AreAgain old new p e n = (a : ℕ) × ((b : ℕ) × (again_of old new a b ≡ again.Lines p e n))
+AreAgain old new p e n = (a : ℕ) × ((b : ℕ) × (again_of old new a b ≡ Some (p, e, n)))
 
 -- where the old text may be parted
 abbrev pub OldParts : List ℕ → ℕ → ℕ → Type 0
@@ -74,8 +72,8 @@ text_and_rest d o text rest = map (moved_on d o) (records_of text) ++ map (moved
 
 -- ---- by an order, of records: what is answered, and what then stands in the table and the buffer
 
-abbrev pub answered_by : List Ground → List Record → Built
-answered_by gs rs = in_order build.Refused gs (build.Index (length rs) (length (index_text rs)))
+abbrev pub answered_by : List Ground → List Record → Result (ℕ × ℕ) Refusal
+answered_by gs rs = in_order Err gs (Ok (length rs, length (index_text rs)))
 
 abbrev pub table_by : List Ground → List Record → List ℕ → List ℕ
 table_by gs rs table = over (laid_by gs (table_numbers (index_rows rs))) table

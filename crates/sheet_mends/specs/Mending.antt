@@ -1,5 +1,5 @@
 -- "mend after lines a to b were replaced. The mended index equals one built afresh from the new text."
-use Rattle.std.specs.Prelude.{ℕ, List, [], ◌∷◌, ◌++◌, ltb, length}
+use Rattle.std.specs.Prelude.{ℕ, List, [], ◌∷◌, ◌++◌, ltb, length, Err, Ok, Result}
 use Rattle.base_lists.specs.Lists.{same}
 use Rattle.base_refusals.specs.Numbers.{max_text}
 use Rattle.base_refusals.specs.Orders.{Ground, in_order}
@@ -11,8 +11,7 @@ use Rattle.sheet_records.specs.Listed.{records_of}
 use Rattle.sheet_records.specs.Computed.{is_other}
 use Rattle.sheet_edits.specs.Edits.{again_of, is_again, again_text}
 use Rattle.sheet_index.specs.Building.{room_for, laid_by}
-use Rattle.sheet_index.specs.declared.Built as built
-use Rattle.sheet_index.specs.declared.Built.TheVariants as build
+use Rattle.base_refusals.specs.declared.Refusal.{Refusal}
 
 -- ---- the orders: the texts `old` and `new`, lines a to b, and `cap` bytes to join in
 
@@ -34,8 +33,8 @@ mend_order old new a b index cap n size = edit_order old new a b cap ++ (version
 
 -- ---- what is answered, and what then stands in the lent table and the lent buffer: those of the fresh index
 module _ (old new : List ℕ) (a b : ℕ) (index : List ℕ) (cap n size : ℕ) where
-  unfoldable pub mended_of : built.Built
-  mended_of = in_order build.Refused (mend_order old new a b index cap n size) (build.Index (length (records_of new)) (length (index_text (records_of new))))
+  unfoldable pub mended_of : Result (ℕ × ℕ) Refusal
+  mended_of = in_order Err (mend_order old new a b index cap n size) (Ok (length (records_of new), length (index_text (records_of new))))
 
   unfoldable pub mended_text : List ℕ
   mended_text = laid_by (mend_order old new a b index cap n size) (index_text (records_of new))

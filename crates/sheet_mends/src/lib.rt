@@ -22,12 +22,10 @@ ghost use Rattle.sheet_mends.specs.Inner.{so_few, one_more, at_most, most_text, 
 ghost use Rattle.sheet_mends.specs.Mending.{mend_order, mended_of, mended_text, mended_table, mend_tries};
 ghost use Rattle.sheet_mends.specs.Assembled.{AreAgain, OldParts, MayMend, seen_of, so_far, text_and_rest, behind_version, behind_edit, behind_texts, compared_tries, version_tries, checked_tries, answered_by, table_by, text_by};
 
-use base_refusals::{Outcome, Refusal};
+use base_refusals::Refusal;
 use read_blocks::Block;
 use set_table::Attrs;
-use sheet_edits::Again;
-use sheet_index::Built;
-use sheet_records::{IndexRow, RecordAt};
+use sheet_records::IndexRow;
 
 // Records that are told one after the other: whether their lines stand in an index, how many they are, and where the next line begins.
 #[derive(Clone, Copy)]
@@ -183,8 +181,8 @@ fn tell_block<'a>(
     ensures at_most { at_most 1 most_line so result }
 {
     match sheet_verdicts::verdict_of(text, join, block) {
-        Outcome::Refused(_) => so,
-        Outcome::Passed => {
+        Err(_) => so,
+        Ok(()) => {
             let joined = set_table::bytes_of(join, 0, block.joined);
             tell_set(
                 index,
@@ -297,8 +295,8 @@ fn tell_kept(
             return told;
         }
         match sheet_records::record_at(index, at) {
-            RecordAt::Bad => return told,
-            RecordAt::Good(e) => {
+            None => return told,
+            Some(e) => {
                 let line = e.line - less + more;
                 let offset = e.offset - back + forth;
                 told = tell_row(index, e, line, offset, table, out, told);
@@ -474,7 +472,7 @@ fn mend_seen<'a>(
     join: &mut [u8],
     table: &mut [usize],
     out: &mut [u8],
-) -> Built
+) -> Result<(usize, usize), Refusal>
     requires { MayMend old.now new.now p e n index.now join.old seen }
     ensures value { result ≡ answered_by (room_for (length table.old) (length out.old) (records_of new.now)) (records_of new.now) }
     ensures join_after { join.new ≡ join_behind join.old (tries_at (slice p n new.now) max_text 1 0) }
@@ -483,13 +481,13 @@ fn mend_seen<'a>(
 {
     let size = measure_mended(old, new, p, e, n, index, seen, join);
     if table.len() / 5 < size.records {
-        return Built::Refused(Refusal::TableFull);
+        return Err(Refusal::TableFull);
     }
     if out.len() < size.next {
-        return Built::Refused(Refusal::IndexTooLong);
+        return Err(Refusal::IndexTooLong);
     }
     lay_mended(old, new, p, e, n, index, seen, join, table, out);
-    Built::Index(size.records, size.next)
+    Ok((size.records, size.next))
 }
 
 // Mends an index where it is known which lines are read again: the whole old text counts before the lent table does.
@@ -503,7 +501,7 @@ fn mend_lines<'a>(
     join: &mut [u8],
     table: &mut [usize],
     out: &mut [u8],
-) -> Built
+) -> Result<(usize, usize), Refusal>
     requires len_bound { (length old.now ≤ max_text) × ((length new.now ≤ max_text) × (max_text ≤ length join.old)) }
     requires all_in { AllIn (records_of old.now) }
     requires are_again { AreAgain old.now new.now p e n }
@@ -514,7 +512,7 @@ fn mend_lines<'a>(
 {
     let seen = compare_old(old, p, e, index, join);
     if !seen.good {
-        return Built::Refused(Refusal::NotAnIndex);
+        return Err(Refusal::NotAnIndex);
     }
     mend_seen(old, new, p, e, n, index, seen, join, table, out)
 }
@@ -530,7 +528,7 @@ fn mend_version<'a>(
     join: &mut [u8],
     table: &mut [usize],
     out: &mut [u8],
-) -> Built
+) -> Result<(usize, usize), Refusal>
     requires len_bound { (length old.now ≤ max_text) × ((length new.now ≤ max_text) × (max_text ≤ length join.old)) }
     requires all_in { AllIn (records_of old.now) }
     requires are_again { AreAgain old.now new.now p e n }
@@ -540,7 +538,7 @@ fn mend_version<'a>(
     ensures out_after { out.new ≡ text_by (behind_edit old.now new.now index.now (length table.old) (length out.old)) (records_of new.now) out.old }
 {
     if sheet_records::is_other(index) {
-        return Built::Refused(Refusal::AnotherVersion);
+        return Err(Refusal::AnotherVersion);
     }
     mend_lines(old, new, p, e, n, index, join, table, out)
 }
@@ -555,7 +553,7 @@ fn mend_checked<'a>(
     join: &mut [u8],
     table: &mut [usize],
     out: &mut [u8],
-) -> Built
+) -> Result<(usize, usize), Refusal>
     requires len_bound { (length old.now ≤ max_text) × (length new.now ≤ max_text) }
     requires all_in { AllIn (records_of old.now) }
     ensures value { result ≡ answered_by (behind_texts old.now new.now a b index.now (length join.old) (length table.old) (length out.old)) (records_of new.now) }
@@ -564,11 +562,11 @@ fn mend_checked<'a>(
     ensures out_after { out.new ≡ text_by (behind_texts old.now new.now a b index.now (length join.old) (length table.old) (length out.old)) (records_of new.now) out.old }
 {
     if join.len() < base_refusals::MAX_TEXT {
-        return Built::Refused(Refusal::JoinFull);
+        return Err(Refusal::JoinFull);
     }
     match sheet_edits::lines_again(old, new, a, b) {
-        Again::Missing => Built::Refused(Refusal::NothingThere),
-        Again::Lines(p, e, n) => mend_version(old, new, p, e, n, index, join, table, out),
+        None => Err(Refusal::NothingThere),
+        Some((p, e, n)) => mend_version(old, new, p, e, n, index, join, table, out),
     }
 }
 
@@ -583,15 +581,13 @@ pub fn mend_index<'a>(
     join: &mut [u8],
     table: &mut [usize],
     out: &mut [u8],
-) -> Built
+) -> Result<(usize, usize), Refusal>
     ensures value { result ≡ mended_of old.now new.now a b index.now (length join.old) (length table.old) (length out.old) }
     ensures join_after { join.new ≡ join_behind join.old (mend_tries old.now new.now a b index.now (length join.old)) }
     ensures table_after { table.new ≡ over (mended_table old.now new.now a b index.now (length join.old) (length table.old) (length out.old)) table.old }
     ensures out_after { out.new ≡ over (mended_text old.now new.now a b index.now (length join.old) (length table.old) (length out.old)) out.old }
     ensures result_value { built_paper result ≡ on_paper (mend_order old.now new.now a b index.now (length join.old) (length table.old) (length out.old)) (length (records_of new.now) ∷ length (index_text (records_of new.now)) ∷ []) }
 {
-    match text_checks::check_both(old, new) {
-        Outcome::Refused(why) => Built::Refused(why),
-        Outcome::Passed => mend_checked(old, new, a, b, index, join, table, out),
-    }
+    text_checks::check_both(old, new)?;
+    mend_checked(old, new, a, b, index, join, table, out)
 }

@@ -1,9 +1,10 @@
 -- The number at a place, read byte by byte up to the next LF.
 -- Assumes nothing.
+use Rattle.std.specs.Prelude.{None, Option, Some}
 use mathlib.Core.Path.{◌≡◌, refl, sym, ◌∙◌, ap}
 use mathlib.Core.Bool.{Bool, true, false, cond}
-use mathlib.Core.List.{List, [], ◌∷◌, ◌++◌}
-use Prim.Native.Nat.{ℕ, zero, suc, ◌+◌, ◌≤◌, ◌<◌}
+use mathlib.Core.List.{List, [], ◌∷◌}
+use Prim.Native.Nat.{ℕ, suc, ◌+◌, ◌≤◌, ◌<◌}
 use native.Mathlib.Numerals.{add-one}
 use native.Mathlib.Omega.{arith}
 use borrow.Author.Tests.{eq-eqb, ne_eqb}
@@ -14,17 +15,13 @@ use Rattle.base_bytes.specs.Bytes.{lf}
 use Rattle.text_digits.specs.Digits.{digits_step, digits_from, digits_of, read_out, number_in}
 use Rattle.text_digits.specs.declared.Digits as state
 use Rattle.text_digits.specs.declared.Digits.TheVariants.{NoDigit}
-use Rattle.text_digits.specs.declared.Decimal as decimals
-use Rattle.text_digits.specs.declared.Decimal.TheVariants.{None, Is}
 use Rattle.sheet_totals.specs.Totals.{max_total}
 use Rattle.sheet_numbers.specs.Computed.{LfSplit, onto_line, at_lf, Numbers, number_before, on_number, on_part}
 use Rattle.sheet_numbers.specs.Inner.{field_by, field_in, number_at}
-use Rattle.sheet_numbers.specs.declared.Field as answers
-use Rattle.sheet_numbers.specs.declared.Field.TheVariants as fields
 
 -- where bytes were read already
-abbrev field_from : state.Digits → ℕ → LfSplit → answers.Field
-field_from d at LfSplit.whole = fields.None
+abbrev field_from : state.Digits → ℕ → LfSplit → Option (ℕ × ℕ)
+field_from d at LfSplit.whole = None
 field_from d at (LfSplit.parted f s) = field_by (at + suc (length f)) (read_out (digits_from max_total d f))
 
 -- the bytes up to `at` are read, to d
@@ -55,7 +52,7 @@ module _ {t : List ℕ} {from : ℕ} {d : state.Digits} {at : ℕ} (inv : Scans 
   unfolding at_lf digits_from
   scans_lf h e = rw (drop-cons t at 0 h, eq-eqb (get_or t at 0) lf e) at inv.rest
 
-  pub scans_end : length t ≤ at → fields.None ≡ number_at t from
+  pub scans_end : length t ≤ at → None ≡ number_at t from
   unfolding at_lf
   scans_end h = rw (drop_of_length-le t {i = at} h) at inv.rest
 
@@ -77,26 +74,30 @@ behind (b ∷ s) = go (eqb b lf) (at_lf s) (behind s)
     go false (LfSplit.parted f r) h = h
 
 module _ (t : List ℕ) (at : ℕ) (rest : List ℕ → Numbers) where
-  pub part_none : number_at t at ≡ fields.None → on_part (at_lf (drop at t)) rest ≡ Numbers.bad
+  pub part_none : number_at t at ≡ None → on_part (at_lf (drop at t)) rest ≡ Numbers.bad
   unfolding number_at
   part_none = go (at_lf (drop at t))
     where
-      by : (n : decimals.Decimal) (k : ℕ) (r : Numbers) → field_by k n ≡ fields.None → on_number n r ≡ Numbers.bad
+      by : (n : Option ℕ) (k : ℕ) (r : Numbers) → field_by k n ≡ None → on_number n r ≡ Numbers.bad
       by None k r e = refl
-      by (Is n) k r e = let z : ◌≡◌ {A = ℕ} 0 1 = cc in absurd (omega arith)
+      by (Some n) k r e = let z : ◌≡◌ {A = ℕ} 0 1 = cc in absurd (omega arith)
 
-      go : (p : LfSplit) → field_in at p ≡ fields.None → on_part p rest ≡ Numbers.bad
+      go : (p : LfSplit) → field_in at p ≡ None → on_part p rest ≡ Numbers.bad
       go LfSplit.whole e = refl
       go (LfSplit.parted f s) e = by (number_in max_total f) (at + suc (length f)) (rest s) e
 
-  pub part_is : {n next : ℕ} → number_at t at ≡ fields.Is n next → on_part (at_lf (drop at t)) rest ≡ number_before n (rest (drop next t))
+  pub part_is : {n next : ℕ} → number_at t at ≡ Some (n, next) → on_part (at_lf (drop at t)) rest ≡ number_before n (rest (drop next t))
   unfolding number_at Behind
   part_is {n} {next} = go (at_lf (drop at t)) (behind (drop at t))
     where
-      by : (m : decimals.Decimal) (k : ℕ) (s : List ℕ) → drop k t ≡ s → field_by k m ≡ fields.Is n next → on_number m (rest s) ≡ number_before n (rest (drop next t))
+      by : (m : Option ℕ) (k : ℕ) (s : List ℕ) → drop k t ≡ s → field_by k m ≡ Some (n, next) → on_number m (rest s) ≡ number_before n (rest (drop next t))
       by None k s q e = let z : ◌≡◌ {A = ℕ} 0 1 = cc in absurd (omega arith)
-      by (Is m) k s q e = let y : m ≡ n = cc in let z : k ≡ next = cc in rw (← y, ← z, q)
+      by (Some m) k s q e =
+          let p : ◌≡◌ {A = ℕ × ℕ} (m, k) (n, next) = cc in
+          let y : m ≡ n = ap (λ (x : ℕ × ℕ). x.0) p in
+          let z : k ≡ next = ap (λ (x : ℕ × ℕ). x.1) p in
+          rw (← y, ← z, q)
 
-      go : (p : LfSplit) → Behind (drop at t) p → field_in at p ≡ fields.Is n next → on_part p rest ≡ number_before n (rest (drop next t))
+      go : (p : LfSplit) → Behind (drop at t) p → field_in at p ≡ Some (n, next) → on_part p rest ≡ number_before n (rest (drop next t))
       go LfSplit.whole q e = let z : ◌≡◌ {A = ℕ} 0 1 = cc in absurd (omega arith)
       go (LfSplit.parted f s) q e = by (number_in max_total f) (at + suc (length f)) s (sym (drop-drop (suc (length f)) at t) ∙ q) e

@@ -1,5 +1,6 @@
 -- The thirteen lines laid along the row of names, and the whole text put into lent memory.
 -- Assumes nothing.
+use Rattle.std.specs.Prelude.{Err, Ok}
 use mathlib.Core.Path.{◌≡◌, refl, sym, ◌∙◌, ap}
 use mathlib.Core.Bool.{Bool, true, false, cond, ◌&&◌}
 use mathlib.Core.List.{List, [], ◌∷◌, ◌++◌, append_assoc, append-nil}
@@ -19,8 +20,6 @@ use Rattle.base_refusals.specs.declared.Refusal.TheVariants.{CanonTooLong}
 use Rattle.text_digits.specs.Decimal.{decimal}
 use Rattle.text_digits.proofs.Decimals.{decimal_le}
 use Rattle.set_writer.specs.Write.{wrote_paper, has_room, room_order, wrote_of, content_after}
-use Rattle.set_writer.specs.declared.Wrote.{Wrote}
-use Rattle.set_writer.specs.declared.Wrote.TheVariants.{Refused, Bytes}
 use Rattle.set_writer.proofs.Numbers.{said, set_no}
 use Rattle.sheet_report.specs.Puts.{PutAt}
 use Rattle.sheet_report.proofs.Laying.{put_so, put_then, put_byte, put_long}
@@ -128,14 +127,14 @@ module _ (xs : List ℕ) {n : ℕ} {buf b : List ℕ} (p : PutAt buf 0 xs n b) (
   laid_long l = ends ∙ ap length (sym (laid_is l))
 
   module _ (out : List ℕ) where
-    pub wrote_none : length out < n → record { value : Refused CanonTooLong ≡ wrote_of xs (length out); out_after : out ≡ content_after out xs; result_value : wrote_paper (Refused CanonTooLong) ≡ on_paper (room_order xs (length out)) (length xs ∷ []) }
+    pub wrote_none : length out < n → record { value : Err CanonTooLong ≡ wrote_of xs (length out); out_after : out ≡ content_after out xs; result_value : wrote_paper (Err CanonTooLong) ≡ on_paper (room_order xs (length out)) (length xs ∷ []) }
     unfolding wrote_of content_after has_room
     wrote_none l = said (set_no xs (length out)) (rw (lt-leb (length xs) (length out) (omega (arith, ends)), le-leb (length xs) max_text (omega (arith, ends))) (refl, refl))
 
     pub wrote_whole : {out' : List ℕ} → n ≤ length out → out' ≡ sets out 0 xs
-        → record { value : Bytes n ≡ wrote_of xs (length out); out_after : out' ≡ content_after out xs; result_value : wrote_paper (Bytes n) ≡ on_paper (room_order xs (length out)) (length xs ∷ []) }
+        → record { value : Ok n ≡ wrote_of xs (length out); out_after : out' ≡ content_after out xs; result_value : wrote_paper (Ok n) ≡ on_paper (room_order xs (length out)) (length xs ∷ []) }
     unfolding wrote_of content_after has_room
     wrote_whole {out'} l e =
         said (set_no xs (length out))
         (rw (le-leb (length xs) (length out) (omega (arith, ends)), le-leb (length xs) max_text (omega (arith, ends)))
-        (ap Bytes ends, e ∙ (rw (zero-add (length xs)) at (sets-eq xs out 0 (omega (arith, ends))))))
+        (ap (λ z. Ok z) ends, e ∙ (rw (zero-add (length xs)) at (sets-eq xs out 0 (omega (arith, ends))))))

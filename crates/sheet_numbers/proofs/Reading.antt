@@ -1,5 +1,6 @@
 -- A report read along the row of names.
 -- Assumes nothing.
+use Rattle.std.specs.Prelude.{None, Some}
 use mathlib.Core.Path.{◌≡◌, refl, sym, ◌∙◌, ap}
 use mathlib.Core.Bool.{Bool, true, false, cond}
 use mathlib.Core.List.{List, [], ◌∷◌, ◌++◌, append_assoc, append-nil}
@@ -15,7 +16,6 @@ use Rattle.sheet_totals.specs.Totals.{total_places}
 use Rattle.sheet_totals.specs.declared.Totals.{Totals}
 use Rattle.sheet_numbers.specs.Computed.{names_row, at_lf, Numbers, number_before, on_part, numbers_along, numbers_read, reported_by}
 use Rattle.sheet_numbers.specs.Inner.{number_at}
-use Rattle.sheet_numbers.specs.declared.Field.TheVariants as fields
 use Rattle.sheet_numbers.specs.declared.Reported.{Reported}
 use Rattle.sheet_numbers.proofs.Along.{tabs_in, row_long, row_tabs, tab_left, name_left, tabs_end}
 use Rattle.sheet_numbers.proofs.Fields.{part_none, part_is}
@@ -88,13 +88,13 @@ module _ {row t ns : List ℕ} {at i j : ℕ} (inv : Reads row t ns at i j) wher
     unfolding numbers_along
     at_tab_lem q = rw (add-one, drop-cons row j 0 (inside h), drop-cons t at 0 l, eq-eqb (get_or t at 0) (get_or row j 0) e, eq-eqb (get_or row j 0) tab q)
 
-    pub reads_bad : get_or row j 0 ≡ tab → {f : _} → f ≡ number_at t (at + 1) → f ≡ fields.None → {r : Reported} → r ≡ reported_by Numbers.bad → r ≡ reported_by (numbers_read t)
+    pub reads_bad : get_or row j 0 ≡ tab → {f : _} → f ≡ number_at t (at + 1) → f ≡ None → {r : Reported} → r ≡ reported_by Numbers.bad → r ≡ reported_by (numbers_read t)
     reads_bad q p g = not_one (at_tab_lem q ∙ part_none t (at + 1) (λ r. numbers_along (drop (suc j) row) r) (sym p ∙ g))
 
     pub reads_left : get_or row j 0 ≡ tab → i < total_places
     reads_left q = omega (arith, inv.count, tab_left row (inside h) q)
 
-    pub reads_number : get_or row j 0 ≡ tab → {f : _} → f ≡ number_at t (at + 1) → {n next : ℕ} → f ≡ fields.Is n next → Reads row t (set ns i n) next (i + 1) (j + 1)
+    pub reads_number : get_or row j 0 ≡ tab → {f : _} → f ≡ number_at t (at + 1) → {n next : ℕ} → f ≡ Some (n, next) → Reads row t (set ns i n) next (i + 1) (j + 1)
     reads_number q p {n} {next} g = record {
       is_row = inv.is_row;
       long = length-set ns i n ∙ inv.long;

@@ -1,11 +1,9 @@
 -- How the text of a report is read: along the names and their tabs, and behind each tab a number and an LF. That this is the rule of Text,
 -- IsTotalsText, in both directions, is proved (proved_totals/specs/Texts).
-use Rattle.std.specs.Prelude.{ℕ, true, false, cond, eqb}
+use Rattle.std.specs.Prelude.{ℕ, true, false, cond, eqb, None, Option, Some}
 use mathlib.Core.List.{List, [], ◌∷◌, ◌++◌, flat_map}
 use Rattle.base_bytes.specs.Bytes.{tab, lf}
 use Rattle.text_digits.specs.Digits.{number_in}
-use Rattle.text_digits.specs.declared.Decimal as decimals
-use Rattle.text_digits.specs.declared.Decimal.TheVariants.{None, Is}
 use Rattle.sheet_totals.specs.Totals.{max_total, empty_totals}
 use Rattle.sheet_numbers.specs.Text.{totals_names}
 use Rattle.sheet_numbers.specs.declared.Reported.{Reported}
@@ -36,9 +34,9 @@ abbrev pub number_before : ℕ → Numbers → Numbers
 number_before n Numbers.bad = Numbers.bad
 number_before n (Numbers.are ns) = Numbers.are (n ∷ ns)
 
-abbrev pub on_number : decimals.Decimal → Numbers → Numbers
+abbrev pub on_number : Option ℕ → Numbers → Numbers
 on_number None r = Numbers.bad
-on_number (Is n) r = number_before n r
+on_number (Some n) r = number_before n r
 
 -- behind a tab: a number that fits, and an LF; `rest` is what comes behind it
 abbrev pub on_part : LfSplit → (List ℕ → Numbers) → Numbers

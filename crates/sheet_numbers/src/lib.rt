@@ -11,9 +11,8 @@ ghost use Rattle.sheet_numbers.specs.Computed.{names_row, numbers_read, reported
 ghost use Rattle.sheet_numbers.specs.Inner.{number_end, field_by, number_at};
 
 use base_refusals::Refusal;
-use set_writer::Wrote;
 use sheet_totals::Totals;
-use text_digits::{Decimal, Digits};
+use text_digits::Digits;
 
 // No text of a report is longer: the names, and behind each a tab, at most 20 digits and an LF.
 pub const REPORT: usize = 384;
@@ -23,13 +22,6 @@ pub const REPORT: usize = 384;
 pub struct Reported {
     pub good: bool,
     pub totals: Totals,
-}
-
-// A number and the place behind its LF, if there is one.
-#[derive(Clone, Copy)]
-enum Field {
-    None,
-    Is(u64, usize),
 }
 
 // The names one behind the other, each with its tab.
@@ -60,24 +52,21 @@ fn lay(totals: Totals, out: &mut [u8]) -> usize
     let row = names();
     let mut at = 0;
     let mut i: usize = 0;
-    let mut j: usize = 0;
-    while j < row.len() {
-        let b = row[j];
-        j += 1;
+    for b in row {
         if b == b'\t' {
             at = put_number(out, at, totals.numbers[i]);
             i += 1;
-            continue;
+        } else {
+            out[at] = b;
+            at += 1;
         }
-        out[at] = b;
-        at += 1;
     }
     at
 }
 
 // Writes the text of a report at the front of lent memory, and answers how many bytes it has; where it has no room, 10, and nothing is written.
 // 384 bytes always suffice.
-pub fn put_totals(totals: Totals, out: &mut [u8]) -> Wrote
+pub fn put_totals(totals: Totals, out: &mut [u8]) -> Result<usize, Refusal>
     ensures value { result ≡ wrote_of (totals_text totals.numbers) (length out.old) }
     ensures out_after { out.new ≡ content_after out.old (totals_text totals.numbers) }
     ensures result_value { wrote_paper result ≡ on_paper (room_order (totals_text totals.numbers) (length out.old)) (length (totals_text totals.numbers) ∷ []) }
@@ -85,37 +74,35 @@ pub fn put_totals(totals: Totals, out: &mut [u8]) -> Wrote
     let mut text = [0u8; REPORT];
     let n = lay(totals, &mut text);
     if out.len() < n {
-        return Wrote::Refused(Refusal::CanonTooLong);
+        return Err(Refusal::CanonTooLong);
     }
     base_lists::put_bytes(out, 0, &text[..n]);
-    Wrote::Bytes(n)
+    Ok(n)
 }
 
 // The number that was read, and the place behind it.
-fn field_of(d: Digits, next: usize) -> Field
+fn field_of(d: Digits, next: usize) -> Option<(u64, usize)>
     ensures { result ≡ field_by next (read_out d) }
 {
     match text_digits::read_out(d) {
-        Decimal::None => Field::None,
-        Decimal::Is(n) => Field::Is(n, next),
+        None => None,
+        Some(n) => Some((n, next)),
     }
 }
 
 // The number at a place, up to the next LF.
-fn field_at(text: &[u8], from: usize) -> Field
+fn field_at(text: &[u8], from: usize) -> Option<(u64, usize)>
     ensures { result ≡ number_at text.now from }
 {
     let mut d = Digits::NoDigit;
-    let mut at = from;
-    while at < text.len() {
+    for at in from..text.len() {
         let b = text[at];
-        at += 1;
         if b == b'\n' {
-            return field_of(d, at);
+            return field_of(d, at + 1);
         }
         d = text_digits::step(d, b, Totals::MOST);
     }
-    Field::None
+    None
 }
 
 // It is no report.
@@ -137,27 +124,23 @@ pub fn read_totals(text: &[u8]) -> Reported
     let mut totals = Totals::empty();
     let mut at = 0;
     let mut i: usize = 0;
-    let mut j: usize = 0;
-    'names: while j < row.len() {
+    for b in row {
         if text.len() <= at {
             return no_report();
         }
-        let b = row[j];
         if text[at] != b {
             return no_report();
         }
         at += 1;
-        j += 1;
         if b != b'\t' {
-            continue 'names;
+            continue;
         }
         match field_at(text, at) {
-            Field::None => return no_report(),
-            Field::Is(n, next) => {
+            None => return no_report(),
+            Some((n, next)) => {
                 totals.numbers[i] = n;
                 i += 1;
                 at = next;
-                continue 'names;
             }
         }
     }

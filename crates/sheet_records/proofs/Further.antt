@@ -1,5 +1,6 @@
 -- The next record begins behind the one before; and the walk over the rows of an index text.
 -- Assumes nothing.
+use Rattle.std.specs.Prelude.{None, Option, Some}
 use mathlib.Core.Path.{◌≡◌, refl, sym}
 use mathlib.Core.Bool.{Bool, true, false, cond}
 use mathlib.Core.List.{List, []}
@@ -12,40 +13,35 @@ use Rattle.base_lists.specs.Lists.{run, begins}
 use Rattle.base_bytes.specs.Bytes.{is_digit, tab, lf}
 use Rattle.base_refusals.specs.declared.Refusal.TheVariants.{NotAnIndex}
 use Rattle.text_digits.specs.Digits.{number_in}
-use Rattle.text_digits.specs.declared.Decimal as answer
-use Rattle.text_digits.specs.declared.Decimal.TheVariants.{None, Is}
 use Rattle.sheet_records.specs.Records.{most_number, index_header}
 use Rattle.sheet_records.specs.Computed.{least_number, field_of, field_at, on_field, behind_tab, id_end, id_at, end_at, offset_at, count_at, record_at, Index, not_index, rows, with_row, on_row, rows_from}
-use Rattle.sheet_records.specs.declared.NumberAt.TheVariants.{Unread, Read}
 use Rattle.sheet_records.specs.declared.IndexRow.{IndexRow}
-use Rattle.sheet_records.specs.declared.RecordAt.{RecordAt}
-use Rattle.sheet_records.specs.declared.RecordAt.TheVariants.{Bad, Good}
 use Rattle.sheet_records.proofs.Lines.{header_long}
 
 -- ---- each part of a record ends where it began, or behind
 
 -- what goes on at a place or behind it answers rows whose next stands further than `at`
-Beyond : ℕ → RecordAt → Type 0
-Beyond at Bad = Unit {0}
-Beyond at (Good e) = at < e.next
+Beyond : ℕ → Option IndexRow → Type 0
+Beyond at None = Unit {0}
+Beyond at (Some e) = at < e.next
 
-field_on : (t : List ℕ) (at least : ℕ) (k : ℕ → ℕ → RecordAt) → ((n p : ℕ) → at ≤ p → Beyond at (k n p)) → Beyond at (on_field (field_at t at least) k)
+field_on : (t : List ℕ) (at least : ℕ) (k : ℕ → ℕ → Option IndexRow) → ((n p : ℕ) → at ≤ p → Beyond at (k n p)) → Beyond at (on_field (field_at t at least) k)
 unfolding field_at field_of least_number on_field Beyond
 field_on t at least k h = go (number_in most_number (take (run is_digit (drop at t)) (drop at t)))
   where
-    low : (n : ℕ) (x : Bool) → Beyond at (on_field (cond x Unread (Read n (at + run is_digit (drop at t)))) k)
+    low : (n : ℕ) (x : Bool) → Beyond at (on_field (cond {A = Option (ℕ × ℕ)} x None (Some (n, at + run is_digit (drop at t)))) k)
     low n true = tt
     low n false = h n (at + run is_digit (drop at t)) (omega arith)
 
-    go : (x : answer.Decimal) → Beyond at (on_field (least_number least (at + run is_digit (drop at t)) x) k)
+    go : (x : Option ℕ) → Beyond at (on_field (least_number least (at + run is_digit (drop at t)) x) k)
     go None = tt
-    go (Is n) = low n (ltb n least)
+    go (Some n) = low n (ltb n least)
 
-tab_on : (t : List ℕ) (at p : ℕ) (k : ℕ → RecordAt) → Beyond at (k (suc p)) → Beyond at (behind_tab t p k)
+tab_on : (t : List ℕ) (at p : ℕ) (k : ℕ → Option IndexRow) → Beyond at (k (suc p)) → Beyond at (behind_tab t p k)
 unfolding behind_tab Beyond
 tab_on t at p k h = go (begins (drop p t) tab)
   where
-    go : (x : Bool) → Beyond at (cond x (k (suc p)) Bad)
+    go : (x : Bool) → Beyond at (cond x (k (suc p)) None)
     go true = h
     go false = tt
 
@@ -53,7 +49,7 @@ id_on : (t : List ℕ) (at l c o p : ℕ) → at ≤ p → Beyond at (id_at t l 
 unfolding id_at id_end Beyond
 id_on t at l c o p h = go (ltb (id_end t p) (length t))
   where
-    go : (x : Bool) → Beyond at (cond x (Good (record { line = l; count = c; offset = o; from = p; to = id_end t p; next = suc (id_end t p) })) Bad)
+    go : (x : Bool) → Beyond at (cond x (Some (record { line = l; count = c; offset = o; from = p; to = id_end t p; next = suc (id_end t p) })) None)
     go true = omega arith
     go false = tt
 
@@ -61,14 +57,14 @@ end_on : (t : List ℕ) (at l c o p : ℕ) → at ≤ p → Beyond at (end_at t 
 unfolding end_at Beyond
 end_on t at l c o p h = go (begins (drop p t) lf)
   where
-    go : (x : Bool) → Beyond at (cond x (Good (record { line = l; count = c; offset = o; from = 0; to = 0; next = suc p })) (behind_tab t p (id_at t l c o)))
+    go : (x : Bool) → Beyond at (cond x (Some (record { line = l; count = c; offset = o; from = 0; to = 0; next = suc p })) (behind_tab t p (id_at t l c o)))
     go true = omega arith
     go false = tab_on t at p (id_at t l c o) (id_on t at l c o (suc p) (omega arith))
 
-lower : (at p : ℕ) (x : RecordAt) → at ≤ p → Beyond p x → Beyond at x
+lower : (at p : ℕ) (x : Option IndexRow) → at ≤ p → Beyond p x → Beyond at x
 unfolding Beyond
-lower at p Bad h b = tt
-lower at p (Good e) h b = omega arith
+lower at p None h b = tt
+lower at p (Some e) h b = omega arith
 
 beyond : (t : List ℕ) (at : ℕ) → Beyond at (record_at t at)
 unfolding record_at count_at offset_at
@@ -77,7 +73,7 @@ beyond t at =
     (field_on t (suc p) 1 (λ m q. behind_tab t q (offset_at t n m)) (λ m q i. tab_on t (suc p) q (offset_at t n m) (lower (suc p) (suc q) (offset_at t n m (suc q)) (omega arith)
     (field_on t (suc q) 0 (end_at t n m) (λ o r j. end_on t (suc q) n m o r j)))))))
 
-pub further : (t : List ℕ) (at : ℕ) (e : IndexRow) → record_at t at ≡ Good e → at < e.next
+pub further : (t : List ℕ) (at : ℕ) (e : IndexRow) → record_at t at ≡ Some e → at < e.next
 unfolding Beyond
 further t at e q = rw q at (beyond t at)
 
@@ -106,7 +102,7 @@ module _ {t : List ℕ} {at : ℕ} {x : Index} (inv : RowsLeft t at x) where
       go zero n q = absurd (omega arith)
       go (suc f) n q = sym (rw (le-ltb at (length t) h) at q)
 
-  pub left_bad : at < length t → record_at t at ≡ Bad → x ≡ not_index NotAnIndex
+  pub left_bad : at < length t → record_at t at ≡ None → x ≡ not_index NotAnIndex
   unfolding rows_from on_row
   left_bad h g = go inv.fuel inv.enough inv.rest
     where
@@ -114,7 +110,7 @@ module _ {t : List ℕ} {at : ℕ} {x : Index} (inv : RowsLeft t at x) where
       go zero n q = absurd (omega arith)
       go (suc f) n q = sym (rw (lt-ltb at (length t) h, g) at q)
 
-  pub left_go : (e : IndexRow) → at < length t → record_at t at ≡ Good e → Onward t e x
+  pub left_go : (e : IndexRow) → at < length t → record_at t at ≡ Some e → Onward t e x
   unfolding rows_from on_row
   left_go e h g = go inv.fuel inv.enough inv.rest
     where
@@ -122,5 +118,5 @@ module _ {t : List ℕ} {at : ℕ} {x : Index} (inv : RowsLeft t at x) where
       go zero n q = absurd (omega arith)
       go (suc f) n q = record { more = rows_from f t e.next; is = sym (rw (lt-ltb at (length t) h, g) at q); left = record { fuel = f; enough = omega (arith, further t at e g); rest = refl } }
 
-  pub left_less : (e : IndexRow) → at < length t → record_at t at ≡ Good e → length t - e.next < length t - at
+  pub left_less : (e : IndexRow) → at < length t → record_at t at ≡ Some e → length t - e.next < length t - at
   left_less e h g = omega (arith, further t at e g)

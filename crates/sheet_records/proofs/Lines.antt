@@ -1,5 +1,6 @@
 -- Writing a record's line: its numbers, its end, its row; and the row of a lent table.
 -- Assumes nothing.
+use Rattle.std.specs.Prelude.{Err, None, Ok, Option, Some}
 use mathlib.Core.Path.{◌≡◌, refl, sym, ◌∙◌, ap}
 use mathlib.Core.Bool.{Bool, true, false, cond, ◌&&◌}
 use mathlib.Core.List.{List, [], ◌∷◌, ◌++◌, append-nil}
@@ -11,17 +12,14 @@ use lib.Dec.{leb, eqb}
 use lib.ListN.{length, get_or, take, drop, set, length-append, length-set, replicate, drop_of_length-le}
 use lib.Seq.{drop-cons, slice, sets, length-sets, sets-eq, take_all, take-append_seam}
 use Rattle.base_lists.proofs.Sets.{sets-append}
-use Rattle.base_refusals.specs.Numbers.{outcome_no}
+use Rattle.base_refusals.specs.Numbers.{outcome_no, passed}
 use Rattle.base_refusals.specs.Orders.{in_order, order_no}
 use Rattle.base_refusals.proofs.Orders.{order_no_lem}
 use Rattle.base_refusals.specs.declared.Refusal.TheVariants.{NotAnIndex, AnotherVersion}
-use Rattle.base_refusals.specs.declared.Outcome.TheVariants as outcome
 use Rattle.base_bytes.specs.Bytes.{lf, tab}
 use Rattle.text_digits.specs.Decimal.{decimal, places, places_in}
 use Rattle.text_digits.proofs.Decimals.{decimal_le, decimal-length, fewest_is}
 use Rattle.text_escapes.specs.Unescape.{unescape, fits, written_to, content_of}
-use Rattle.text_escapes.specs.declared.Written.{Written}
-use Rattle.text_escapes.specs.declared.Written.TheVariants.{Full, To}
 use Rattle.set_marks.specs.Marks.{bytes_in}
 use Rattle.base_lists.specs.Lists.{same}
 use Rattle.base_lists.proofs.Same.{same_length}
@@ -29,9 +27,7 @@ use Rattle.sheet_records.specs.Records.{RecordId, no_id, an_id, Record, numbers_
 use Rattle.sheet_records.specs.Computed.{field_at, is_headed_by, is_headed, head_front, ends_line, is_numbered, is_other, other_told, head_order, head_in, head_of}
 use Rattle.sheet_records.specs.Writing.{raw_id, line_fits, put_of, line_over, put_paper, row_over}
 use Rattle.sheet_records.specs.Inner.{line_size, end_text, row_to}
-use Rattle.sheet_records.specs.declared.NumberAt.TheVariants.{Unread, Read}
 use Rattle.sheet_records.specs.declared.IndexRow.{IndexRow}
-use Rattle.sheet_records.specs.declared.PutLine.TheVariants.{NoRoom, Row}
 use Rattle.sheet_records.proofs.Places.{begins_past}
 
 -- an answer, and the same on paper
@@ -74,10 +70,10 @@ module _ (t : List ℕ) {s : List ℕ} {x : Bool} (e : s ≡ take 17 t) (f : x �
     unfolding is_numbered
     numbered_by g = rw (← e, ← f, y) g
 
-    pub numbered_bad : field_at t 17 0 ≡ Unread → false ≡ is_numbered t
+    pub numbered_bad : field_at t 17 0 ≡ None → false ≡ is_numbered t
     numbered_bad g = numbered_by (rw g)
 
-    module _ {n p : ℕ} (g : field_at t 17 0 ≡ Read n p) where
+    module _ {n p : ℕ} (g : field_at t 17 0 ≡ Some (n, p)) where
       pub numbered_past : length t ≤ p → false ≡ is_numbered t
       numbered_past h = numbered_by (rw (g, begins_past t p lf h))
 
@@ -85,11 +81,11 @@ module _ (t : List ℕ) {s : List ℕ} {x : Bool} (e : s ≡ take 17 t) (f : x �
       numbered_byte h = numbered_by (rw (g, drop-cons t p 0 h))
 
 -- some version's, and this one's
-pub headed-passes : (v : ℕ) (t : List ℕ) {x : Bool} → x ≡ is_headed_by v t → x ≡ true → outcome.Passed ≡ head_in v t
+pub headed-passes : (v : ℕ) (t : List ℕ) {x : Bool} → x ≡ is_headed_by v t → x ≡ true → Ok tt ≡ head_in v t
 unfolding head_in is_other in_order
 headed-passes v t e y = rw (← e, y) (go (is_numbered t))
   where
-    go : (b : Bool) → outcome.Passed ≡ cond (b && false) (outcome.Refused (other_told v)) outcome.Passed
+    go : (b : Bool) → passed ≡ cond (b && false) (Err (other_told v)) (Ok tt)
     go true = refl
     go false = refl
 
@@ -111,17 +107,17 @@ module _ (t : List ℕ) where
         go true = refl
         go false = refl
 
-    pub other_refused : y ≡ true → outcome.Refused AnotherVersion ≡ head_of t
+    pub other_refused : y ≡ true → Err AnotherVersion ≡ head_of t
     unfolding head_in is_other in_order index_version
     other_refused h = rw (← e, f, ← g, h)
 
-    pub head_refused : y ≡ false → outcome.Refused NotAnIndex ≡ head_of t
+    pub head_refused : y ≡ false → Err NotAnIndex ≡ head_of t
     unfolding head_in is_other in_order
     head_refused h = rw (← e, f, ← g, h)
 
   pub head_no : outcome_no (head_of t) ≡ order_no (head_order index_version t)
   unfolding head_in order_no in_order
-  head_no = order_no_lem outcome_no outcome.Refused (λ r. refl) (head_order index_version t) [] {next = outcome.Passed} refl
+  head_no = order_no_lem outcome_no Err (λ r. refl) (head_order index_version t) [] {next = Ok tt} refl
 
 -- ---- the numbers
 
@@ -167,14 +163,14 @@ module _ (quoted : Bool) (s : List ℕ) where
     unfolding fits
     fit y = le-leb (at + length (unescape s)) (length buf) (rw y at room)
 
-    pub id_full : {A : Type 0} {w : Written} → quoted ≡ true → w ≡ written_to buf at (unescape s) → w ≡ Full → A
+    pub id_full : {A : Type 0} {w : Option ℕ} → quoted ≡ true → w ≡ written_to buf at (unescape s) → w ≡ None → A
     unfolding written_to
-    id_full y e f = let z : To (at + length (unescape s)) ≡ Full = sym (rw (fit y) at (sym f ∙ e)) in let g : ◌≡◌ {A = ℕ} 0 1 = cc in absurd (omega arith)
+    id_full y e f = let z : Some (at + length (unescape s)) ≡ None = sym (rw (fit y) at (sym f ∙ e)) in let g : ◌≡◌ {A = ℕ} 0 1 = cc in absurd (omega arith)
 
-    pub id_to : {w : Written} {e : ℕ} {b : List ℕ} → quoted ≡ true → w ≡ written_to buf at (unescape s) → b ≡ content_of buf at (unescape s) → w ≡ To e
+    pub id_to : {w : Option ℕ} {e : ℕ} {b : List ℕ} → quoted ≡ true → w ≡ written_to buf at (unescape s) → b ≡ content_of buf at (unescape s) → w ≡ Some e
         → (e ≡ at + length (bytes_in quoted s)) × (b ≡ sets buf at (bytes_in quoted s))
     unfolding written_to content_of
-    id_to {e = e} y f g h = let z : To e ≡ To (at + length (unescape s)) = rw (fit y) at (sym h ∙ f) in let q : e ≡ at + length (unescape s) = cc in rw y (q, rw (fit y) at g)
+    id_to {e = e} y f g h = let z : Some e ≡ Some (at + length (unescape s)) = rw (fit y) at (sym h ∙ f) in let q : e ≡ at + length (unescape s) = cc in rw y (q, rw (fit y) at g)
 
     pub id_plain : {b : List ℕ} → quoted ≡ false → b ≡ sets buf at s → (at + length s ≡ at + length (bytes_in quoted s)) × (b ≡ sets buf at (bytes_in quoted s))
     id_plain y g = rw y (refl, g)
@@ -250,7 +246,7 @@ module _ (l c o : ℕ) (given quoted : Bool) (s : List ℕ) where
     fits_is : x ≡ line_fits (length buf) at whole
     fits_is = f ∙ rw (p, q, line_size_lem)
 
-    pub put_no : x ≡ false → (NoRoom ≡ put_of (length buf) at whole) × ((buf ≡ line_over buf at whole) × (put_paper NoRoom ≡ put_paper (put_of (length buf) at whole)))
+    pub put_no : x ≡ false → (None ≡ put_of (length buf) at whole) × ((buf ≡ line_over buf at whole) × (put_paper None ≡ put_paper (put_of (length buf) at whole)))
     unfolding put_of line_over
     put_no y = rw (← fits_is, y) (refl, (refl, refl))
 
@@ -273,7 +269,7 @@ module _ (l c o : ℕ) (given quoted : Bool) (s : List ℕ) where
 
       pub put_yes : {front a b : List ℕ} {r : IndexRow} {next : ℕ} → front ≡ numbers_text l c o → a ≡ sets buf at front → next ≡ at + n + length (end_text (raw_id given quoted s))
           → b ≡ sets a (at + n) (end_text (raw_id given quoted s)) → r ≡ row_to l c o (at + n) given next
-          → (Row r ≡ put_of (length buf) at whole) × ((b ≡ line_over buf at whole) × (put_paper (Row r) ≡ put_paper (put_of (length buf) at whole)))
+          → (Some r ≡ put_of (length buf) at whole) × ((b ≡ line_over buf at whole) × (put_paper (Some r) ≡ put_paper (put_of (length buf) at whole)))
       unfolding put_of line_over record_line
       put_yes g h d e w = rw (← fits_is, y, row_is_lem d w) (refl, (e ∙ rw (h, g, p) (sym (sets-append buf at (numbers_text l c o) (end_text (raw_id given quoted s)))), refl))
 

@@ -1,5 +1,6 @@
 -- The laws of the code's walk over places: numbers, the id's end, the byte at a place.
 -- Assumes nothing.
+use Rattle.std.specs.Prelude.{None, Option, Some}
 use mathlib.Core.Path.{◌≡◌, refl, sym, ◌∙◌}
 use mathlib.Core.Bool.{true, false}
 use mathlib.Core.List.{List, [], ◌∷◌}
@@ -20,12 +21,7 @@ use Rattle.text_digits.proofs.Steps.{from_cons, bounded_in, bounded_out, digit_r
 use Rattle.sheet_records.specs.Records.{not_lf, most_number}
 use Rattle.sheet_records.specs.Computed.{least_number, field_of, field_at, on_field, behind_tab, id_end, id_at, end_at}
 use Rattle.sheet_records.specs.Inner.{onward}
-use Rattle.text_digits.specs.declared.Decimal as answer
-use Rattle.text_digits.specs.declared.Decimal.TheVariants.{None, Is}
-use Rattle.sheet_records.specs.declared.NumberAt.{NumberAt}
-use Rattle.sheet_records.specs.declared.NumberAt.TheVariants.{Unread, Read}
-use Rattle.sheet_records.specs.declared.RecordAt.{RecordAt}
-use Rattle.sheet_records.specs.declared.RecordAt.TheVariants.{Bad, Good}
+use Rattle.sheet_records.specs.declared.IndexRow.{IndexRow}
 
 -- ---- the byte at a place
 
@@ -57,15 +53,15 @@ unfolding digits_from digits_step
 bad_stays [] = refl
 bad_stays (b ∷ s) = bad_stays s
 
-onward_bad : (least i : ℕ) (s : List ℕ) → onward least digit.Bad i s ≡ Unread
+onward_bad : (least i : ℕ) (s : List ℕ) → onward least digit.Bad i s ≡ None
 unfolding least_number
 onward_bad least i s = rw (bad_stays (take (run is_digit s) s))
 
 -- these and those from i on are the number r
-pub record Numbers (t : List ℕ) (least : ℕ) (d : state.Digits) (i : ℕ) (r : NumberAt) : Type 0 where
+pub record Numbers (t : List ℕ) (least : ℕ) (d : state.Digits) (i : ℕ) (r : Option (ℕ × ℕ)) : Type 0 where
   pub rest : onward least d i (drop i t) ≡ r
 
-module _ {t : List ℕ} {least : ℕ} {d : state.Digits} {i : ℕ} {r : NumberAt} (inv : Numbers t least d i r) where
+module _ {t : List ℕ} {least : ℕ} {d : state.Digits} {i : ℕ} {r : Option (ℕ × ℕ)} (inv : Numbers t least d i r) where
   numbers_go : {x : state.Digits} → i < length t → is_digit (get_or t i 0) ≡ true → digits_step most_number d (get_or t i 0) ≡ x → Numbers t least x (i + 1) r
   numbers_go h e f = record { rest = rw (add-one, ← f) (sym (onward_go least d i (get_or t i 0) (drop (suc i) t) e) ∙ (rw (drop-cons t i 0 h) at inv.rest)) }
 
@@ -75,11 +71,11 @@ module _ {t : List ℕ} {least : ℕ} {d : state.Digits} {i : ℕ} {r : NumberAt
   pub numbers_end : length t ≤ i → least_number least i (read_out d) ≡ r
   numbers_end h = sym (onward_none least d i) ∙ (rw (drop_of_length-le t {i = i} h) at inv.rest)
 
-  numbers_bad : i < length t → is_digit (get_or t i 0) ≡ true → digits_step most_number d (get_or t i 0) ≡ digit.Bad → Unread ≡ r
+  numbers_bad : i < length t → is_digit (get_or t i 0) ≡ true → digits_step most_number d (get_or t i 0) ≡ digit.Bad → None ≡ r
   numbers_bad h e f = sym (onward_bad least (i + 1) (drop (i + 1) t)) ∙ (numbers_go h e f).rest
 
 -- the loop behind a first digit that is no zero
-pub record Reads (t : List ℕ) (least n i : ℕ) (r : NumberAt) : Type 0 where
+pub record Reads (t : List ℕ) (least n i : ℕ) (r : Option (ℕ × ℕ)) : Type 0 where
   pub is : Numbers t least (digit.Number n) i r
   pub small : n ≤ most_number
 
@@ -94,11 +90,11 @@ step_out : (n b : ℕ) → is_digit b ≡ true → most_number < n * 10 + (b - 4
 unfolding digits_step grown
 step_out n b e h = rw e (sym (bounded_out most_number (n * 10 + (b - 48)) h))
 
-module _ {t : List ℕ} {least n i : ℕ} {r : NumberAt} (inv : Reads t least n i r) (h : i < length t) (e : is_digit (get_or t i 0) ≡ true) where
+module _ {t : List ℕ} {least n i : ℕ} {r : Option (ℕ × ℕ)} (inv : Reads t least n i r) (h : i < length t) (e : is_digit (get_or t i 0) ≡ true) where
   pub reads_go : n * 10 + (get_or t i 0 - 48) ≤ most_number → Reads t least (n * 10 + (get_or t i 0 - 48)) (i + 1) r
   reads_go k = record { is = numbers_go inv.is h e (step_in n (get_or t i 0) e k); small = k }
 
-  pub reads_over : most_number < n * 10 + (get_or t i 0 - 48) → Unread ≡ r
+  pub reads_over : most_number < n * 10 + (get_or t i 0 - 48) → None ≡ r
   reads_over k = numbers_bad inv.is h e (step_out n (get_or t i 0) e k)
 
 -- behind a zero
@@ -106,7 +102,7 @@ module _ (t : List ℕ) (least i : ℕ) where
   pub zero_starts : Numbers t least digit.Zero i (onward least digit.Zero i (drop i t))
   zero_starts = record { rest = refl }
 
-  pub zero_bad : i < length t → is_digit (get_or t i 0) ≡ true → Unread ≡ onward least digit.Zero i (drop i t)
+  pub zero_bad : i < length t → is_digit (get_or t i 0) ≡ true → None ≡ onward least digit.Zero i (drop i t)
   unfolding digits_step
   zero_bad h e = numbers_bad zero_starts h e refl
 
@@ -116,16 +112,16 @@ module _ (t : List ℕ) (at least : ℕ) where
   unfolding field_at field_of number_in digits_of
   starts = record { rest = refl }
 
-  pub field_past : length t ≤ at → Unread ≡ field_at t at least
+  pub field_past : length t ≤ at → None ≡ field_at t at least
   unfolding least_number
   field_past h = numbers_end starts h
 
   module _ (h : at < length t) where
-    pub field_other : is_digit (get_or t at 0) ≡ false → Unread ≡ field_at t at least
+    pub field_other : is_digit (get_or t at 0) ≡ false → None ≡ field_at t at least
     unfolding least_number
     field_other e = numbers_stop starts h e
 
-    module _ (e : is_digit (get_or t at 0) ≡ true) {r : NumberAt} where
+    module _ (e : is_digit (get_or t at 0) ≡ true) {r : Option (ℕ × ℕ)} where
       pub field_zero : get_or t at 0 ≡ 48 → r ≡ onward least digit.Zero (at + 1) (drop (at + 1) t) → r ≡ field_at t at least
       unfolding digits_step first_digit
       field_zero z q = q ∙ (numbers_go starts h e (rw (e, eq-eqb (get_or t at 0) 48 z))).rest
@@ -168,56 +164,56 @@ module _ {t : List ℕ} {from i : ℕ} (inv : Ends t from i) where
 
 -- ---- the ways of the code, one law for each
 
-pub number_low : (least next n : ℕ) → n < least → Unread ≡ least_number least next (Is n)
+pub number_low : (least next n : ℕ) → n < least → None ≡ least_number least next (Some n)
 unfolding least_number
 number_low least next n h = rw (lt-ltb n least h)
 
-pub number_up : (least next n : ℕ) → least ≤ n → Read n next ≡ least_number least next (Is n)
+pub number_up : (least next n : ℕ) → least ≤ n → Some (n, next) ≡ least_number least next (Some n)
 unfolding least_number
 number_up least next n h = rw (le-ltb n least h)
 
 module _ (t : List ℕ) (l c o : ℕ) where
-  pub id_no : (from to : ℕ) → to ≡ id_end t from → length t ≤ to → Bad ≡ id_at t l c o from
+  pub id_no : (from to : ℕ) → to ≡ id_end t from → length t ≤ to → None ≡ id_at t l c o from
   unfolding id_at
   id_no from to e h = rw (← e, le-ltb to (length t) h)
 
-  pub id_yes : (from to : ℕ) → to ≡ id_end t from → to < length t → Good (record { line = l; count = c; offset = o; from = from; to = to; next = to + 1 }) ≡ id_at t l c o from
+  pub id_yes : (from to : ℕ) → to ≡ id_end t from → to < length t → Some (record { line = l; count = c; offset = o; from = from; to = to; next = to + 1 }) ≡ id_at t l c o from
   unfolding id_at
   id_yes from to e h = rw (← e, lt-ltb to (length t) h, add-one)
 
-  pub end_past : (at : ℕ) → length t ≤ at → Bad ≡ end_at t l c o at
+  pub end_past : (at : ℕ) → length t ≤ at → None ≡ end_at t l c o at
   unfolding end_at behind_tab
   end_past at h = rw (begins_past t at lf h, begins_past t at tab h)
 
-  pub end_lf : (at : ℕ) → at < length t → get_or t at 0 ≡ lf → Good (record { line = l; count = c; offset = o; from = 0; to = 0; next = at + 1 }) ≡ end_at t l c o at
+  pub end_lf : (at : ℕ) → at < length t → get_or t at 0 ≡ lf → Some (record { line = l; count = c; offset = o; from = 0; to = 0; next = at + 1 }) ≡ end_at t l c o at
   unfolding end_at
   end_lf at h e = rw (begins_at t at lf h e, add-one)
 
-  pub end_bad : (at : ℕ) → at < length t → (get_or t at 0 ≡ lf → ⊥) → (get_or t at 0 ≡ tab → ⊥) → Bad ≡ end_at t l c o at
+  pub end_bad : (at : ℕ) → at < length t → (get_or t at 0 ≡ lf → ⊥) → (get_or t at 0 ≡ tab → ⊥) → None ≡ end_at t l c o at
   unfolding end_at behind_tab
   end_bad at h e g = rw (begins_other t at lf h e, begins_other t at tab h g)
 
-  pub end_tab : (at : ℕ) (r : RecordAt) → at < length t → (get_or t at 0 ≡ lf → ⊥) → get_or t at 0 ≡ tab → r ≡ id_at t l c o (at + 1) → r ≡ end_at t l c o at
+  pub end_tab : (at : ℕ) (r : Option IndexRow) → at < length t → (get_or t at 0 ≡ lf → ⊥) → get_or t at 0 ≡ tab → r ≡ id_at t l c o (at + 1) → r ≡ end_at t l c o at
   unfolding end_at behind_tab
   end_tab at r h e g q = rw (begins_other t at lf h e, begins_at t at tab h g) (rw add-one at q)
 
-module _ (t : List ℕ) (at : ℕ) (k : ℕ → RecordAt) where
-  pub tab_past : length t ≤ at → Bad ≡ behind_tab t at k
+module _ (t : List ℕ) (at : ℕ) (k : ℕ → Option IndexRow) where
+  pub tab_past : length t ≤ at → None ≡ behind_tab t at k
   unfolding behind_tab
   tab_past h = rw (begins_past t at tab h)
 
-  pub tab_other : at < length t → (get_or t at 0 ≡ tab → ⊥) → Bad ≡ behind_tab t at k
+  pub tab_other : at < length t → (get_or t at 0 ≡ tab → ⊥) → None ≡ behind_tab t at k
   unfolding behind_tab
   tab_other h e = rw (begins_other t at tab h e)
 
-  pub tab_yes : (r : RecordAt) → at < length t → get_or t at 0 ≡ tab → r ≡ k (at + 1) → r ≡ behind_tab t at k
+  pub tab_yes : (r : Option IndexRow) → at < length t → get_or t at 0 ≡ tab → r ≡ k (at + 1) → r ≡ behind_tab t at k
   unfolding behind_tab
   tab_yes r h e q = rw (begins_at t at tab h e) (rw add-one at q)
 
-pub field_bad : (f : NumberAt) (k : ℕ → ℕ → RecordAt) → f ≡ Unread → Bad ≡ on_field f k
+pub field_bad : (f : Option (ℕ × ℕ)) (k : ℕ → ℕ → Option IndexRow) → f ≡ None → None ≡ on_field f k
 unfolding on_field
 field_bad f k e = rw e
 
-pub field_on : (f : NumberAt) (k : ℕ → ℕ → RecordAt) (n p : ℕ) (r : RecordAt) → f ≡ Read n p → r ≡ k n p → r ≡ on_field f k
+pub field_on : (f : Option (ℕ × ℕ)) (k : ℕ → ℕ → Option IndexRow) (n p : ℕ) (r : Option IndexRow) → f ≡ Some (n, p) → r ≡ k n p → r ≡ on_field f k
 unfolding on_field
 field_on f k n p r e q = rw e q

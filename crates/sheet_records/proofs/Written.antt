@@ -1,5 +1,6 @@
 -- A record's line is read as that record.
 -- Assumes nothing.
+use Rattle.std.specs.Prelude.{Option, Some}
 use mathlib.Core.Path.{◌≡◌, refl, sym, ◌∙◌, ap}
 use mathlib.Core.Bool.{true}
 use mathlib.Core.List.{List, [], ◌∷◌, ◌++◌, append_assoc}
@@ -17,14 +18,12 @@ use Rattle.text_numbers.proofs.Numbers.{number_read, all_digits}
 use Rattle.sheet_records.specs.Records.{RecordId, no_id, an_id, Record, InBounds, id_fits, id_field, not_lf, most_number, numbers_text, record_line, row_by, row_at}
 use Rattle.sheet_records.specs.Computed.{least_number, field_of, field_at, on_field, behind_tab, id_end, id_at, end_at, offset_at, count_at, record_at, record_in}
 use Rattle.sheet_records.proofs.Lines.{numbers_long}
-use Rattle.sheet_records.specs.declared.NumberAt.TheVariants.{Read}
-use Rattle.sheet_records.specs.declared.RecordAt.{RecordAt}
-use Rattle.sheet_records.specs.declared.RecordAt.TheVariants.{Good}
+use Rattle.sheet_records.specs.declared.IndexRow.{IndexRow}
 
 -- ---- numbers
 
 module _ (t : List ℕ) (at n : ℕ) (s : List ℕ) (d : drop at t ≡ decimal n ++ s) where
-  pub field_reads : (least : ℕ) → stops is_digit s ≡ true → least ≤ n → n ≤ most_number → field_at t at least ≡ Read n (at + length (decimal n))
+  pub field_reads : (least : ℕ) → stops is_digit s ≡ true → least ≤ n → n ≤ most_number → field_at t at least ≡ Some (n, at + length (decimal n))
   unfolding field_at field_of least_number
   field_reads least st h l =
       rw (d, run_is is_digit (decimal n) s (all_digits n) st, take-append_seam (decimal n) s, number_read most_number n l, le-ltb n least h)
@@ -34,7 +33,7 @@ module _ (t : List ℕ) (at n : ℕ) (s : List ℕ) (d : drop at t ≡ decimal n
 
 -- ---- a byte
 
-tab_reads : (t : List ℕ) (at : ℕ) (s : List ℕ) (k : ℕ → RecordAt) → drop at t ≡ 9 ∷ s → behind_tab t at k ≡ k (suc at)
+tab_reads : (t : List ℕ) (at : ℕ) (s : List ℕ) (k : ℕ → Option IndexRow) → drop at t ≡ 9 ∷ s → behind_tab t at k ≡ k (suc at)
 unfolding behind_tab
 tab_reads t at s k d = rw d
 
@@ -44,8 +43,8 @@ byte_past t at b s d = drop_past t (b ∷ []) s at (suc at) d (omega arith)
 -- ---- a record: what is read of it, and where the next begins
 
 -- the row that stands there: of a record whose numbers end at e
-record Reads (t : List ℕ) (got : RecordAt) (e : ℕ) (r : Record) (s : List ℕ) : Type 0 where
-  pub is : got ≡ Good (row_by e r r.id)
+record Reads (t : List ℕ) (got : Option IndexRow) (e : ℕ) (r : Record) (s : List ℕ) : Type 0 where
+  pub is : got ≡ Some (row_by e r r.id)
   pub says : record_in t (row_by e r r.id) ≡ r
   pub on : drop (row_by e r r.id).next t ≡ s
 
@@ -111,6 +110,6 @@ record_reads t at r s w d =
 
 -- the row of a record whose line begins at a place
 pub row_reads : (t : List ℕ) (at : ℕ) (r : Record) (s : List ℕ) → InBounds r → drop at t ≡ record_line r ++ s
-    → (record_at t at ≡ Good (row_at at r)) × ((record_in t (row_at at r) ≡ r) × (drop (row_at at r).next t ≡ s))
+    → (record_at t at ≡ Some (row_at at r)) × ((record_in t (row_at at r) ≡ r) × (drop (row_at at r).next t ≡ s))
 unfolding row_at
 row_reads t at r s w d = let x = record_reads t at r s w d in (x.is, (x.says, x.on))

@@ -1,6 +1,6 @@
 -- How an index is read, by places. It needs no belief: a text is read as rows exactly where it is the index text of the records that these rows say, all in range
 -- (proved_index/specs/Form).
-use Rattle.std.specs.Prelude.{ℕ, zero, suc, ◌+◌, Bool, false, cond, not, ◌&&◌, List, [], ◌∷◌, ◌++◌, ltb, length, take, drop}
+use Rattle.std.specs.Prelude.{ℕ, zero, suc, ◌+◌, Bool, false, cond, not, ◌&&◌, List, [], ◌∷◌, ◌++◌, ltb, length, take, drop, Err, None, Ok, Option, Result, Some}
 use Rattle.std.proofs.Math.Seq.{slice}
 use Rattle.base_lists.specs.Lists.{run, begins, same}
 use Rattle.base_bytes.specs.Bytes.{is_digit, lf, tab}
@@ -8,69 +8,61 @@ use Rattle.base_refusals.specs.Numbers.{Paper, passed_paper}
 use Rattle.base_refusals.specs.Orders.{Ground, in_order}
 use Rattle.base_refusals.specs.declared.Refusal.{Refusal}
 use Rattle.base_refusals.specs.declared.Refusal.TheVariants.{NotAnIndex, AnotherVersion}
-use Rattle.base_refusals.specs.declared.Outcome as outcomes
-use Rattle.base_refusals.specs.declared.Outcome.TheVariants as outcome
 use Rattle.text_digits.specs.Digits.{number_in}
-use Rattle.text_digits.specs.declared.Decimal as answer
-use Rattle.text_digits.specs.declared.Decimal.TheVariants.{None, Is}
 use Rattle.sheet_records.specs.Records.{RecordId, no_id, an_id, Record, not_lf, most_number, index_version, index_word, header_of, row_numbers}
-use Rattle.sheet_records.specs.declared.NumberAt.{NumberAt}
-use Rattle.sheet_records.specs.declared.NumberAt.TheVariants.{Unread, Read}
 use Rattle.sheet_records.specs.declared.IndexRow.{IndexRow}
-use Rattle.sheet_records.specs.declared.RecordAt.{RecordAt}
-use Rattle.sheet_records.specs.declared.RecordAt.TheVariants.{Bad, Good}
 
 -- ---- a number
 
 -- a number from `least` on, and the place behind it
-unfoldable pub least_number : ℕ → ℕ → answer.Decimal → NumberAt
-least_number least next None = Unread
-least_number least next (Is n) = cond (ltb n least) Unread (Read n next)
+unfoldable pub least_number : ℕ → ℕ → Option ℕ → Option (ℕ × ℕ)
+least_number least next None = None
+least_number least next (Some n) = cond (ltb n least) None (Some (n, next))
 
-unfoldable pub field_of : ℕ → ℕ → List ℕ → NumberAt
+unfoldable pub field_of : ℕ → ℕ → List ℕ → Option (ℕ × ℕ)
 field_of least at s = least_number least (at + run is_digit s) (number_in most_number (take (run is_digit s) s))
 
 -- the number whose digits stand at a place, as many as there are
-unfoldable pub field_at : List ℕ → ℕ → ℕ → NumberAt
+unfoldable pub field_at : List ℕ → ℕ → ℕ → Option (ℕ × ℕ)
 field_at t at least = field_of least at (drop at t)
 
 -- ---- a record
 
-unfoldable pub on_field : NumberAt → (ℕ → ℕ → RecordAt) → RecordAt
-on_field Unread k = Bad
-on_field (Read n at) k = k n at
+unfoldable pub on_field : Option (ℕ × ℕ) → (ℕ → ℕ → Option IndexRow) → Option IndexRow
+on_field None k = None
+on_field (Some (n, at)) k = k n at
 
-unfoldable pub behind_tab : List ℕ → ℕ → (ℕ → RecordAt) → RecordAt
-behind_tab t at k = cond (begins (drop at t) tab) (k (suc at)) Bad
+unfoldable pub behind_tab : List ℕ → ℕ → (ℕ → Option IndexRow) → Option IndexRow
+behind_tab t at k = cond (begins (drop at t) tab) (k (suc at)) None
 
 -- the id runs from its place to LF, which must be there
 unfoldable pub id_end : List ℕ → ℕ → ℕ
 id_end t from = from + run not_lf (drop from t)
 
-unfoldable pub id_at : List ℕ → ℕ → ℕ → ℕ → ℕ → RecordAt
+unfoldable pub id_at : List ℕ → ℕ → ℕ → ℕ → ℕ → Option IndexRow
 id_at t line count offset from =
-    cond (ltb (id_end t from) (length t)) (Good (record { line = line; count = count; offset = offset; from = from; to = id_end t from; next = suc (id_end t from) })) Bad
+    cond (ltb (id_end t from) (length t)) (Some (record { line = line; count = count; offset = offset; from = from; to = id_end t from; next = suc (id_end t from) })) None
 
 -- behind the offset: LF, or a tab and the id
-unfoldable pub end_at : List ℕ → ℕ → ℕ → ℕ → ℕ → RecordAt
+unfoldable pub end_at : List ℕ → ℕ → ℕ → ℕ → ℕ → Option IndexRow
 end_at t line count offset at =
-    cond (begins (drop at t) lf) (Good (record { line = line; count = count; offset = offset; from = 0; to = 0; next = suc at }))
+    cond (begins (drop at t) lf) (Some (record { line = line; count = count; offset = offset; from = 0; to = 0; next = suc at }))
     (behind_tab t at (id_at t line count offset))
 
-unfoldable pub offset_at : List ℕ → ℕ → ℕ → ℕ → RecordAt
+unfoldable pub offset_at : List ℕ → ℕ → ℕ → ℕ → Option IndexRow
 offset_at t line count at = on_field (field_at t at 0) (end_at t line count)
 
-unfoldable pub count_at : List ℕ → ℕ → ℕ → RecordAt
+unfoldable pub count_at : List ℕ → ℕ → ℕ → Option IndexRow
 count_at t line at = on_field (field_at t at 1) (λ n p. behind_tab t p (offset_at t line n))
 
 -- the record whose line begins at a place
-unfoldable pub record_at : List ℕ → ℕ → RecordAt
+unfoldable pub record_at : List ℕ → ℕ → Option IndexRow
 record_at t at = on_field (field_at t at 1) (λ n p. behind_tab t p (count_at t n))
 
 -- on paper: the row and where the next begins, or nothing where no record stands there
-abbrev pub row_paper : RecordAt → Paper
-row_paper Bad = passed_paper []
-row_paper (Good e) = passed_paper (e.next ∷ row_numbers e)
+abbrev pub row_paper : Option IndexRow → Paper
+row_paper None = passed_paper []
+row_paper (Some e) = passed_paper (e.next ∷ row_numbers e)
 
 -- ---- what a row says of the index text t; what lies past its end is left out
 
@@ -93,9 +85,9 @@ abbrev pub with_row : IndexRow → Index → Index
 with_row e (not_index r) = not_index r
 with_row e (rows es) = rows (e ∷ es)
 
-unfoldable pub on_row : RecordAt → (ℕ → Index) → Index
-on_row Bad k = not_index NotAnIndex
-on_row (Good e) k = with_row e (k e.next)
+unfoldable pub on_row : Option IndexRow → (ℕ → Index) → Index
+on_row None k = not_index NotAnIndex
+on_row (Some e) k = with_row e (k e.next)
 
 -- the rows from a place to the end, in at most `left` steps
 unfoldable pub rows_from : ℕ → List ℕ → ℕ → Index
@@ -116,9 +108,9 @@ abbrev pub head_front : List ℕ
 head_front = index_word ++ (tab ∷ [])
 
 -- a number was read, and an LF stands behind it
-abbrev pub ends_line : List ℕ → NumberAt → Bool
-ends_line t Unread = false
-ends_line t (Read n p) = begins (drop p t) lf
+abbrev pub ends_line : List ℕ → Option (ℕ × ℕ) → Bool
+ends_line t None = false
+ends_line t (Some (n, p)) = begins (drop p t) lf
 
 -- it is, with its LF, that of some version: "Numbers are decimal, at most 65,535, no leading zero"
 unfoldable pub is_numbered : List ℕ → Bool
@@ -136,18 +128,18 @@ other_told v = cond (ltb v 2) NotAnIndex AnotherVersion
 abbrev pub head_order : ℕ → List ℕ → List Ground
 head_order v t = Ground.given (other_told v) (is_other v t) ∷ Ground.lacking NotAnIndex (is_headed_by v t) ∷ []
 
-unfoldable pub head_in : ℕ → List ℕ → outcomes.Outcome
+unfoldable pub head_in : ℕ → List ℕ → Result (Unit {0}) Refusal
 unfolding in_order
-head_in v t = in_order outcome.Refused (head_order v t) outcome.Passed
+head_in v t = in_order Err (head_order v t) (Ok tt)
 
-abbrev pub head_of : List ℕ → outcomes.Outcome
+abbrev pub head_of : List ℕ → Result (Unit {0}) Refusal
 head_of t = head_in index_version t
 
 -- ---- the whole, by a reader of the version v
 
-abbrev pub index_by : ℕ → List ℕ → outcomes.Outcome → Index
-index_by v t (outcome.Refused r) = not_index r
-index_by v t outcome.Passed = rows_from (suc (length t)) t (length (header_of v))
+abbrev pub index_by : ℕ → List ℕ → Result (Unit {0}) Refusal → Index
+index_by v t (Err r) = not_index r
+index_by v t (Ok _) = rows_from (suc (length t)) t (length (header_of v))
 
 unfoldable pub read_index_of : ℕ → List ℕ → Index
 read_index_of v t = index_by v t (head_in v t)

@@ -1,16 +1,15 @@
 -- What the code's own functions promise. No definition of a public promise rests on these.
-use Rattle.std.specs.Prelude.{ℕ, suc, ◌+◌, ◌-◌, Bool, true, false, cond, List, [], ◌∷◌, ◌++◌, take}
+use Rattle.std.specs.Prelude.{ℕ, suc, ◌+◌, ◌-◌, Bool, true, false, cond, List, [], ◌∷◌, ◌++◌, take, Option}
 use Rattle.base_lists.specs.Lists.{run}
 use Rattle.base_bytes.specs.Bytes.{is_digit, lf}
 use Rattle.text_digits.specs.Digits.{digits_from, read_out}
 use Rattle.text_digits.specs.declared.Digits as state
 use Rattle.sheet_records.specs.Records.{RecordId, id_field, most_number}
 use Rattle.sheet_records.specs.Computed.{least_number}
-use Rattle.sheet_records.specs.declared.NumberAt.{NumberAt}
 use Rattle.sheet_records.specs.declared.IndexRow.{IndexRow}
 
 -- the number from `least` on whose digits before the place i are d, with those of s, which stands there
-abbrev pub onward : ℕ → state.Digits → ℕ → List ℕ → NumberAt
+abbrev pub onward : ℕ → state.Digits → ℕ → List ℕ → Option (ℕ × ℕ)
 onward least d i s = least_number least (i + run is_digit s) (read_out (digits_from most_number d (take (run is_digit s) s)))
 
 -- what stands behind the numbers of a record

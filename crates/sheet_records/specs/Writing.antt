@@ -1,12 +1,10 @@
 -- Writing a record's line, its row and the first line into lent memory.
-use Rattle.std.specs.Prelude.{ℕ, ◌+◌, ◌*◌, ◌/◌, Bool, cond, List, [], ◌∷◌, leb, ltb, length}
+use Rattle.std.specs.Prelude.{ℕ, ◌+◌, ◌*◌, ◌/◌, Bool, cond, List, [], ◌∷◌, leb, ltb, length, None, Option, Some}
 use Rattle.std.proofs.lemmas.List.Edits.{sets}
 use Rattle.base_refusals.specs.Numbers.{Paper, passed_paper}
 use Rattle.set_marks.specs.Marks.{bytes_in}
 use Rattle.sheet_records.specs.Records.{RecordId, no_id, an_id, Record, record_line, row_at, row_numbers}
 use Rattle.sheet_records.specs.declared.IndexRow.{IndexRow}
-use Rattle.sheet_records.specs.declared.PutLine.{PutLine}
-use Rattle.sheet_records.specs.declared.PutLine.TheVariants.{NoRoom, Row}
 
 -- the id that raw bytes are, quoted or not, where there is one
 abbrev pub raw_id : Bool → Bool → List ℕ → RecordId
@@ -16,16 +14,16 @@ raw_id given quoted s = cond given (an_id (bytes_in quoted s)) no_id
 abbrev pub line_fits : ℕ → ℕ → Record → Bool
 line_fits size at r = leb (at + length (record_line r)) size
 
-unfoldable pub put_of : ℕ → ℕ → Record → PutLine
-put_of size at r = cond (line_fits size at r) (Row (row_at at r)) NoRoom
+unfoldable pub put_of : ℕ → ℕ → Record → Option IndexRow
+put_of size at r = cond (line_fits size at r) (Some (row_at at r)) None
 
 unfoldable pub line_over : List ℕ → ℕ → Record → List ℕ
 line_over buf at r = cond (line_fits (length buf) at r) (sets buf at (record_line r)) buf
 
 -- on paper: the row and where the next line begins, or nothing where there is no room
-abbrev pub put_paper : PutLine → Paper
-put_paper NoRoom = passed_paper []
-put_paper (Row e) = passed_paper (e.next ∷ row_numbers e)
+abbrev pub put_paper : Option IndexRow → Paper
+put_paper None = passed_paper []
+put_paper (Some e) = passed_paper (e.next ∷ row_numbers e)
 
 -- how many rows a table of n numbers has
 abbrev pub table_size : ℕ → ℕ

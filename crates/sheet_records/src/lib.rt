@@ -1,13 +1,12 @@
 // Records of an index: reading the one at a place, writing one, the first line, and the rows of a lent table.
 #![tactic(auto)]
 
-ghost use Rattle.std.specs.Prelude.{◌≡◌, ◌≤◌, ◌<◌, ◌+◌, leb, length, drop};
+ghost use Rattle.std.specs.Prelude.{◌≡◌, ◌≤◌, ◌<◌, ◌+◌, leb, length, drop, Some};
 ghost use Rattle.std.proofs.lemmas.List.Edits.{sets};
 ghost use Rattle.base_refusals.specs.Numbers.{outcome_no};
 ghost use Rattle.base_refusals.specs.Orders.{order_no};
 ghost use Rattle.base_bytes.specs.Bytes.{is_digit};
 ghost use Rattle.text_digits.specs.Decimal.{decimal};
-ghost use Rattle.text_digits.specs.declared.Decimal.TheVariants.{Is};
 ghost use Rattle.text_digits.specs.declared.Digits.TheVariants.{Zero, Number};
 ghost use Rattle.set_marks.specs.Marks.{bytes_in};
 ghost use Rattle.sheet_records.specs.Records.{most_number, numbers_text, index_version, index_header};
@@ -15,15 +14,7 @@ ghost use Rattle.sheet_records.specs.Computed.{least_number, field_at, id_end, i
 ghost use Rattle.sheet_records.specs.Writing.{raw_id, put_of, line_over, put_paper, row_over};
 ghost use Rattle.sheet_records.specs.Inner.{onward, line_size, end_text, row_to};
 
-use base_refusals::{Outcome, Refusal};
-use text_escapes::Written;
-
-// A number and the place behind it.
-#[derive(Clone, Copy)]
-pub enum NumberAt {
-    Unread,
-    Read(usize, usize),
-}
+use base_refusals::Refusal;
 
 // A record's numbers, where its id stands in the index, and where the next line begins. Without an id both places are 0.
 #[derive(Clone, Copy)]
@@ -34,19 +25,6 @@ pub struct IndexRow {
     pub from: usize,
     pub to: usize,
     pub next: usize,
-}
-
-#[derive(Clone, Copy)]
-pub enum RecordAt {
-    Bad,
-    Good(IndexRow),
-}
-
-// The row of a line that was written, or that it had no room.
-#[derive(Clone, Copy)]
-pub enum PutLine {
-    NoRoom,
-    Row(IndexRow),
 }
 
 // A digit, by its range: the table that tells all kinds of bytes is made anew wherever one is asked.
@@ -60,59 +38,57 @@ fn is_digit(b: u8) -> bool
 }
 
 // A number that was read, from `least` on, and the place behind it.
-fn up_from(n: usize, least: usize, next: usize) -> NumberAt
-    ensures { result ≡ least_number least next (Is n) }
+fn up_from(n: usize, least: usize, next: usize) -> Option<(usize, usize)>
+    ensures { result ≡ least_number least next (Some n) }
 {
     if n < least {
-        return NumberAt::Unread;
+        return None;
     }
-    NumberAt::Read(n, next)
+    Some((n, next))
 }
 
 // The number behind a zero, which is alone.
-fn zero_to(index: &[u8], next: usize, least: usize) -> NumberAt
+fn zero_to(index: &[u8], next: usize, least: usize) -> Option<(usize, usize)>
     ensures { result ≡ onward least Zero next (drop next index.now) }
 {
     if index.len() <= next {
         return up_from(0, least, next);
     }
     if is_digit(index[next]) {
-        return NumberAt::Unread;
+        return None;
     }
     up_from(0, least, next)
 }
 
 // The number whose digits before a place are `first`.
-fn number_to(index: &[u8], from: usize, first: usize, least: usize) -> NumberAt
+fn number_to(index: &[u8], from: usize, first: usize, least: usize) -> Option<(usize, usize)>
     requires { first ≤ most_number }
     ensures { result ≡ onward least (Number first) from (drop from index.now) }
 {
     let mut n = first;
-    let mut i = from;
-    while i < index.len() {
+    for i in from..index.len() {
         let b = index[i];
         if !is_digit(b) {
             return up_from(n, least, i);
         }
         n = n * 10 + (b - b'0') as usize;
         if 65535 < n {
-            return NumberAt::Unread;
+            return None;
         }
-        i += 1;
     }
-    up_from(n, least, i)
+    up_from(n, least, from.max(index.len()))
 }
 
 // The number whose digits stand at a place.
-fn field_at(index: &[u8], at: usize, least: usize) -> NumberAt
+fn field_at(index: &[u8], at: usize, least: usize) -> Option<(usize, usize)>
     ensures { result ≡ field_at index.now at least }
 {
     if index.len() <= at {
-        return NumberAt::Unread;
+        return None;
     }
     let b = index[at];
     if !is_digit(b) {
-        return NumberAt::Unread;
+        return None;
     }
     if b == b'0' {
         return zero_to(index, at + 1, least);
@@ -124,24 +100,22 @@ fn field_at(index: &[u8], at: usize, least: usize) -> NumberAt
 fn id_end(index: &[u8], from: usize) -> usize
     ensures { result ≡ id_end index.now from }
 {
-    let mut i = from;
-    while i < index.len() {
+    for i in from..index.len() {
         if index[i] == b'\n' {
             return i;
         }
-        i += 1;
     }
-    i
+    from.max(index.len())
 }
 
-fn id_at(index: &[u8], line: usize, count: usize, offset: usize, from: usize) -> RecordAt
+fn id_at(index: &[u8], line: usize, count: usize, offset: usize, from: usize) -> Option<IndexRow>
     ensures { result ≡ id_at index.now line count offset from }
 {
     let to = id_end(index, from);
     if index.len() <= to {
-        return RecordAt::Bad;
+        return None;
     }
-    RecordAt::Good(IndexRow {
+    Some(IndexRow {
         line,
         count,
         offset,
@@ -151,15 +125,15 @@ fn id_at(index: &[u8], line: usize, count: usize, offset: usize, from: usize) ->
     })
 }
 
-fn end_at(index: &[u8], line: usize, count: usize, offset: usize, at: usize) -> RecordAt
+fn end_at(index: &[u8], line: usize, count: usize, offset: usize, at: usize) -> Option<IndexRow>
     ensures { result ≡ end_at index.now line count offset at }
 {
     if index.len() <= at {
-        return RecordAt::Bad;
+        return None;
     }
     let b = index[at];
     if b == b'\n' {
-        return RecordAt::Good(IndexRow {
+        return Some(IndexRow {
             line,
             count,
             offset,
@@ -169,33 +143,33 @@ fn end_at(index: &[u8], line: usize, count: usize, offset: usize, at: usize) -> 
         });
     }
     if b != b'\t' {
-        return RecordAt::Bad;
+        return None;
     }
     id_at(index, line, count, offset, at + 1)
 }
 
-fn offset_at(index: &[u8], line: usize, count: usize, at: usize) -> RecordAt
+fn offset_at(index: &[u8], line: usize, count: usize, at: usize) -> Option<IndexRow>
     ensures { result ≡ offset_at index.now line count at }
 {
     let f = field_at(index, at, 0);
     match f {
-        NumberAt::Unread => RecordAt::Bad,
-        NumberAt::Read(n, p) => end_at(index, line, count, n, p),
+        None => None,
+        Some((n, p)) => end_at(index, line, count, n, p),
     }
 }
 
-fn count_at(index: &[u8], line: usize, at: usize) -> RecordAt
+fn count_at(index: &[u8], line: usize, at: usize) -> Option<IndexRow>
     ensures { result ≡ count_at index.now line at }
 {
     let f = field_at(index, at, 1);
     match f {
-        NumberAt::Unread => RecordAt::Bad,
-        NumberAt::Read(n, p) => {
+        None => None,
+        Some((n, p)) => {
             if index.len() <= p {
-                return RecordAt::Bad;
+                return None;
             }
             if index[p] != b'\t' {
-                return RecordAt::Bad;
+                return None;
             }
             offset_at(index, line, n, p + 1)
         }
@@ -203,19 +177,19 @@ fn count_at(index: &[u8], line: usize, at: usize) -> RecordAt
 }
 
 // The record whose line begins at a place.
-pub fn record_at(index: &[u8], at: usize) -> RecordAt
+pub fn record_at(index: &[u8], at: usize) -> Option<IndexRow>
     ensures value { result ≡ record_at index.now at }
     ensures result_value { row_paper result ≡ row_paper (record_at index.now at) }
 {
     let line = field_at(index, at, 1);
     match line {
-        NumberAt::Unread => RecordAt::Bad,
-        NumberAt::Read(n, p) => {
+        None => None,
+        Some((n, p)) => {
             if index.len() <= p {
-                return RecordAt::Bad;
+                return None;
             }
             if index[p] != b'\t' {
-                return RecordAt::Bad;
+                return None;
             }
             count_at(index, n, p + 1)
         }
@@ -258,8 +232,8 @@ fn is_numbered(index: &[u8]) -> bool
     }
     let number = field_at(index, 17, 0);
     match number {
-        NumberAt::Unread => false,
-        NumberAt::Read(_, p) => {
+        None => false,
+        Some((_, p)) => {
             if index.len() <= p {
                 return false;
             }
@@ -279,17 +253,17 @@ pub fn is_other(index: &[u8]) -> bool
 }
 
 // Whether the first line is that of this version, or why it isn't.
-pub fn head_of(index: &[u8]) -> Outcome
+pub fn head_of(index: &[u8]) -> Result<(), Refusal>
     ensures value { result ≡ head_of index.now }
     ensures result_value { outcome_no result ≡ order_no (head_order index_version index.now) }
 {
     if is_headed(index) {
-        return Outcome::Passed;
+        return Ok(());
     }
     if is_numbered(index) {
-        return Outcome::Refused(Refusal::AnotherVersion);
+        return Err(Refusal::AnotherVersion);
     }
-    Outcome::Refused(Refusal::NotAnIndex)
+    Err(Refusal::NotAnIndex)
 }
 
 // Writes the numbers of a record at the front of lent memory; what has no room is left out.
@@ -357,8 +331,8 @@ fn put_id(out: &mut [u8], at: usize, quoted: bool, raw: &[u8]) -> usize
 {
     if quoted {
         match text_escapes::write_unescaped(out, at, raw) {
-            Written::Full => return at,
-            Written::To(e) => return e,
+            None => return at,
+            Some(e) => return e,
         }
     }
     base_lists::put_bytes(out, at, raw);
@@ -437,20 +411,20 @@ pub fn put_record(
     given: bool,
     quoted: bool,
     raw: &[u8],
-) -> PutLine
+) -> Option<IndexRow>
     ensures value { result ≡ put_of (length out.old) at (record { line = line; count = count; offset = offset; id = raw_id given quoted raw.now }) }
     ensures out_after { out.new ≡ line_over out.old at (record { line = line; count = count; offset = offset; id = raw_id given quoted raw.now }) }
     ensures result_value { put_paper result ≡ put_paper (put_of (length out.old) at (record { line = line; count = count; offset = offset; id = raw_id given quoted raw.now })) }
 {
     let n = numbers_size(line, count, offset);
     if !has_room(out.len(), at, n, given, id_len(quoted, raw)) {
-        return PutLine::NoRoom;
+        return None;
     }
     let mut front = [0u8; FRONT];
     lay_numbers(&mut front, line, count, offset);
     base_lists::put_bytes(out, at, set_table::bytes_of(&front, 0, n));
     let next = put_end(out, at + n, given, quoted, raw);
-    PutLine::Row(row_of(line, count, offset, at + n, given, next))
+    Some(row_of(line, count, offset, at + n, given, next))
 }
 
 // Writes a row of a lent table, counted from 0, where the table has it.

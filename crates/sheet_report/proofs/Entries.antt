@@ -1,5 +1,6 @@
 -- The two entries: which refusal comes first, and what a refusal leaves.
 -- Assumes nothing.
+use Rattle.std.specs.Prelude.{Err, Ok, Result}
 use mathlib.Core.Path.{◌≡◌, refl, sym, ◌∙◌}
 use mathlib.Core.Bool.{Bool, true, false, ◌&&◌}
 use mathlib.Core.List.{List}
@@ -16,11 +17,8 @@ use Rattle.base_refusals.specs.Numbers.{max_text}
 use Rattle.base_refusals.specs.declared.Refusal.{Refusal}
 use Rattle.base_refusals.specs.declared.Refusal.TheVariants.{TextTooLong, NothingThere, JoinFull, CanonTooLong}
 use Rattle.text_checks.specs.Check.{check_of}
-use Rattle.base_refusals.specs.declared.Outcome as outcomes
-use Rattle.base_refusals.specs.declared.Outcome.TheVariants as outcome
 use Rattle.sheet_blocks.specs.Sheets.{tries_at, join_behind}
 use Rattle.sheet_report.specs.declared.Told.{Told}
-use Rattle.sheet_report.specs.declared.Told.TheVariants.{Refused}
 use Rattle.sheet_report.specs.declared.Part.{Part}
 use Rattle.sheet_report.specs.Report.{refused_line}
 use Rattle.sheet_report.specs.Parts.{max_line, Laid, laid_none, lay_from, begins_line, may_begin, part_of, refusal, start_of, shown_part}
@@ -66,22 +64,22 @@ module _ (t : List ℕ) (at n : ℕ) where
   -- ---- the report from there on
 
   module _ (cap size : ℕ) where
-    pub part_long : max_text < length t → part_of t at n cap size ≡ laid_none (Refused TextTooLong)
+    pub part_long : max_text < length t → part_of t at n cap size ≡ laid_none (Err TextTooLong)
     unfolding part_of
     part_long h = rw (lt-ltb max_text (length t) h)
 
     module _ (h : length t ≤ max_text) where
-      pub part_join : cap < max_text → part_of t at n cap size ≡ laid_none (Refused JoinFull)
+      pub part_join : cap < max_text → part_of t at n cap size ≡ laid_none (Err JoinFull)
       unfolding part_of
       part_join j = rw (le-ltb max_text (length t) h, lt-ltb cap max_text j)
 
       module _ (j : max_text ≤ cap) where
-        pub part-nowhere : may_begin t at n ≡ false → part_of t at n cap size ≡ laid_none (Refused NothingThere)
+        pub part-nowhere : may_begin t at n ≡ false → part_of t at n cap size ≡ laid_none (Err NothingThere)
         unfolding part_of
         part-nowhere e = rw (le-ltb max_text (length t) h, le-ltb cap max_text j, e)
 
         module _ (e : may_begin t at n ≡ true) where
-          pub part_full : size < max_line → part_of t at n cap size ≡ laid_none (Refused CanonTooLong)
+          pub part_full : size < max_line → part_of t at n cap size ≡ laid_none (Err CanonTooLong)
           unfolding part_of
           part_full s = rw (le-ltb max_text (length t) h, e, le-ltb cap max_text j, lt-ltb size max_line s)
 
@@ -92,7 +90,7 @@ module _ (t : List ℕ) (at n : ℕ) where
 -- ---- what is told
 
 module _ (join out : List ℕ) {R : Laid} where
-  pub told_nothing : {a : Told} {p : Part} → R ≡ laid_none a → p ≡ shown_part (laid_none a) → Tells join out R p join out
+  pub told_nothing : {a : Result Told Refusal} {p : Part} → R ≡ laid_none a → p ≡ shown_part (laid_none a) → Tells join out R p join out
   unfolding join_behind
   told_nothing e q = rw e (q, (refl, refl))
 
@@ -102,21 +100,21 @@ module _ (join out : List ℕ) {R : Laid} where
 -- ---- a text that is refused
 
 module _ (out : List ℕ) (why : Refusal) where
-  pub refusal_none : {p : Part} → length out < max_line → p ≡ record { told = Refused why; len = 0; at = 0; line = 0 } → (p ≡ shown_part (refusal (length out) why)) × (out ≡ over (refusal (length out) why).text out)
+  pub refusal_none : {p : Part} → length out < max_line → p ≡ record { told = Err why; len = 0; at = 0; line = 0 } → (p ≡ shown_part (refusal (length out) why)) × (out ≡ over (refusal (length out) why).text out)
   refusal_none h e = rw (lt-ltb (length out) max_line h) (e, refl)
 
-  pub refusal_laid : {p : Part} {k : ℕ} {out' : List ℕ} → max_line ≤ length out → PutAt out 0 (refused_line 0 0 why) k out' → p ≡ record { told = Refused why; len = k; at = 0; line = 0 }
+  pub refusal_laid : {p : Part} {k : ℕ} {out' : List ℕ} → max_line ≤ length out → PutAt out 0 (refused_line 0 0 why) k out' → p ≡ record { told = Err why; len = k; at = 0; line = 0 }
       → (p ≡ shown_part (refusal (length out) why)) × (out' ≡ over (refusal (length out) why).text out)
   refusal_laid h w e =
       rw (le-ltb (length out) max_line h)
       (e ∙ rw (w.behind, zero-add (length (refused_line 0 0 why))), w.content ∙ (rw (zero-add (length (refused_line 0 0 why))) at (sets-eq (refused_line 0 0 why) out 0 (omega (arith, refused_le 0 0 why (omega arith) (omega arith))))))
 
-module _ (t join out : List ℕ) {c : outcomes.Outcome} (e : c ≡ check_of t) where
-  pub start_refused : {why : Refusal} {p : Part} {out' : List ℕ} → c ≡ outcome.Refused why
+module _ (t join out : List ℕ) {c : Result (Unit {0}) Refusal} (e : c ≡ check_of t) where
+  pub start_refused : {why : Refusal} {p : Part} {out' : List ℕ} → c ≡ Err why
       → (p ≡ shown_part (refusal (length out) why)) × (out' ≡ over (refusal (length out) why).text out) → Tells join out (start_of t (length join) (length out)) p join out'
   unfolding start_of join_behind
   start_refused q w = rw (sym e ∙ q) (w.0, (refl, w.1))
 
-  pub start-passed : c ≡ outcome.Passed → start_of t (length join) (length out) ≡ part_of t 0 1 (length join) (length out)
+  pub start-passed : c ≡ Ok tt → start_of t (length join) (length out) ≡ part_of t 0 1 (length join) (length out)
   unfolding start_of
   start-passed q = rw (sym e ∙ q)

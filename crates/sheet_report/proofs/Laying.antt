@@ -1,5 +1,6 @@
 -- One line of a report, laid part by part: where it ends, what then stands there, and that it is short enough.
 -- Assumes nothing.
+use Rattle.std.specs.Prelude.{Err, Ok, Result}
 use mathlib.Core.Path.{◌≡◌, refl, sym, ◌∙◌, ap}
 use mathlib.Core.Bool.{Bool, true, false, cond, ◌&&◌}
 use mathlib.Core.List.{List, [], ◌∷◌, ◌++◌, append_assoc, append-nil}
@@ -18,10 +19,6 @@ use Rattle.set_canon.specs.Canon.{canon}
 use Rattle.set_table.specs.Types.{Texts}
 use Rattle.set_table.specs.Rows.{meaning_of}
 use Rattle.set_table.specs.declared.Attrs.{Attrs}
-use Rattle.base_refusals.specs.declared.Outcome as outcomes
-use Rattle.base_refusals.specs.declared.Outcome.TheVariants as outcome
-use Rattle.set_writer.specs.declared.Wrote.{Wrote}
-use Rattle.set_writer.specs.declared.Wrote.TheVariants.{Refused, Bytes}
 use Rattle.set_writer.specs.Write.{has_room, wrote_of, content_after}
 use Rattle.set_writer.specs.Inner.{put_if, wrote_to}
 use Rattle.base_lists.proofs.Sets.{sets-append, take-sets, drop-sets}
@@ -126,7 +123,7 @@ module _ (xs : List ℕ) where
     part_long : max_text ≤ length part
     part_long = rw part_is (omega (arith, length-drop at buf))
 
-    pub set-put : {w : Wrote} {b : List ℕ} → w ≡ wrote_of xs (length part) → b ≡ content_after part xs
+    pub set-put : {w : Result ℕ Refusal} {b : List ℕ} → w ≡ wrote_of xs (length part) → b ≡ content_after part xs
         → (w ≡ wrote_to max_text (length xs)) × (put_mid at (length buf - at) buf b ≡ put_short buf at xs)
     unfolding wrote_of wrote_to content_after put_short put_if
     set-put {w} {b} p q = (p ∙ rw (room_is part_long), go (leb (length xs) max_text) refl (q ∙ rw (room_is part_long)))
@@ -152,14 +149,14 @@ module _ (n k : ℕ) (xs : List ℕ) where
       go true e = omega (arith, refused_le n k CanonTooLong hn hk)
       go false e = omega (arith, line_length block_word n k xs, front_le block_word n k hn hk, ltb-false max_text (length xs) e)
 
-  module _ {buf : List ℕ} {at r : ℕ} {b : List ℕ} (p : PutAt buf at (line_front block_word n k) r b) {w : Wrote} {c : List ℕ} (f : w ≡ wrote_to max_text (length xs)) (g : c ≡ put_short (set b r 9) (r + 1) xs) where
+  module _ {buf : List ℕ} {at r : ℕ} {b : List ℕ} (p : PutAt buf at (line_front block_word n k) r b) {w : Result ℕ Refusal} {c : List ℕ} (f : w ≡ wrote_to max_text (length xs)) (g : c ≡ put_short (set b r 9) (r + 1) xs) where
     -- it fits
-    module _ {m : ℕ} (q : w ≡ Bytes m) where
+    module _ {m : ℕ} (q : w ≡ Ok m) where
       fits : (m ≡ length xs) × ((length xs ≤ max_text) × (c ≡ sets (set b r 9) (r + 1) xs))
       unfolding wrote_to put_short put_if
       fits = go (leb (length xs) max_text) refl (sym f ∙ q) g
         where
-          go : (x : Bool) → leb (length xs) max_text ≡ x → cond x (Bytes (length xs)) (Refused CanonTooLong) ≡ Bytes m → c ≡ cond x (sets (set b r 9) (r + 1) xs) (set b r 9)
+          go : (x : Bool) → leb (length xs) max_text ≡ x → cond x (Ok (length xs)) (Err CanonTooLong) ≡ Ok m → c ≡ cond x (sets (set b r 9) (r + 1) xs) (set b r 9)
               → (m ≡ length xs) × ((length xs ≤ max_text) × (c ≡ sets (set b r 9) (r + 1) xs))
           go true e z y = (cc, (leb-true (length xs) max_text e, y))
           go false e z y = let z : ◌≡◌ {A = ℕ} 0 1 = cc in absurd (omega arith)
@@ -178,12 +175,12 @@ module _ (n k : ℕ) (xs : List ℕ) where
           (put_byte behind_it 10))
 
     -- it doesn't: what was put is written over
-    module _ {why : Refusal} (q : w ≡ Refused why) where
+    module _ {why : Refusal} (q : w ≡ Err why) where
       over : (why ≡ CanonTooLong) × ((max_text < length xs) × (c ≡ set b r 9))
       unfolding wrote_to put_short put_if
       over = go (leb (length xs) max_text) refl (sym f ∙ q) g
         where
-          go : (x : Bool) → leb (length xs) max_text ≡ x → cond x (Bytes (length xs)) (Refused CanonTooLong) ≡ Refused why → c ≡ cond x (sets (set b r 9) (r + 1) xs) (set b r 9)
+          go : (x : Bool) → leb (length xs) max_text ≡ x → cond x (Ok (length xs)) (Err CanonTooLong) ≡ Err why → c ≡ cond x (sets (set b r 9) (r + 1) xs) (set b r 9)
               → (why ≡ CanonTooLong) × ((max_text < length xs) × (c ≡ set b r 9))
           go true e z y = let z : ◌≡◌ {A = ℕ} 0 1 = cc in absurd (omega arith)
           go false e z y = (cc, (leb-false (length xs) max_text e, y))
@@ -206,6 +203,6 @@ module _ (n k : ℕ) (xs : List ℕ) where
 
 -- ---- the line of a block, read or refused
 
-pub line_le : (n k : ℕ) (t : Texts) (a : Attrs) (o : outcomes.Outcome) → n < 2 ^ 64 → k < 2 ^ 64 → length (line_by n k t a o) ≤ max_line
-line_le n k t a outcome.Passed hn hk = canon_le n k (canon (meaning_of t a)) hn hk
-line_le n k t a (outcome.Refused r) hn hk = omega (arith, refused_le n k r hn hk)
+pub line_le : (n k : ℕ) (t : Texts) (a : Attrs) (o : Result (Unit {0}) Refusal) → n < 2 ^ 64 → k < 2 ^ 64 → length (line_by n k t a o) ≤ max_line
+line_le n k t a (Ok _) hn hk = canon_le n k (canon (meaning_of t a)) hn hk
+line_le n k t a (Err r) hn hk = omega (arith, refused_le n k r hn hk)

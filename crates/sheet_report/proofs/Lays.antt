@@ -1,5 +1,6 @@
 -- The loop over the blocks of a sheet: what is laid so far, and what is still to be laid.
 -- Assumes nothing.
+use Rattle.std.specs.Prelude.{Err, Ok, Result}
 use mathlib.Core.Path.{◌≡◌, refl, sym, ◌∙◌, ap}
 use mathlib.Core.Bool.{Bool, true, false, cond}
 use mathlib.Core.List.{List, [], ◌∷◌, ◌++◌, append_assoc, append-nil}
@@ -17,8 +18,6 @@ use Rattle.set_canon.specs.Canon.{canon}
 use Rattle.set_table.specs.Types.{two}
 use Rattle.set_table.specs.Rows.{meaning_of}
 use Rattle.set_table.specs.declared.Attrs.{Attrs}
-use Rattle.base_refusals.specs.declared.Outcome as outcomes
-use Rattle.base_refusals.specs.declared.Outcome.TheVariants as outcome
 use Rattle.read_lengths.specs.Lengths.{flush_left}
 use Rattle.sheet_blocks.specs.declared.Next.{Next}
 use Rattle.sheet_blocks.specs.Sheets.{Try, tries_at, is_block, only_blocks, join_behind, up_to_block}
@@ -50,9 +49,9 @@ module _ (t : List ℕ) {room : ℕ} (h : max_line ≤ room) where
   unfolding lay_from try_line
   lay_here x xs e = rw (le-ltb room max_line h, e)
 
-  lay_none : (xs : List Try) → only_blocks xs ≡ [] → lay_from t room xs ≡ laid_behind xs [] (laid_none Done)
+  lay_none : (xs : List Try) → only_blocks xs ≡ [] → lay_from t room xs ≡ laid_behind xs [] (laid_none (Ok Done))
   unfolding lay_from
-  lay_none = none_by (λ us. lay_from t room us ≡ laid_behind us [] (laid_none Done)) (λ x us n e. lay_on x us n ∙ ap (laid_behind (x ∷ []) []) e) refl
+  lay_none = none_by (λ us. lay_from t room us ≡ laid_behind us [] (laid_none (Ok Done))) (λ x us n e. lay_on x us n ∙ ap (laid_behind (x ∷ []) []) e) refl
 
   lay_first : (zs : List Try) {y : Try} {ys : List Try} (xs : List Try) → only_blocks xs ≡ y ∷ ys → lay_from t room (up_to_block xs ++ zs) ≡ laid_behind (up_to_block xs) (block_line t y) (lay_from t (room - length (block_line t y)) zs)
   lay_first zs {y} = first_by (λ us. lay_from t room (us ++ zs) ≡ laid_behind us (block_line t y) (lay_from t (room - length (block_line t y)) zs)) (λ x us n e. lay_on x (us ++ zs) n ∙ ap (laid_behind (x ∷ []) []) e) (λ b. lay_here y zs b)
@@ -68,11 +67,11 @@ lay_stop t cap n at {room} h l = go (is_block (flush_left t cap at)) refl
 
 -- ---- the line of a block, by its outcome and by the bytes that were joined
 
-module _ (n k : ℕ) (t join : List ℕ) (joined : ℕ) (a : Attrs) {o : outcomes.Outcome} {at end : ℕ} {out out' : List ℕ} where
-  pub of_refused : {why : Refusal} → o ≡ outcome.Refused why → PutAt out at (refused_line n k why) end out' → PutAt out at (line_by n k (two t (slice 0 joined join)) a o) end out'
+module _ (n k : ℕ) (t join : List ℕ) (joined : ℕ) (a : Attrs) {o : Result (Unit {0}) Refusal} {at end : ℕ} {out out' : List ℕ} where
+  pub of_refused : {why : Refusal} → o ≡ Err why → PutAt out at (refused_line n k why) end out' → PutAt out at (line_by n k (two t (slice 0 joined join)) a o) end out'
   of_refused e p = rw e p
 
-  pub of_done : {w : List ℕ} → o ≡ outcome.Passed → w ≡ slice 0 joined join → PutAt out at (canon_line n k (canon (meaning_of (two t w) a))) end out'
+  pub of_done : {w : List ℕ} → o ≡ Ok tt → w ≡ slice 0 joined join → PutAt out at (canon_line n k (canon (meaning_of (two t w) a))) end out'
       → PutAt out at (line_by n k (two t (slice 0 joined join)) a o) end out'
   of_done e f p = rw (e, ← f) p
 
@@ -110,26 +109,26 @@ module _ {t join₀ out₀ : List ℕ} {R : Laid} {join out : List ℕ} {at line
   lays_long = rw inv.content (over_long inv.done out₀ (omega (arith, inv.room, inv.counted)))
 
   -- nothing more is laid, and ys are gone past
-  ends_so : (ys : List Try) (a : Told) (m n : ℕ) {join' : List ℕ} → R ≡ laid_behind inv.past inv.done (laid_behind ys [] (record { told = a; text = []; past = []; at = m; line = n }))
+  ends_so : (ys : List Try) (a : Result Told Refusal) (m n : ℕ) {join' : List ℕ} → R ≡ laid_behind inv.past inv.done (laid_behind ys [] (record { told = a; text = []; past = []; at = m; line = n }))
       → join' ≡ join_behind join₀ (inv.past ++ ys) → Tells join₀ out₀ R (record { told = a; len = k; at = m; line = n }) join' out
   ends_so ys a m n e j = rw (e, append-nil inv.done, append-nil ys) (rw (← inv.counted), (j, inv.content))
 
   gone_none : join ≡ join_behind join₀ (inv.past ++ [])
   gone_none = rw (append-nil inv.past) inv.walk.joins
 
-  pub lays_end : {p : Part} → length t ≤ at → p ≡ record { told = Done; len = k; at = 0; line = 0 } → Tells join₀ out₀ R p join out
+  pub lays_end : {p : Part} → length t ≤ at → p ≡ record { told = Ok Done; len = k; at = 0; line = 0 } → Tells join₀ out₀ R p join out
   unfolding lay_from
-  lays_end h e = rw e (ends_so [] Done 0 0 (rw (tries_end t (length join₀) line at h) at inv.rest) gone_none)
+  lays_end h e = rw e (ends_so [] (Ok Done) 0 0 (rw (tries_end t (length join₀) line at h) at inv.rest) gone_none)
 
-  pub lays_stop : {p : Part} → at < length t → length out - k < max_line → p ≡ record { told = More; len = k; at = at; line = line } → Tells join₀ out₀ R p join out
-  lays_stop h l e = rw e (ends_so [] More at line (rw (lay_stop t (length join₀) line at h (rw lays_long at l)) at inv.rest) gone_none)
+  pub lays_stop : {p : Part} → at < length t → length out - k < max_line → p ≡ record { told = Ok More; len = k; at = at; line = line } → Tells join₀ out₀ R p join out
+  lays_stop h l e = rw e (ends_so [] (Ok More) at line (rw (lay_stop t (length join₀) line at h (rw lays_long at l)) at inv.rest) gone_none)
 
   module _ (l : max_line ≤ length out - k) where
     has_room : max_line ≤ length out₀ - k
     has_room = rw lays_long at l
 
-    pub lays_none : {join' : List ℕ} {p : Part} → WalkEnds t join₀ at line inv.past join' → p ≡ record { told = Done; len = k; at = 0; line = 0 } → Tells join₀ out₀ R p join' out
-    lays_none w q = rw q (ends_so (tries_at t (length join₀) line at) Done 0 0 (rw (lay_none t has_room (tries_at t (length join₀) line at) w.blocks) at inv.rest) w.joins)
+    pub lays_none : {join' : List ℕ} {p : Part} → WalkEnds t join₀ at line inv.past join' → p ≡ record { told = Ok Done; len = k; at = 0; line = 0 } → Tells join₀ out₀ R p join' out
+    lays_none w q = rw q (ends_so (tries_at t (length join₀) line at) (Ok Done) 0 0 (rw (lay_none t has_room (tries_at t (length join₀) line at) w.blocks) at inv.rest) w.joins)
 
     module _ {r : Next} {join' : List ℕ} (m : WalkMeets t join₀ at line inv.past r join') where
       abbrev gone : List Try

@@ -1,5 +1,6 @@
 -- The two entries on paper. The numbers of `report_part`: 1, 9, 3, 10, else none; those of `report_start`: 1, 2, 9, 10, else none. Where there is none: whether the report goes on.
 -- Assumes nothing.
+use Rattle.std.specs.Prelude.{Err}
 use mathlib.Core.Path.{◌≡◌, refl, sym, ◌∙◌, ap}
 use mathlib.Core.Bool.{Bool, true, false, cond}
 use mathlib.Core.List.{List, [], ◌∷◌}
@@ -14,10 +15,8 @@ use Rattle.base_refusals.specs.Numbers.{max_text, Paper, passed_paper}
 use Rattle.base_refusals.specs.Orders.{Ground, on_paper}
 use Rattle.base_refusals.specs.declared.Refusal.TheVariants.{NotUtf8, JoinFull, CanonTooLong}
 use Rattle.text_checks.specs.Check.{text_order, check_of}
-use Rattle.base_refusals.specs.declared.Outcome.TheVariants as outcome
 use Rattle.base_refusals.proofs.Orders.{paper_by, paper_where, order_short}
 use Rattle.sheet_blocks.specs.Sheets.{Try, tries_at, join_behind}
-use Rattle.sheet_report.specs.declared.Told.TheVariants.{Refused}
 use Rattle.sheet_report.specs.declared.Part.{Part}
 use Rattle.sheet_report.specs.Parts.{told_paper, max_line, Laid, laid_none, shown_part, stopped, laid_behind, try_line, lay_from, more_to_tell, part_of, start_by, start_of, part_order, start_order}
 use Rattle.sheet_report.proofs.Lays.{Tells}
@@ -49,12 +48,12 @@ lay_paper t room (x ∷ xs) = go (ltb room max_line) (lay_paper t (room - length
 pub part_paper : (t : List ℕ) (at n cap size : ℕ) → told_paper (part_of t at n cap size).told ≡ on_paper (part_order t at n cap size) (more_to_tell t size (tries_at t max_text n at))
 unfolding part_of on_paper
 part_paper t at n cap size =
-    paper_by (λ x. told_paper x.told) (λ r. laid_none (Refused r)) (more_to_tell t size (tries_at t max_text n at)) (λ r. refl) (part_order t at n cap size) [] (lay_paper t size (tries_at t max_text n at))
+    paper_by (λ x. told_paper x.told) (λ r. laid_none (Err r)) (more_to_tell t size (tries_at t max_text n at)) (λ r. refl) (part_order t at n cap size) [] (lay_paper t size (tries_at t max_text n at))
 
 pub start_paper_lem : (t : List ℕ) (cap size : ℕ) → told_paper (start_of t cap size).told ≡ on_paper (start_order t cap size) (more_to_tell t size (tries_at t max_text 1 0))
 unfolding start_of check_of on_paper
 start_paper_lem t cap size =
-    paper_where (λ o. told_paper (start_by t cap size o).told) outcome.Refused (more_to_tell t size (tries_at t max_text 1 0)) (λ r. refl) (text_order t)
+    paper_where (λ o. told_paper (start_by t cap size o).told) Err (more_to_tell t size (tries_at t max_text 1 0)) (λ r. refl) (text_order t)
     (Ground.given JoinFull (ltb cap max_text) ∷ Ground.given CanonTooLong (ltb size max_line) ∷ [])
     (λ e. rw (le-ltb max_text (length t) (order_short t (Ground.lacking NotUtf8 (is_utf8 t) ∷ []) e), sym (begins_is t 0 1 {r = true} (omega arith) (λ z. omega arith) (omega arith) refl)) at (part_paper t 0 1 cap size))
 

@@ -1,26 +1,24 @@
 -- The report part by part: what a call lays into lent memory, and where the next call goes on.
-use Rattle.std.specs.Prelude.{ℕ, zero, suc, ◌-◌, ◌+◌, Bool, true, cond, ◌&&◌, List, [], ◌∷◌, ◌++◌, eqb, leb, ltb, length, get_or}
+use Rattle.std.specs.Prelude.{ℕ, zero, suc, ◌-◌, ◌+◌, Bool, true, cond, ◌&&◌, List, [], ◌∷◌, ◌++◌, eqb, leb, ltb, length, get_or, Err, Ok, Result}
 use Rattle.base_refusals.specs.Numbers.{max_text, too_long, Paper, refused_paper, passed_paper}
 use Rattle.base_refusals.specs.Orders.{Ground, in_order}
 use Rattle.base_refusals.specs.declared.Refusal.{Refusal}
 use Rattle.base_refusals.specs.declared.Refusal.TheVariants.{TextTooLong, NothingThere, JoinFull, CanonTooLong}
 use Rattle.text_checks.specs.Check.{text_order, check_of}
-use Rattle.base_refusals.specs.declared.Outcome as outcomes
-use Rattle.base_refusals.specs.declared.Outcome.TheVariants as outcome
 use Rattle.sheet_blocks.specs.Sheets.{Try, is_block, tries_at}
 use Rattle.sheet_report.specs.declared.Told.{Told}
-use Rattle.sheet_report.specs.declared.Told.TheVariants.{Refused, More, Done}
+use Rattle.sheet_report.specs.declared.Told.TheVariants.{More, Done}
 use Rattle.sheet_report.specs.declared.Part.{Part}
 use Rattle.sheet_report.specs.Report.{block_line, refused_line}
 use Rattle.base_bytes.specs.Bytes.{lf}
 
 -- on paper: the number of a refusal; else whether the report goes on, yes and no as 1 and 0
-abbrev pub told_paper : Told → Paper
-told_paper (Refused r) = refused_paper r
-told_paper More = passed_paper (1 ∷ [])
-told_paper Done = passed_paper (0 ∷ [])
+abbrev pub told_paper : Result Told Refusal → Paper
+told_paper (Err r) = refused_paper r
+told_paper (Ok More) = passed_paper (1 ∷ [])
+told_paper (Ok Done) = passed_paper (0 ∷ [])
 
-abbrev pub told_no : Told → ℕ
+abbrev pub told_no : Result Told Refusal → ℕ
 told_no a = (told_paper a).number
 
 -- No line of a report is longer (`line_le` of proofs/Laying.antt): where so many bytes are free, the next line has room, whatever it says. It is `max_text` for the canonical text and
@@ -32,18 +30,18 @@ max_line = max_text + 65
 
 -- it lays `text` at the front of the lent memory and goes past these tries; the next call goes on at the line of number `line`, which begins at `at`
 pub record Laid : Type 0 where
-  pub told : Told
+  pub told : Result Told Refusal
   pub text : List ℕ
   pub past : List Try
   pub at : ℕ
   pub line : ℕ
 
 -- nothing is laid, and there is nowhere to go on
-abbrev pub laid_none : Told → Laid
+abbrev pub laid_none : Result Told Refusal → Laid
 laid_none a = record { told = a; text = []; past = []; at = 0; line = 0 }
 
 abbrev pub stopped : Try → Laid
-stopped x = record { told = More; text = []; past = []; at = x.at; line = x.line }
+stopped x = record { told = Ok More; text = []; past = []; at = x.at; line = x.line }
 
 -- first these tries are gone past and xs is laid
 abbrev pub laid_behind : List Try → List ℕ → Laid → Laid
@@ -55,7 +53,7 @@ try_line t x = cond (is_block x.found) (block_line t x) []
 
 -- the lines of tries to come, with so many bytes free: before each the longest line must have room
 unfoldable pub lay_from : List ℕ → ℕ → List Try → Laid
-lay_from t room [] = laid_none Done
+lay_from t room [] = laid_none (Ok Done)
 lay_from t room (x ∷ xs) = cond (ltb room max_line) (stopped x) (laid_behind (x ∷ []) (try_line t x) (lay_from t (room - length (try_line t x)) xs))
 
 -- it goes on where it went past fewer tries than there are
@@ -86,15 +84,15 @@ part_order t at n cap size =
 
 unfoldable pub part_of : List ℕ → ℕ → ℕ → ℕ → ℕ → Laid
 unfolding in_order
-part_of t at n cap size = in_order (λ r. laid_none (Refused r)) (part_order t at n cap size) (lay_from t size (tries_at t max_text n at))
+part_of t at n cap size = in_order (λ r. laid_none (Err r)) (part_order t at n cap size) (lay_from t size (tries_at t max_text n at))
 
 -- "For 1 or 2 the only output is `refused`, 0, 0, number.": the refusal is told, and that line laid unless the longest has no room
 abbrev pub refusal : ℕ → Refusal → Laid
-refusal size r = record { told = Refused r; text = cond (ltb size max_line) [] (refused_line 0 0 r); past = []; at = 0; line = 0 }
+refusal size r = record { told = Err r; text = cond (ltb size max_line) [] (refused_line 0 0 r); past = []; at = 0; line = 0 }
 
-abbrev pub start_by : List ℕ → ℕ → ℕ → outcomes.Outcome → Laid
-start_by t cap size (outcome.Refused r) = refusal size r
-start_by t cap size outcome.Passed = part_of t 0 1 cap size
+abbrev pub start_by : List ℕ → ℕ → ℕ → Result (Unit {0}) Refusal → Laid
+start_by t cap size (Err r) = refusal size r
+start_by t cap size (Ok _) = part_of t 0 1 cap size
 
 -- "not UTF-8: .. the whole text elsewhere": 2 comes before what a part answers
 unfoldable pub start_of : List ℕ → ℕ → ℕ → Laid

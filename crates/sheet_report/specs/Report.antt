@@ -1,12 +1,10 @@
 -- "The sheet program": what is written for a sheet.
-use Rattle.std.specs.Prelude.{ℕ, cond}
+use Rattle.std.specs.Prelude.{ℕ, cond, Err, Ok, Result}
 use mathlib.Core.List.{List, [], ◌∷◌, ◌++◌, flat_map}
 use Rattle.base_refusals.specs.Numbers.{too_long, number_of}
 use Rattle.base_refusals.specs.declared.Refusal.{Refusal}
 use Rattle.base_refusals.specs.declared.Refusal.TheVariants.{CanonTooLong}
 use Rattle.text_checks.specs.Check.{check_of}
-use Rattle.base_refusals.specs.declared.Outcome as outcomes
-use Rattle.base_refusals.specs.declared.Outcome.TheVariants as outcome
 use Rattle.set_canon.specs.Canon.{canon}
 use Rattle.set_table.specs.Types.{Texts}
 use Rattle.set_table.specs.Rows.{meaning_of}
@@ -39,9 +37,9 @@ unfoldable pub canon_line : ℕ → ℕ → List ℕ → List ℕ
 canon_line n k x = cond (too_long x) (refused_line n k CanonTooLong) (report_line block_word n k x)
 
 -- "or for 6, 7 or 10 `refused`": the set is over the texts t
-abbrev pub line_by : ℕ → ℕ → Texts → Attrs → outcomes.Outcome → List ℕ
-line_by n k t a outcome.Passed = canon_line n k (canon (meaning_of t a))
-line_by n k t a (outcome.Refused r) = refused_line n k r
+abbrev pub line_by : ℕ → ℕ → Texts → Attrs → Result (Unit {0}) Refusal → List ℕ
+line_by n k t a (Ok _) = canon_line n k (canon (meaning_of t a))
+line_by n k t a (Err r) = refused_line n k r
 
 -- ---- the report
 
@@ -54,9 +52,9 @@ unfoldable pub report_of : List ℕ → List Try → List ℕ
 report_of t xs = flat_map (block_line t) xs
 
 -- "For 1 or 2 the only output is `refused`, 0, 0, number."
-abbrev pub report_by : List ℕ → outcomes.Outcome → List ℕ
-report_by t (outcome.Refused r) = refused_line 0 0 r
-report_by t outcome.Passed = report_of t (blocks_of t)
+abbrev pub report_by : List ℕ → Result (Unit {0}) Refusal → List ℕ
+report_by t (Err r) = refused_line 0 0 r
+report_by t (Ok _) = report_of t (blocks_of t)
 
 unfoldable pub report : List ℕ → List ℕ
 report t = report_by t (check_of t)

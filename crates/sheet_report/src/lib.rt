@@ -1,7 +1,7 @@
 // The report on a sheet: a line for each of its blocks.
 #![tactic(auto)]
 
-ghost use Rattle.std.specs.Prelude.{◌≡◌, ◌∷◌, ◌+◌, ◌≤◌, length};
+ghost use Rattle.std.specs.Prelude.{◌≡◌, ◌∷◌, ◌+◌, ◌≤◌, length, Err, Ok};
 ghost use Rattle.std.proofs.Math.Seq.{slice};
 ghost use Rattle.base_lists.specs.Lists.{over};
 ghost use Rattle.base_refusals.specs.Numbers.{max_text};
@@ -11,7 +11,7 @@ ghost use Rattle.set_table.specs.Types.{two};
 ghost use Rattle.set_table.specs.Rows.{meaning_of};
 ghost use Rattle.set_writer.specs.Inner.{wrote_to};
 ghost use Rattle.sheet_blocks.specs.Sheets.{tries_at, join_behind};
-ghost use Rattle.sheet_report.specs.declared.Told.TheVariants.{Refused, More, Done};
+ghost use Rattle.sheet_report.specs.declared.Told.TheVariants.{More, Done};
 ghost use Rattle.text_digits.specs.Decimal.{decimal};
 ghost use Rattle.sheet_report.specs.Report.{refused_line, canon_line, line_by};
 ghost use Rattle.sheet_report.specs.Parts.{told_paper, max_line, lay_from, more_to_tell, begins_line, may_begin, part_order, part_of, refusal, start_of, start_order, shown_part};
@@ -19,10 +19,9 @@ ghost use Rattle.sheet_report.specs.Puts.{PutAt, line_front};
 ghost use Rattle.sheet_report.specs.Inner.{put_short};
 ghost use Rattle.base_bytes.specs.Bytes.{tab};
 
-use base_refusals::{Outcome, Refusal};
+use base_refusals::Refusal;
 use read_blocks::Block;
 use set_table::Attrs;
-use set_writer::Wrote;
 
 // No line of a report is longer: a canonical text of 65,535 bytes, and 65 for the word, two numbers of at most 20 digits, three tabs and the LF.
 pub const LINE: usize = base_refusals::MAX_TEXT + 65;
@@ -30,7 +29,6 @@ pub const LINE: usize = base_refusals::MAX_TEXT + 65;
 // Whether the report goes on, or why no block is reported.
 #[derive(Clone, Copy)]
 pub enum Told {
-    Refused(Refusal),
     More,
     Done,
 }
@@ -38,7 +36,7 @@ pub enum Told {
 // How many bytes are laid, and at which place and line the next call goes on.
 #[derive(Clone, Copy)]
 pub struct Part {
-    pub told: Told,
+    pub told: Result<Told, Refusal>,
     pub len: usize,
     pub at: usize,
     pub line: usize,
@@ -75,7 +73,13 @@ fn lay_refused(out: &mut [u8], at: usize, n: usize, lines: usize, why: Refusal) 
 }
 
 // Writes the canonical text of a set, where it isn't too long.
-fn put_set<'a>(out: &mut [u8], at: usize, text: &'a [u8], joined: &'a [u8], set: Attrs) -> Wrote
+fn put_set<'a>(
+    out: &mut [u8],
+    at: usize,
+    text: &'a [u8],
+    joined: &'a [u8],
+    set: Attrs,
+) -> Result<usize, Refusal>
     requires { at + max_text ≤ length out.old }
     ensures value { result ≡ wrote_to max_text (length (canon (meaning_of (two text.now joined.now) set))) }
     ensures out_after { out.new ≡ put_short out.old at (canon (meaning_of (two text.now joined.now) set)) }
@@ -99,8 +103,8 @@ fn lay_set<'a>(
     let k = put_front(out, at, b"block", n, lines);
     out[k] = b'\t';
     match put_set(out, k + 1, text, joined, set) {
-        Wrote::Refused(why) => lay_refused(out, at, n, lines, why),
-        Wrote::Bytes(m) => {
+        Err(why) => lay_refused(out, at, n, lines, why),
+        Ok(m) => {
             let e = k + 1 + m;
             out[e] = b'\n';
             e + 1
@@ -122,8 +126,8 @@ fn lay_block<'a>(
 {
     let outcome = block.outcome;
     match outcome {
-        Outcome::Refused(why) => lay_refused(out, at, n, block.lines, why),
-        Outcome::Passed => {
+        Err(why) => lay_refused(out, at, n, block.lines, why),
+        Ok(()) => {
             let joined = set_table::bytes_of(join, 0, block.joined);
             lay_set(out, at, n, block.lines, text, joined, block.set)
         }
@@ -132,10 +136,10 @@ fn lay_block<'a>(
 
 // The report is whole.
 fn done(len: usize) -> Part
-    ensures { result ≡ record { told = Done; len = len; at = 0; line = 0 } }
+    ensures { result ≡ record { told = Ok Done; len = len; at = 0; line = 0 } }
 {
     Part {
-        told: Told::Done,
+        told: Ok(Told::Done),
         len,
         at: 0,
         line: 0,
@@ -144,10 +148,10 @@ fn done(len: usize) -> Part
 
 // The report goes on from a place and its line.
 fn more(len: usize, at: usize, line: usize) -> Part
-    ensures { result ≡ record { told = More; len = len; at = at; line = line } }
+    ensures { result ≡ record { told = Ok More; len = len; at = at; line = line } }
 {
     Part {
-        told: Told::More,
+        told: Ok(Told::More),
         len,
         at,
         line,
@@ -156,10 +160,10 @@ fn more(len: usize, at: usize, line: usize) -> Part
 
 // No block is reported; a line that says so may be laid.
 fn refused(why: Refusal, len: usize) -> Part
-    ensures { result ≡ record { told = Refused why; len = len; at = 0; line = 0 } }
+    ensures { result ≡ record { told = Err why; len = len; at = 0; line = 0 } }
 {
     Part {
-        told: Told::Refused(why),
+        told: Err(why),
         len,
         at: 0,
         line: 0,
@@ -204,10 +208,8 @@ fn lay_from(text: &[u8], from: usize, first: usize, join: &mut [u8], out: &mut [
     let mut at = from;
     let mut line = first;
     let mut k = 0;
-    'sheet: loop {
-        if text.len() <= at {
-            return done(k);
-        }
+    // A while: where the next block begins is known only once the one before it is read, so no range or iterator gives the places.
+    while at < text.len() {
         if out.len() - k < LINE {
             return more(k, at, line);
         }
@@ -220,8 +222,8 @@ fn lay_from(text: &[u8], from: usize, first: usize, join: &mut [u8], out: &mut [
         k = lay_block(out, k, n, text, join, block);
         line = n + block.lines;
         at = block.next;
-        continue 'sheet;
     }
+    done(k)
 }
 
 // The report from a line on, whose place and number a call before has told; the text has passed the checks already.
@@ -265,7 +267,7 @@ pub fn report_start(text: &[u8], join: &mut [u8], out: &mut [u8]) -> Part
     ensures told_value { told_paper result.told ≡ on_paper (start_order text.now (length join.old) (length out.old)) (more_to_tell text.now (length out.old) (tries_at text.now max_text 1 0)) }
 {
     match text_checks::check_text(text) {
-        Outcome::Refused(why) => lay_refusal(why, out),
-        Outcome::Passed => report_part(text, 0, 1, join, out),
+        Err(why) => lay_refusal(why, out),
+        Ok(()) => report_part(text, 0, 1, join, out),
     }
 }

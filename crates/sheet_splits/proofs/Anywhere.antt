@@ -1,5 +1,6 @@
 -- A line of blocks is read alike wherever it stands: d places farther on its items stand d places farther on.
 -- Assumes nothing.
+use Rattle.std.specs.Prelude.{None, Option, Some}
 use mathlib.Core.Path.{◌≡◌, refl, sym, ◌∙◌, ap}
 use mathlib.Core.Bool.{Bool, true, false, cond}
 use mathlib.Core.List.{List, [], ◌∷◌, map, map-append}
@@ -18,16 +19,14 @@ use Rattle.block_grammar.specs.Computed.{First, text, tail_of, token_of, also, t
 use Rattle.block_grammar.specs.Close.{fresh}
 use Rattle.block_grammar.specs.ComputedClose.{Scanned, scan_step, go_on, close_from}
 use Rattle.block_grammar.specs.declared.Scan.{Scan}
-use Rattle.block_grammar.specs.declared.Place.{Place}
-use Rattle.block_grammar.specs.declared.Place.TheVariants.{Nothing, At}
 use Rattle.block_tokens.specs.Shown.{accepted}
 use Rattle.block_chain.specs.Chain.{good_line}
 use Rattle.block_chain.specs.Computed.{joined, block_to, blocks_from, read_blocks}
 
 -- a place d farther on, an item, and a reading
-abbrev place_on : ℕ → Place → Place
-place_on d Nothing = Nothing
-place_on d (At e) = At (d + e)
+abbrev place_on : ℕ → Option ℕ → Option ℕ
+place_on d None = None
+place_on d (Some e) = Some (d + e)
 
 abbrev pub item_on : ℕ → Placed → Placed
 item_on d p = record { at = d + p.at; item = p.item }
@@ -94,18 +93,18 @@ blocks_on m d (c ∷ s) zero a =
     rw (← z, close_on d s fresh (suc a)) (go (eqb c 123) (close_from s fresh (suc a)) (λ k. blocks_on m d s k (suc a)))
   where
     here : (e : ℕ) → ((k : ℕ) → blocks_from m s k (d + suc a) ≡ reading_on d (blocks_from m s k (suc a)))
-        → block_to m s (d + suc a) (At (d + e)) (λ n. blocks_from m s n (d + suc a)) ≡ reading_on d (block_to m s (suc a) (At e) (λ n. blocks_from m s n (suc a)))
+        → block_to m s (d + suc a) (Some (d + e)) (λ n. blocks_from m s n (d + suc a)) ≡ reading_on d (block_to m s (suc a) (Some e) (λ n. blocks_from m s n (suc a)))
     here e ih =
         let y : d + e - (d + suc a) ≡ e - suc a = omega arith in
         rw (y, payload_on m d (take (e - suc a) s) (suc a), ih (suc (e - suc a)))
         (sym (joined_on d (read_payload m (suc a) (take (e - suc a) s)) (blocks_from m s (suc (e - suc a)) (suc a))))
 
-    go : (x : Bool) (p : Place) → ((k : ℕ) → blocks_from m s k (d + suc a) ≡ reading_on d (blocks_from m s k (suc a)))
+    go : (x : Bool) (p : Option ℕ) → ((k : ℕ) → blocks_from m s k (d + suc a) ≡ reading_on d (blocks_from m s k (suc a)))
         → cond x (block_to m s (d + suc a) (place_on d p) (λ n. blocks_from m s n (d + suc a))) Reading.refused
         ≡ reading_on d (cond x (block_to m s (suc a) p (λ n. blocks_from m s n (suc a))) Reading.refused)
     go false p ih = refl
-    go true Nothing ih = refl
-    go true (At e) ih = here e ih
+    go true None ih = refl
+    go true (Some e) ih = here e ih
 
 pub line_on : (m : Mode) (d : ℕ) (s : List ℕ) → read_blocks m d s ≡ reading_on d (read_blocks m 0 s)
 unfolding read_blocks

@@ -1,6 +1,7 @@
 -- What is put into a set, and what the set then is, goes by the bytes that its names and values stand for: two sets into which the same bytes are put,
 -- each over texts of its own, are refused alike and mean the same.
 -- Assumes nothing.
+use Rattle.std.specs.Prelude.{Err, Ok}
 use mathlib.Core.Path.{◌≡◌, refl, sym, ◌∙◌, ap}
 use mathlib.Core.Bool.{Bool, true, false, cond, ◌||◌}
 use mathlib.Core.List.{List, [], ◌∷◌, ◌++◌, map, foldl, map-append}
@@ -11,7 +12,6 @@ use Rattle.base_lists.specs.Lists.{is_some, same}
 use Rattle.base_lists.proofs.Each.{get_map}
 use Rattle.base_refusals.specs.declared.Refusal.{Refusal}
 use Rattle.base_refusals.specs.declared.Refusal.TheVariants.{TooManyClasses, TooManyKeys}
-use Rattle.base_refusals.specs.declared.Outcome.TheVariants.{Passed, Refused}
 use Rattle.text_escapes.specs.Unescape.{unescape}
 use Rattle.block_grammar.specs.Meaning.{Entry, id_name, class_name, classes_once}
 use Rattle.set_exchange.specs.Exchange.{other_origin, changed_over, other_text, other_value, other_name, other_row, firsts_by, exchanged}
@@ -134,11 +134,11 @@ module _ (t : Texts) where
 abbrev within : {A : Type 0} → Rows → A → A → A → A
 within s c k x = cond (ltb max_classes (length s.classes)) c (cond (ltb max_keys (length s.keys)) k x)
 
-limits_by : (s : Rows) → (limited s).outcome ≡ within s (Refused TooManyClasses) (Refused TooManyKeys) Passed
+limits_by : (s : Rows) → (limited s).outcome ≡ within s (Err TooManyClasses) (Err TooManyKeys) (Ok tt)
 unfolding limited
 limits_by s = go (ltb max_classes (length s.classes)) (ltb max_keys (length s.keys))
   where
-    go : (x y : Bool) → (cond x (refusing TooManyClasses) (cond y (refusing TooManyKeys) (record { outcome = Passed; set = table_of s }))).outcome ≡ cond x (Refused TooManyClasses) (cond y (Refused TooManyKeys) Passed)
+    go : (x y : Bool) → (cond x (refusing TooManyClasses) (cond y (refusing TooManyKeys) (record { outcome = Ok tt; set = table_of s }))).outcome ≡ cond x (Err TooManyClasses) (cond y (Err TooManyKeys) (Ok tt))
     go true y = refl
     go false true = refl
     go false false = refl
@@ -156,7 +156,7 @@ means_by : (t : Texts) (s : Rows) → meaning_of t (limited s).set ≡ within s 
 unfolding limited
 means_by t s = go (ltb max_classes (length s.classes)) (ltb max_keys (length s.keys))
   where
-    go : (x y : Bool) → meaning_of t (cond x (refusing TooManyClasses) (cond y (refusing TooManyKeys) (record { outcome = Passed; set = table_of s }))).set ≡ cond x [] (cond y [] (classes_once (meant t s)))
+    go : (x y : Bool) → meaning_of t (cond x (refusing TooManyClasses) (cond y (refusing TooManyKeys) (record { outcome = Ok tt; set = table_of s }))).set ≡ cond x [] (cond y [] (classes_once (meant t s)))
     go true y = none_means t empty_set refl
     go false true = none_means t empty_set refl
     go false false = table_means t s
@@ -169,7 +169,7 @@ id_by_lem : (t : Texts) (s : Rows) → id_bytes t (limited s).set ≡ within s [
 unfolding limited
 id_by_lem t s = go (ltb max_classes (length s.classes)) (ltb max_keys (length s.keys))
   where
-    go : (x y : Bool) → id_bytes t (cond x (refusing TooManyClasses) (cond y (refusing TooManyKeys) (record { outcome = Passed; set = table_of s }))).set ≡ cond x [] (cond y [] (id_values t s.ident))
+    go : (x y : Bool) → id_bytes t (cond x (refusing TooManyClasses) (cond y (refusing TooManyKeys) (record { outcome = Ok tt; set = table_of s }))).set ≡ cond x [] (cond y [] (id_values t s.ident))
     go true y = none_id t
     go false true = none_id t
     go false false = rw (rows_table s)

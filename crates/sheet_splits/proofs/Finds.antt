@@ -1,5 +1,6 @@
 -- What is found at a line, by the lines from there on alone.
 -- Assumes nothing.
+use Rattle.std.specs.Prelude.{Option}
 use mathlib.Core.Path.{◌≡◌, refl}
 use mathlib.Core.Bool.{Bool, true, false, cond, not, ◌&&◌, ◌||◌}
 use mathlib.Core.List.{List, [], ◌∷◌, ◌++◌, map, map-append}
@@ -11,7 +12,6 @@ use Rattle.text_tabs.specs.Columns.{indent_from, capped}
 use Rattle.text_lines.specs.Lines.{lines, line_at, first_of}
 use Rattle.text_lines.specs.Trim.{trim, is_blank_line}
 use Rattle.block_payloads.specs.Payloads.{opens, ends_in_close}
-use Rattle.block_grammar.specs.declared.Quote.{Quote}
 use Rattle.base_refusals.specs.declared.Refusal.TheVariants.{NoReading, NothingThere}
 use Rattle.run_joins.specs.Joins.{Lined, So, is_first, passes, after}
 use Rattle.block_trimmed_line.specs.Fronts.{begins_indented, front_of, opens_at}
@@ -29,7 +29,7 @@ unfolding indent_from
 flat_indent [] e = refl
 flat_indent (b ∷ s) e = rw e
 
-flat_stops : (brace : ℕ) (quote : Quote) (l : List ℕ) → begins_indented l ≡ false → passes false brace quote 0 l ≡ false
+flat_stops : (brace : ℕ) (quote : Option ℕ) (l : List ℕ) → begins_indented l ≡ false → passes false brace quote 0 l ≡ false
 unfolding passes capped
 flat_stops brace quote l e = rw (flat_indent l e, le-ltb (capped brace) 0 zero-le) (go (is_blank_line l))
   where

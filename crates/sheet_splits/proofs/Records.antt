@@ -1,6 +1,7 @@
 -- The records of a sheet that is parted: those of the first part, and then those of the second, their lines and places counted on. So a mended list of records is
 -- the fresh one.
 -- Assumes nothing.
+use Rattle.std.specs.Prelude.{Err, Ok, Result}
 use mathlib.Core.Path.{◌≡◌, refl, sym, ◌∙◌, ap}
 use mathlib.Core.Bool.{Bool, true, false, cond}
 use mathlib.Core.List.{List, [], ◌∷◌, ◌++◌, map, flat_map, map-append}
@@ -13,8 +14,6 @@ use Rattle.base_lists.proofs.Flat.{flat_append}
 use Rattle.base_bytes.specs.declared.Mode.TheVariants.{Loose}
 use Rattle.base_refusals.specs.Numbers.{max_text}
 use Rattle.base_refusals.specs.declared.Refusal.TheVariants.{NoReading, NothingThere}
-use Rattle.base_refusals.specs.declared.Outcome as outcomes
-use Rattle.base_refusals.specs.declared.Outcome.TheVariants as outcome
 use Rattle.text_lines.specs.Lines.{lines, line_from, line_at}
 use Rattle.text_lines.specs.Trim.{trim}
 use Rattle.text_lines.proofs.Lines.{line_at_lem, next_beyond}
@@ -42,6 +41,7 @@ use Rattle.sheet_splits.proofs.Finds.{Flat}
 use Rattle.sheet_splits.proofs.Bytes.{id_bytes, Alike}
 use Rattle.sheet_splits.proofs.Alike.{line_alike, run_alike}
 use Rattle.sheet_splits.proofs.Split.{split, flush_front, flush-behind}
+use Rattle.base_refusals.specs.declared.Refusal.{Refusal}
 
 -- ---- the record of a try, by what its set comes to
 
@@ -65,16 +65,16 @@ added_alike : (n k at : ℕ) {t t' : Texts} {f f' : Filled} → Alike t t' f f' 
 unfolding block_verdict
 added_alike n k at {t} {t'} {f} {f'} a = rw (id_by_lem t f.set, id_by_lem t' f'.set, a.ids, a.outcome) (go f'.outcome)
   where
-    go : (o : outcomes.Outcome) → listed_if (record { line = n; count = k; offset = at; id = id_by (id_bytes t' f'.set) }) (block_verdict t f.set o) ≡ listed_if (record { line = n; count = k; offset = at; id = id_by (id_bytes t' f'.set) }) (block_verdict t' f'.set o)
-    go (outcome.Refused r) = refl
-    go outcome.Passed = rw a.meaning
+    go : (o : Result (Unit {0}) Refusal) → listed_if (record { line = n; count = k; offset = at; id = id_by (id_bytes t' f'.set) }) (block_verdict t f.set o) ≡ listed_if (record { line = n; count = k; offset = at; id = id_by (id_bytes t' f'.set) }) (block_verdict t' f'.set o)
+    go (Err r) = refl
+    go (Ok _) = rw a.meaning
 
 added-later : (d o n k at : ℕ) (t : Texts) (f : Filled) → added_in (d + n) k (o + at) t f ≡ map (moved_on d o) (added_in n k at t f)
 added-later d o n k at t f = go (block_verdict t f.set f.outcome)
   where
-    go : (v : outcomes.Outcome) → listed_if (record { line = d + n; count = k; offset = o + at; id = id_of t f.set }) v ≡ map (moved_on d o) (listed_if (record { line = n; count = k; offset = at; id = id_of t f.set }) v)
-    go (outcome.Refused r) = refl
-    go outcome.Passed = refl
+    go : (v : Result (Unit {0}) Refusal) → listed_if (record { line = d + n; count = k; offset = o + at; id = id_of t f.set }) v ≡ map (moved_on d o) (listed_if (record { line = n; count = k; offset = at; id = id_of t f.set }) v)
+    go (Err r) = refl
+    go (Ok _) = refl
 
 -- ---- what a try adds, by its own bytes
 

@@ -1,5 +1,6 @@
 -- One sheet more: its numbers are those of the list of it alone, and what is answered has the number of its order.
 -- Assumes nothing.
+use Rattle.std.specs.Prelude.{Err, Ok, Result}
 use mathlib.Core.Path.{◌≡◌, refl, sym, ◌∙◌, ap}
 use mathlib.Core.Bool.{Bool, true, false, cond, ◌&&◌}
 use mathlib.Core.List.{List, [], ◌∷◌}
@@ -12,8 +13,6 @@ use Rattle.base_refusals.specs.Numbers.{max_text, number_of, outcome_no}
 use Rattle.base_refusals.specs.Orders.{Ground, in_order, on_paper}
 use Rattle.base_refusals.specs.declared.Refusal.{Refusal}
 use Rattle.base_refusals.specs.declared.Refusal.TheVariants.{JoinFull}
-use Rattle.base_refusals.specs.declared.Outcome.{Outcome}
-use Rattle.base_refusals.specs.declared.Outcome.TheVariants.{Passed, Refused}
 use Rattle.text_checks.specs.Check.{check_of, is_text}
 use Rattle.text_checks.proofs.Texts.{passed, refused}
 use Rattle.text_lines.specs.Lines.{ranges}
@@ -65,15 +64,15 @@ numbers_one : (t : List ℕ) → numbers_of (t ∷ []) ≡ numbers_by t (outcome
 unfolding numbers_of
 numbers_one t = simp (total-one, kept_one, greatest_one)
 
-tries_are : (t : List ℕ) → check_of t ≡ Passed → tries_in t ≡ tries_at t max_text 1 0
+tries_are : (t : List ℕ) → check_of t ≡ Ok tt → tries_in t ≡ tries_at t max_text 1 0
 unfolding tries_in tries_at ranges
 tries_are t e = rw e
 
-tries_none : (t : List ℕ) {r : Refusal} → check_of t ≡ Refused r → tries_in t ≡ []
+tries_none : (t : List ℕ) {r : Refusal} → check_of t ≡ Err r → tries_in t ≡ []
 unfolding tries_in
 tries_none t e = rw e
 
-passed_numbers : (t : List ℕ) → check_of t ≡ Passed → sheet_numbers t (tries_at t max_text 1 0) ≡ numbers_of (t ∷ [])
+passed_numbers : (t : List ℕ) → check_of t ≡ Ok tt → sheet_numbers t (tries_at t max_text 1 0) ≡ numbers_of (t ∷ [])
 unfolding sheet_numbers
 passed_numbers t e = sym (numbers_one t ∙ (rw (e, tries_are t e)))
 
@@ -81,7 +80,7 @@ none_numbers : (t : List ℕ) (n : ℕ) → numbers_by t n [] ≡ refused_number
 unfolding refused_numbers blocks_by only_blocks keep total greatest_of
 none_numbers t n = refl
 
-refused_numbers_lem : (t : List ℕ) {r : Refusal} → check_of t ≡ Refused r → refused_numbers (number_of r) ≡ numbers_of (t ∷ [])
+refused_numbers_lem : (t : List ℕ) {r : Refusal} → check_of t ≡ Err r → refused_numbers (number_of r) ≡ numbers_of (t ∷ [])
 refused_numbers_lem t {r} e = sym (numbers_one t ∙ (rw (e, tries_none t e) (none_numbers t (number_of r))))
 
 -- ---- what is promised
@@ -91,7 +90,7 @@ module _ (a : Totals) (t : List ℕ) (cap : ℕ) where
   unfolding feed_of feed_order on_paper in_order
   feed_paper = go (lacks_join t cap)
     where
-      go : (b : Bool) → added_paper (cond b (record { outcome = Refused JoinFull; totals = a }) (add_totals a (totals_of (t ∷ []))))
+      go : (b : Bool) → added_paper (cond b (record { outcome = Err JoinFull; totals = a }) (add_totals a (totals_of (t ∷ []))))
           ≡ on_paper (Ground.given JoinFull b ∷ add_order a (totals_of (t ∷ []))) (numbers_added a.numbers (numbers_of (t ∷ [])))
       go true = refl
       go false = added_paper_lem a (totals_of (t ∷ []))
@@ -119,7 +118,7 @@ module _ (a : Totals) (t : List ℕ) (cap : ℕ) where
     tries_on = rw l
 
   module _ (l : lacks_join t cap ≡ true) where
-    feed_off : record { outcome = Refused JoinFull; totals = a } ≡ feed_of a t cap
+    feed_off : record { outcome = Err JoinFull; totals = a } ≡ feed_of a t cap
     unfolding feed_of
     feed_off = rw l
 
@@ -138,17 +137,17 @@ module _ (a : Totals) (t : List ℕ) (cap : ℕ) where
     fed : {r : Added} {join' : List ℕ} → r ≡ feed_of a t cap → join' ≡ join_behind join (feed_tries t cap) → Fed r join'
     fed e f = (e, (f, ap added_paper e ∙ feed_paper))
 
-    module _ {o : Outcome} (e : o ≡ check_of t) where
+    module _ {o : Result (Unit {0}) Refusal} (e : o ≡ check_of t) where
       -- 1 or 2
-      pub fed_refused : {why : Refusal} {s : Totals} {r : Added} → o ≡ Refused why → s ≡ record { numbers = refused_numbers (number_of why) } → r ≡ add_totals a s → Fed r join
+      pub fed_refused : {why : Refusal} {s : Totals} {r : Added} → o ≡ Err why → s ≡ record { numbers = refused_numbers (number_of why) } → r ≡ add_totals a s → Fed r join
       fed_refused q p k =
           let l = lacks_not (sym (refused t e q)) in
           fed (k ∙ feed_on l (p ∙ ap (λ ns. record { numbers = ns }) (refused_numbers_lem t (sym e ∙ q)))) (none_behind join ∙ ap (join_behind join) (sym (tries_on l ∙ tries_none t (sym e ∙ q))))
 
       -- a sheet that is a text
-      module _ (q : o ≡ Passed) where
+      module _ (q : o ≡ Ok tt) where
         -- 9
-        pub fed_short : cap < max_text → Fed (record { outcome = Refused JoinFull; totals = a }) join
+        pub fed_short : cap < max_text → Fed (record { outcome = Err JoinFull; totals = a }) join
         fed_short h = let l = lacks_short (sym (passed t e q)) h in fed (feed_off l) (none_behind join ∙ ap (join_behind join) (sym (tries_off l)))
 
         pub fed_passed : {s : Totals} {r : Added} {join' : List ℕ} → max_text ≤ cap → s ≡ record { numbers = sheet_numbers t (tries_at t max_text 1 0) }

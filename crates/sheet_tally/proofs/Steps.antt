@@ -1,5 +1,6 @@
 -- A try more: what is added to the numbers of a sheet.
 -- Assumes nothing.
+use Rattle.std.specs.Prelude.{Err, Ok, Result}
 use mathlib.Core.Path.{◌≡◌, refl, sym, ◌∙◌, ap}
 use mathlib.Core.Bool.{Bool, true, false, cond, not}
 use mathlib.Core.List.{List, [], ◌∷◌, ◌++◌, append-nil}
@@ -12,8 +13,6 @@ use lib.ListN.{length, length-append}
 use Rattle.base_lists.proofs.More.{contra}
 use Rattle.base_refusals.specs.Numbers.{number_of, outcome_no}
 use Rattle.base_refusals.specs.declared.Refusal.{Refusal}
-use Rattle.base_refusals.specs.declared.Outcome.{Outcome}
-use Rattle.base_refusals.specs.declared.Outcome.TheVariants.{Passed, Refused}
 use Rattle.base_refusals.proofs.Numbers.{number_among}
 use Rattle.read_blocks.specs.Blocks.{lines_of, lookahead_of, block_of}
 use Rattle.read_blocks.specs.declared.Block.{Block}
@@ -29,16 +28,16 @@ use Rattle.sheet_tally.proofs.Lists.{total_more, greatest_more, keep_append, kep
 -- ---- the code's step, by what was read
 
 module _ (b : Block) {j J : ℕ} (e : j ≡ J) (ns : List ℕ) {r : Totals} (s : r ≡ record { numbers = with_run j b.lookahead ns }) where
-  pub tried_none : (v : Outcome) → b.lines ≡ 0 → r ≡ record { numbers = with_tried J b v ns }
+  pub tried_none : (v : Result (Unit {0}) Refusal) → b.lines ≡ 0 → r ≡ record { numbers = with_tried J b v ns }
   unfolding with_tried
   tried_none v n = s ∙ (rw (e, eq-eqb b.lines 0 n))
 
-  module _ (n : b.lines ≡ 0 → ⊥) {v u : Outcome} (q : v ≡ u) {w : Totals} where
-    pub tried-printed : v ≡ Passed → w ≡ record { numbers = with_printed b.lines b.set.nclass b.set.nkey r.numbers } → w ≡ record { numbers = with_tried J b u ns }
+  module _ (n : b.lines ≡ 0 → ⊥) {v u : Result (Unit {0}) Refusal} (q : v ≡ u) {w : Totals} where
+    pub tried-printed : v ≡ Ok tt → w ≡ record { numbers = with_printed b.lines b.set.nclass b.set.nkey r.numbers } → w ≡ record { numbers = with_tried J b u ns }
     unfolding with_tried
     tried-printed p k = k ∙ (rw (s, e, ← q, p, ne_eqb b.lines 0 n))
 
-    pub tried_refused : {why : Refusal} → v ≡ Refused why → w ≡ record { numbers = with_refused (number_of why) r.numbers } → w ≡ record { numbers = with_tried J b u ns }
+    pub tried_refused : {why : Refusal} → v ≡ Err why → w ≡ record { numbers = with_refused (number_of why) r.numbers } → w ≡ record { numbers = with_tried J b u ns }
     unfolding with_tried
     tried_refused p k = k ∙ (rw (s, e, ← q, p, ne_eqb b.lines 0 n))
 
@@ -118,7 +117,7 @@ module _ (t : List ℕ) (xs : List Try) (x : Try) where
         go true = refl
         go false = refl
 
-    pub step_printed : verdict_at t x ≡ Passed
+    pub step_printed : verdict_at t x ≡ Ok tt
         → with_printed (lines_of x.found) (classes_at t x) (keys_at t x) (with_run (joined_at t x) (lookahead_of x.found) (sheet_numbers t xs)) ≡ sheet_numbers t more
     unfolding sheet_numbers
     step_printed p =
@@ -131,7 +130,7 @@ module _ (t : List ℕ) (xs : List Try) (x : Try) where
         other : (n : ℕ) → eqb 0 n ≡ false → blocks_by n t more ≡ blocks_by n t xs
         other n e = none_more n (one_of t x n b (ap outcome_no p) ∙ (rw e))
 
-    pub step_refused : {why : Refusal} → verdict_at t x ≡ Refused why
+    pub step_refused : {why : Refusal} → verdict_at t x ≡ Err why
         → with_refused (number_of why) (with_run (joined_at t x) (lookahead_of x.found) (sheet_numbers t xs)) ≡ sheet_numbers t more
     unfolding sheet_numbers
     step_refused {why} p =
@@ -150,8 +149,8 @@ stepped t xs x e = go (eqb (lines_of x.found) 0) e (verdict_at t x) refl
     N : List ℕ
     N = with_run (joined_at t x) (lookahead_of x.found) (sheet_numbers t xs)
 
-    go : (y : Bool) → is_block x.found ≡ not y → (v : Outcome) → verdict_at t x ≡ v
+    go : (y : Bool) → is_block x.found ≡ not y → (v : Result (Unit {0}) Refusal) → verdict_at t x ≡ v
         → cond y N (with_verdict (lines_of x.found) (classes_at t x) (keys_at t x) v N) ≡ sheet_numbers t (xs ++ (x ∷ []))
     go true b v q = step_none t xs x b
-    go false b Passed q = step_printed t xs x b q
-    go false b (Refused why) q = step_refused t xs x b q
+    go false b (Ok _) q = step_printed t xs x b q
+    go false b (Err why) q = step_refused t xs x b q

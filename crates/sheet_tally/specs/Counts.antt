@@ -1,8 +1,6 @@
 -- "Numbers over all sheets": "Counted exactly, as the sheet program goes, in this order".
-use Rattle.std.specs.Prelude.{ℕ, Bool, cond, List, [], ◌∷◌, eqb, ltb, length}
+use Rattle.std.specs.Prelude.{ℕ, Bool, cond, List, [], ◌∷◌, eqb, ltb, length, Err, Ok, Result}
 use Rattle.base_refusals.specs.Numbers.{max_text, outcome_no}
-use Rattle.base_refusals.specs.declared.Outcome as outcomes
-use Rattle.base_refusals.specs.declared.Outcome.TheVariants as outcome
 use Rattle.text_checks.specs.Check.{check_of}
 use Rattle.text_lines.specs.Lines.{ranges}
 use Rattle.run_lines.specs.Runs.{run_at}
@@ -11,13 +9,14 @@ use Rattle.sheet_blocks.specs.Sheets.{Try, tries_from, only_blocks}
 use Rattle.sheet_verdicts.specs.Verdicts.{verdict_at}
 use Rattle.sheet_totals.specs.declared.Totals.{Totals}
 use Rattle.sheet_tally.specs.Lists.{total, greatest_of, keep}
+use Rattle.base_refusals.specs.declared.Refusal.{Refusal}
 
 -- ---- of one sheet
 
 -- "as the sheet program goes": "from line 1, it tries .. at each line"; for 1 or 2 it tries none
-abbrev pub tries_by : List ℕ → outcomes.Outcome → List Try
-tries_by t (outcome.Refused r) = []
-tries_by t outcome.Passed = tries_from t max_text 1 0 (ranges t)
+abbrev pub tries_by : List ℕ → Result (Unit {0}) Refusal → List Try
+tries_by t (Err r) = []
+tries_by t (Ok _) = tries_from t max_text 1 0 (ranges t)
 
 unfoldable pub tries_in : List ℕ → List Try
 tries_in t = tries_by t (check_of t)

@@ -1,9 +1,8 @@
 -- One sheet more: "fed one after the other".
-use Rattle.std.specs.Prelude.{ℕ, Bool, cond, ◌&&◌, List, [], ◌∷◌, ltb}
+use Rattle.std.specs.Prelude.{ℕ, Bool, cond, ◌&&◌, List, [], ◌∷◌, ltb, Err}
 use Rattle.base_refusals.specs.Numbers.{max_text}
 use Rattle.base_refusals.specs.Orders.{Ground}
 use Rattle.base_refusals.specs.declared.Refusal.TheVariants.{JoinFull}
-use Rattle.base_refusals.specs.declared.Outcome.TheVariants.{Refused}
 use Rattle.text_checks.specs.Check.{is_text}
 use Rattle.sheet_blocks.specs.Sheets.{Try}
 use Rattle.sheet_totals.specs.Totals.{add_totals, add_order}
@@ -17,7 +16,7 @@ lacks_join t cap = is_text t && ltb cap max_text
 
 -- "17 a total would not fit; the report then stays as before that sheet"; so it does on 9
 unfoldable pub feed_of : Totals → List ℕ → ℕ → Added
-feed_of a t cap = cond (lacks_join t cap) (record { outcome = Refused JoinFull; totals = a }) (add_totals a (totals_of (t ∷ [])))
+feed_of a t cap = cond (lacks_join t cap) (record { outcome = Err JoinFull; totals = a }) (add_totals a (totals_of (t ∷ [])))
 
 -- its order: 9, 17
 unfoldable pub feed_order : Totals → List ℕ → ℕ → List Ground

@@ -1,14 +1,13 @@
 -- What private functions promise: the numbers of a sheet, line after line. Nothing that a reader of the public promises has to believe.
-use Rattle.std.specs.Prelude.{◌≡◌, ℕ, suc, ◌+◌, ◌-◌, ◌≤◌, cond, List, [], ◌∷◌, eqb, ltb, length, get_or, set}
+use Rattle.std.specs.Prelude.{◌≡◌, ℕ, suc, ◌+◌, ◌-◌, ◌≤◌, cond, List, [], ◌∷◌, eqb, ltb, length, get_or, set, Err, Ok, Result}
 use Rattle.base_refusals.specs.Numbers.{number_of}
-use Rattle.base_refusals.specs.declared.Outcome as outcomes
-use Rattle.base_refusals.specs.declared.Outcome.TheVariants as outcome
 use Rattle.read_blocks.specs.Blocks.{lines_of, lookahead_of}
 use Rattle.read_blocks.specs.declared.Block.{Block}
 use Rattle.sheet_blocks.specs.Sheets.{Try}
 use Rattle.sheet_totals.specs.Totals.{total_places}
 use Rattle.sheet_tally.specs.Lists.{total, greatest_of, keep}
 use Rattle.sheet_tally.specs.Counts.{blocks_by, printed, is_wrapped, classes_at, keys_at, joined_at}
+use Rattle.base_refusals.specs.declared.Refusal.{Refusal}
 
 -- how many of the lines at the front hold so many bytes
 unfoldable pub lines_within : List (List ℕ) → ℕ → ℕ
@@ -73,12 +72,12 @@ unfoldable pub with_refused : ℕ → List ℕ → List ℕ
 with_refused n ns = cond (eqb n 6) (add_at 5 1 ns) (cond (eqb n 7) (add_at 6 1 ns) (cond (eqb n 10) (add_at 7 1 ns) ns))
 
 -- a block of so many lines, by its verdict
-abbrev pub with_verdict : ℕ → ℕ → ℕ → outcomes.Outcome → List ℕ → List ℕ
-with_verdict k classes keys outcome.Passed ns = with_printed k classes keys ns
-with_verdict k classes keys (outcome.Refused r) ns = with_refused (number_of r) ns
+abbrev pub with_verdict : ℕ → ℕ → ℕ → Result (Unit {0}) Refusal → List ℕ → List ℕ
+with_verdict k classes keys (Ok _) ns = with_printed k classes keys ns
+with_verdict k classes keys (Err r) ns = with_refused (number_of r) ns
 
 -- what was read at a line, where its run joined so many lines
-unfoldable pub with_tried : ℕ → Block → outcomes.Outcome → List ℕ → List ℕ
+unfoldable pub with_tried : ℕ → Block → Result (Unit {0}) Refusal → List ℕ → List ℕ
 with_tried joined b v ns =
     cond (eqb b.lines 0) (with_run joined b.lookahead ns)
     (with_verdict b.lines b.set.nclass b.set.nkey v (with_run joined b.lookahead ns))

@@ -14,7 +14,7 @@ ghost use Rattle.sheet_tally.specs.Counts.{numbers_of};
 ghost use Rattle.sheet_tally.specs.Feeds.{feed_of, feed_order, feed_tries};
 ghost use Rattle.sheet_tally.specs.Inner.{lines_within, Low, Lows, line_most, max_count, add_at, raised_to, with_run, with_printed, with_refused, with_tried, sheet_numbers, refused_numbers};
 
-use base_refusals::{Outcome, Refusal};
+use base_refusals::Refusal;
 use read_blocks::Block;
 use sheet_totals::{Added, Totals};
 
@@ -131,8 +131,8 @@ fn counted<'a>(totals: Totals, text: &'a [u8], join: &'a [u8], at: usize, block:
         return t;
     }
     match sheet_verdicts::verdict_of(text, join, block) {
-        Outcome::Passed => with_printed(t, block.lines, block.set.nclass, block.set.nkey),
-        Outcome::Refused(why) => with_refused(t, why),
+        Ok(()) => with_printed(t, block.lines, block.set.nclass, block.set.nkey),
+        Err(why) => with_refused(t, why),
     }
 }
 
@@ -198,11 +198,11 @@ pub fn feed(totals: Totals, text: &[u8], join: &mut [u8]) -> Added
     ensures result_value { added_paper result ≡ on_paper (feed_order totals text.now (length join.old)) (numbers_added totals.numbers (numbers_of (text.now ∷ []))) }
 {
     match text_checks::check_text(text) {
-        Outcome::Refused(why) => sheet_totals::add_totals(totals, refused_sheet(why)),
-        Outcome::Passed => {
+        Err(why) => sheet_totals::add_totals(totals, refused_sheet(why)),
+        Ok(()) => {
             if join.len() < base_refusals::MAX_TEXT {
                 return Added {
-                    outcome: Outcome::Refused(Refusal::JoinFull),
+                    outcome: Err(Refusal::JoinFull),
                     totals,
                 };
             }

@@ -1,5 +1,6 @@
 -- One place of two reports, and the loop over the places.
 -- Assumes nothing.
+use Rattle.std.specs.Prelude.{Err, Ok}
 use mathlib.Core.Path.{◌≡◌, refl, sym, ◌∙◌, ap}
 use mathlib.Core.Bool.{Bool, true, false, cond, ◌||◌}
 use mathlib.Core.List.{List, [], ◌∷◌, ◌++◌, append_assoc, append-nil}
@@ -16,7 +17,6 @@ use Rattle.base_refusals.specs.Numbers.{refused_paper, passed_paper}
 use Rattle.base_refusals.specs.Orders.{in_order, on_paper}
 use Rattle.base_refusals.proofs.Said.{said}
 use Rattle.base_refusals.specs.declared.Refusal.TheVariants.{TotalTooLarge}
-use Rattle.base_refusals.specs.declared.Outcome.TheVariants.{Passed, Refused}
 use Rattle.sheet_totals.specs.declared.Added.{Added}
 
 -- ---- one place
@@ -101,14 +101,14 @@ adds_go {xs} {ys} {ts} {i} inv h e =
 -- a number that doesn't fit: the answer is the first report
 pub adds_stop : {a b : Totals} {ts : List ℕ} {i : ℕ} → Adds a.numbers b.numbers ts i → i < total_places
     → ltb max_total (added_at i (get_or a.numbers i 0) (get_or b.numbers i 0)) ≡ true
-    → record { outcome = Refused TotalTooLarge; totals = a } ≡ add_totals a b
+    → record { outcome = Err TotalTooLarge; totals = a } ≡ add_totals a b
 unfolding add_totals overflows
 adds_stop {a} {b} {ts} {i} inv h e =
     let c = added_cons i a.numbers b.numbers i (omega (arith, inv.left)) (omega (arith, inv.right)) in
     rw (← inv.full, c, e)
 
 pub adds_end : {a b t : Totals} {i : ℕ} → Adds a.numbers b.numbers t.numbers i → total_places ≤ i
-    → record { outcome = Passed; totals = t } ≡ add_totals a b
+    → record { outcome = Ok tt; totals = t } ≡ add_totals a b
 unfolding add_totals overflows added_from
 adds_end {a} {b} {t} {i} inv h =
     let d : drop i a.numbers ≡ [] = drop_of_length-le a.numbers {i = i} (omega (arith, inv.left)) in

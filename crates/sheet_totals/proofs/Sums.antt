@@ -1,5 +1,6 @@
 -- Reports that add up: in any order, with nothing from the empty one, and refused exactly where one of the twelve sums is too large.
 -- Assumes nothing.
+use Rattle.std.specs.Prelude.{Err, Ok, Result}
 use mathlib.Core.Path.{◌≡◌, refl, sym, ◌∙◌, ap}
 use mathlib.Core.Bool.{Bool, true, false, cond, ◌||◌}
 use mathlib.Core.List.{List, [], ◌∷◌}
@@ -11,10 +12,9 @@ use lib.ListN.{length, get_or, replicate}
 use Rattle.base_lists.proofs.More.{contra}
 use Rattle.sheet_totals.specs.Totals.{total_places, longest_place, max_total, empty_totals, larger, added_at, added_from, numbers_added, overflows, added_by, add_totals, IsReport, TooLarge}
 use Rattle.sheet_totals.specs.declared.Totals.{Totals}
+use Rattle.base_refusals.specs.Numbers.{passed}
 use Rattle.base_refusals.specs.declared.Refusal.{Refusal}
 use Rattle.base_refusals.specs.declared.Refusal.TheVariants.{TotalTooLarge}
-use Rattle.base_refusals.specs.declared.Outcome as outcomes
-use Rattle.base_refusals.specs.declared.Outcome.TheVariants.{Passed, Refused}
 use Rattle.sheet_totals.specs.declared.Added.{Added}
 use Rattle.sheet_totals.proofs.Adding.{at_longest, at_other, larger_right, larger_left, larger_le}
 
@@ -169,17 +169,17 @@ fits_without xs ys h k e = from_fits 0 xs ys (h ∙ sym k) e
 
 -- an answer is refused or it is the sum
 pub add_fits : (a b : Totals) → overflows (numbers_added a.numbers b.numbers) ≡ false
-    → add_totals a b ≡ record { outcome = Passed; totals = record { numbers = numbers_added a.numbers b.numbers } }
+    → add_totals a b ≡ record { outcome = Ok tt; totals = record { numbers = numbers_added a.numbers b.numbers } }
 unfolding add_totals
 add_fits a b e = rw e
 
-pub add_full : (a b : Totals) → overflows (numbers_added a.numbers b.numbers) ≡ true → add_totals a b ≡ record { outcome = Refused TotalTooLarge; totals = a }
+pub add_full : (a b : Totals) → overflows (numbers_added a.numbers b.numbers) ≡ true → add_totals a b ≡ record { outcome = Err TotalTooLarge; totals = a }
 unfolding add_totals
 add_full a b e = rw e
 
-is_full : outcomes.Outcome → Bool
-is_full (Refused r) = true
-is_full Passed = false
+is_full : Result (Unit {0}) Refusal → Bool
+is_full (Err r) = true
+is_full (Ok _) = false
 
 told_full : (a b : Totals) → is_full (add_totals a b).outcome ≡ overflows (numbers_added a.numbers b.numbers)
 unfolding add_totals is_full
@@ -189,33 +189,33 @@ told_full a b = go (overflows (numbers_added a.numbers b.numbers))
     go true = refl
     go false = refl
 
-pub full_fits : {r : Refusal} → Refused r ≡ Passed → ⊥
+pub full_fits : {r : Refusal} → Err r ≡ passed → ⊥
 unfolding is_full
 full_fits e = contra true refl (ap is_full e)
 
-pub fits_is : (a b : Totals) → (add_totals a b).outcome ≡ Passed → overflows (numbers_added a.numbers b.numbers) ≡ false
+pub fits_is : (a b : Totals) → (add_totals a b).outcome ≡ Ok tt → overflows (numbers_added a.numbers b.numbers) ≡ false
 unfolding is_full
 fits_is a b e = sym (told_full a b) ∙ ap is_full e
 
-pub full_is : (a b : Totals) → (add_totals a b).outcome ≡ Refused TotalTooLarge → overflows (numbers_added a.numbers b.numbers) ≡ true
+pub full_is : (a b : Totals) → (add_totals a b).outcome ≡ Err TotalTooLarge → overflows (numbers_added a.numbers b.numbers) ≡ true
 unfolding is_full
 full_is a b e = sym (told_full a b) ∙ ap is_full e
 
 -- the neutral element, on both sides
-pub add_empty_right : (a : Totals) → IsReport a.numbers → add_totals a empty_totals ≡ record { outcome = Passed; totals = a }
+pub add_empty_right : (a : Totals) → IsReport a.numbers → add_totals a empty_totals ≡ record { outcome = Ok tt; totals = a }
 add_empty_right a r =
     let e = added_empty a.numbers r.long in
     add_fits a empty_totals (rw e r.fits) ∙ rw e
 
-pub add_empty_left : (a : Totals) → IsReport a.numbers → add_totals empty_totals a ≡ record { outcome = Passed; totals = a }
+pub add_empty_left : (a : Totals) → IsReport a.numbers → add_totals empty_totals a ≡ record { outcome = Ok tt; totals = a }
 add_empty_left a r =
     let e = added_comm empty_totals.numbers a.numbers ∙ added_empty a.numbers r.long in
     add_fits empty_totals a (rw e r.fits) ∙ rw e
 
 -- associative where nothing is refused: if one grouping isn't refused, the other isn't, and the two are one report
 pub add_assoc : (a b c : Totals) → length a.numbers ≡ total_places → length b.numbers ≡ total_places → length c.numbers ≡ total_places
-    → (add_totals a b).outcome ≡ Passed → (add_totals (add_totals a b).totals c).outcome ≡ Passed
-    → ((add_totals b c).outcome ≡ Passed) × (add_totals a (add_totals b c).totals ≡ add_totals (add_totals a b).totals c)
+    → (add_totals a b).outcome ≡ Ok tt → (add_totals (add_totals a b).totals c).outcome ≡ Ok tt
+    → ((add_totals b c).outcome ≡ Ok tt) × (add_totals a (add_totals b c).totals ≡ add_totals (add_totals a b).totals c)
 add_assoc a b c la lb lc e f =
     let ab : (add_totals a b).totals ≡ record { numbers = numbers_added a.numbers b.numbers } = ap (λ (r : Added). r.totals) (add_fits a b (fits_is a b e)) in
     let g : overflows (numbers_added (numbers_added a.numbers b.numbers) c.numbers) ≡ false = rw ab at (fits_is (add_totals a b).totals c f) in
@@ -226,7 +226,7 @@ add_assoc a b c la lb lc e f =
       ap (λ (r : Added). r.outcome) bc,
       ap (λ (r : Added). add_totals a r.totals) bc
           ∙ (add_fits a (record { numbers = numbers_added b.numbers c.numbers }) h
-          ∙ (ap (λ (l : List ℕ). record { outcome = Passed; totals = record { numbers = l } }) (sym (added_assoc a.numbers b.numbers c.numbers))
+          ∙ (ap (λ (l : List ℕ). record { outcome = Ok tt; totals = record { numbers = l } }) (sym (added_assoc a.numbers b.numbers c.numbers))
           ∙ (sym (add_fits (record { numbers = numbers_added a.numbers b.numbers }) c g) ∙ ap (λ (t : Totals). add_totals t c) (sym ab)))),
     )
 
@@ -264,7 +264,7 @@ under_at [] e k h = absurd (omega arith)
 under_at (x ∷ xs) e zero h = ltb-false max_total x (split_or (ltb max_total x) (overflows xs) e).0
 under_at (x ∷ xs) e (suc k) h = under_at xs (split_or (ltb max_total x) (overflows xs) e).1 k (omega arith)
 
-pub full_too_large : (a b : Totals) → IsReport a.numbers → IsReport b.numbers → (add_totals a b).outcome ≡ Refused TotalTooLarge → TooLarge a.numbers b.numbers
+pub full_too_large : (a b : Totals) → IsReport a.numbers → IsReport b.numbers → (add_totals a b).outcome ≡ Err TotalTooLarge → TooLarge a.numbers b.numbers
 full_too_large a b ra rb e =
     let z = over_at (numbers_added a.numbers b.numbers) (full_is a b e) in
     let l : length (numbers_added a.numbers b.numbers) ≡ total_places = added_long a.numbers b.numbers ra.long rb.long in
@@ -280,7 +280,7 @@ full_too_large a b ra rb e =
     go {k} false q h m p s =
         record { place = k; summed = omega (arith, eqb-false k longest_place q); above = rw (at_other (get_or a.numbers k 0) (get_or b.numbers k 0) (eqb-false k longest_place q)) at m }
 
-pub too_large_full : (a b : Totals) → IsReport a.numbers → IsReport b.numbers → TooLarge a.numbers b.numbers → add_totals a b ≡ record { outcome = Refused TotalTooLarge; totals = a }
+pub too_large_full : (a b : Totals) → IsReport a.numbers → IsReport b.numbers → TooLarge a.numbers b.numbers → add_totals a b ≡ record { outcome = Err TotalTooLarge; totals = a }
 too_large_full a b ra rb t = go (overflows (numbers_added a.numbers b.numbers)) refl
   where
     k : ℕ
@@ -289,7 +289,7 @@ too_large_full a b ra rb t = go (overflows (numbers_added a.numbers b.numbers)) 
     h : k < longest_place
     h = t.summed
 
-    go : (x : Bool) → overflows (numbers_added a.numbers b.numbers) ≡ x → add_totals a b ≡ record { outcome = Refused TotalTooLarge; totals = a }
+    go : (x : Bool) → overflows (numbers_added a.numbers b.numbers) ≡ x → add_totals a b ≡ record { outcome = Err TotalTooLarge; totals = a }
     go true e = add_full a b e
     go false e =
         let l : length (numbers_added a.numbers b.numbers) ≡ total_places = added_long a.numbers b.numbers ra.long rb.long in

@@ -1,12 +1,11 @@
 -- "Numbers over all sheets": thirteen numbers of 64 bits, and how reports add up.
-use Rattle.std.specs.Prelude.{◌≡◌, ℕ, suc, ◌+◌, ◌<◌, Bool, false, cond, ◌||◌, List, [], ◌∷◌, eqb, ltb, length, get_or, replicate}
+use Rattle.std.specs.Prelude.{◌≡◌, ℕ, suc, ◌+◌, ◌<◌, Bool, false, cond, ◌||◌, List, [], ◌∷◌, eqb, ltb, length, get_or, replicate, Err, Ok, Result}
 use Rattle.base_refusals.specs.Numbers.{Paper, refused_paper, passed_paper}
 use Rattle.base_refusals.specs.Orders.{Ground}
 use Rattle.base_refusals.specs.declared.Refusal.TheVariants.{TotalTooLarge}
-use Rattle.base_refusals.specs.declared.Outcome as outcomes
-use Rattle.base_refusals.specs.declared.Outcome.TheVariants as outcome
 use Rattle.sheet_totals.specs.declared.Totals.{Totals}
 use Rattle.sheet_totals.specs.declared.Added.{Added}
+use Rattle.base_refusals.specs.declared.Refusal.{Refusal}
 
 -- "in this order: `sheets` .. `blocks` .. `longest`"
 abbrev pub total_places : ℕ
@@ -47,16 +46,16 @@ overflows (x ∷ xs) = ltb max_total x || overflows xs
 
 -- "the report then stays as before"
 abbrev pub added_by : Bool → Totals → List ℕ → Added
-added_by full a s = cond full (record { outcome = outcome.Refused TotalTooLarge; totals = a }) (record { outcome = outcome.Passed; totals = record { numbers = s } })
+added_by full a s = cond full (record { outcome = Err TotalTooLarge; totals = a }) (record { outcome = Ok tt; totals = record { numbers = s } })
 
 unfoldable pub add_totals : Totals → Totals → Added
 add_totals a b = added_by (overflows (numbers_added a.numbers b.numbers)) a (numbers_added a.numbers b.numbers)
 
 -- ---- on paper: 17, else the thirteen numbers
 
-abbrev pub totals_paper : Totals → outcomes.Outcome → Paper
-totals_paper t (outcome.Refused r) = refused_paper r
-totals_paper t outcome.Passed = passed_paper t.numbers
+abbrev pub totals_paper : Totals → Result (Unit {0}) Refusal → Paper
+totals_paper t (Err r) = refused_paper r
+totals_paper t (Ok _) = passed_paper t.numbers
 
 abbrev pub added_paper : Added → Paper
 added_paper r = totals_paper r.totals r.outcome

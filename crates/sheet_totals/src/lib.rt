@@ -5,7 +5,7 @@ ghost use Rattle.std.specs.Prelude.{◌≡◌, false, ltb};
 ghost use Rattle.base_refusals.specs.Orders.{on_paper};
 ghost use Rattle.sheet_totals.specs.Totals.{max_total, empty_totals, added_at, numbers_added, add_totals, added_paper, add_order};
 
-use base_refusals::{Outcome, Refusal};
+use base_refusals::Refusal;
 
 // Sheets, printed blocks, wrapped ones, refusals by 1, 2, 6, 7 and 10, classes, keys, joined lines, lookahead, and the longest block's lines.
 #[derive(Clone, Copy)]
@@ -16,7 +16,7 @@ pub struct Totals {
 // Whether every number fits 64 bits, and the report: where one doesn't fit, the one before.
 #[derive(Clone, Copy)]
 pub struct Added {
-    pub outcome: Outcome,
+    pub outcome: Result<(), Refusal>,
     pub totals: Totals,
 }
 
@@ -90,21 +90,19 @@ pub fn add_totals(a: Totals, b: Totals) -> Added
     ensures result_value { added_paper result ≡ on_paper (add_order a b) (numbers_added a.numbers b.numbers) }
 {
     let mut t = a;
-    let mut i: usize = 0;
-    while i < Totals::PLACES {
+    for i in 0..Totals::PLACES {
         let x = a.numbers[i];
         let y = b.numbers[i];
         if is_full(i, x, y) {
             return Added {
-                outcome: Outcome::Refused(Refusal::TotalTooLarge),
+                outcome: Err(Refusal::TotalTooLarge),
                 totals: a,
             };
         }
         t.numbers[i] = together(i, x, y);
-        i += 1;
     }
     Added {
-        outcome: Outcome::Passed,
+        outcome: Ok(()),
         totals: t,
     }
 }

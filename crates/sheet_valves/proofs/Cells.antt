@@ -1,5 +1,6 @@
 -- The test of a place, and what the code that puts a setting asks.
 -- Assumes nothing.
+use Rattle.std.specs.Prelude.{Some}
 use mathlib.Core.Path.{◌≡◌, refl}
 use mathlib.Core.Bool.{Bool, true, false, cond, ◌&&◌}
 use Prim.Native.Nat.{ℕ}
@@ -8,7 +9,6 @@ use lib.Dec.{leb, ltb}
 use lib.ListN.{set}
 use Rattle.base_lists.proofs.Scan.{both}
 use Rattle.sheet_valves.specs.Tables.{variant_count, wheels, IsPlace, is_place, cell_place, with_setting}
-use Rattle.sheet_valves.specs.declared.Valve.TheVariants.{Fitted}
 use Rattle.sheet_valves.specs.declared.Table.{Table}
 use Rattle.sheet_valves.specs.declared.Setting.{Setting}
 
@@ -23,7 +23,7 @@ yes_place v w e =
 
 -- what the code asks: a setting put, and one for no cell
 pub put_there : (t : Table) (s : Setting) → IsPlace s.variant s.wheel
-    → record { cells = set t.cells (cell_place s.variant s.wheel) (record { valve = Fitted s.valve }) } ≡ with_setting t s
+    → record { cells = set t.cells (cell_place s.variant s.wheel) (record { valve = Some s.valve }) } ≡ with_setting t s
 unfolding with_setting
 put_there t s p = rw (place_yes p)
 
@@ -32,6 +32,6 @@ unfolding with_setting
 put-nowhere t s n = go (is_place s.variant s.wheel) refl
   where
     go : (b : Bool) → is_place s.variant s.wheel ≡ b
-        → t ≡ cond b (record { cells = set t.cells (cell_place s.variant s.wheel) (record { valve = Fitted s.valve }) }) t
+        → t ≡ cond b (record { cells = set t.cells (cell_place s.variant s.wheel) (record { valve = Some s.valve }) }) t
     go true e = absurd (n (yes_place s.variant s.wheel e))
     go false e = refl

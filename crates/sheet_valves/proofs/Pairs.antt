@@ -1,5 +1,6 @@
 -- What the code that looks for a pair asks.
 -- Assumes nothing.
+use Rattle.std.specs.Prelude.{Option}
 use mathlib.Core.Path.{◌≡◌, refl, ap}
 use mathlib.Core.Bool.{Bool, true, false, ◌||◌}
 use mathlib.Core.List.{List, [], ◌∷◌}
@@ -9,11 +10,10 @@ use native.Mathlib.Omega.{arith}
 use lib.ListN.{get_or}
 use Rattle.sheet_valves.specs.Tables.{variant_count, wheels, unfilled, cell_place, valve_at}
 use Rattle.sheet_valves.specs.Pairs.{one_valve, among, repeats, row_of, pair_from, first_pair}
-use Rattle.sheet_valves.specs.declared.Valve.{Valve}
 use Rattle.sheet_valves.specs.declared.Table.{Table}
 
 -- the six tests that the code makes of four
-pub six : (a b c d : Valve) → repeats (a ∷ b ∷ c ∷ d ∷ []) ≡ (one_valve a b || (one_valve a c || (one_valve a d || (one_valve b c || (one_valve b d || one_valve c d)))))
+pub six : (a b c d : Option ℕ) → repeats (a ∷ b ∷ c ∷ d ∷ []) ≡ (one_valve a b || (one_valve a c || (one_valve a d || (one_valve b c || (one_valve b d || one_valve c d)))))
 unfolding repeats among
 six a b c d = go (one_valve a b) (one_valve a c) (one_valve a d) (one_valve b c) (one_valve b d) (one_valve c d)
   where
@@ -37,7 +37,7 @@ unfolding first_pair
 seeks_start t = record { within = omega arith; rest = refl }
 
 -- the row of the variant behind the v passed, as the code reads it
-abbrev pub row_from : Table → ℕ → List Valve
+abbrev pub row_from : Table → ℕ → List (Option ℕ)
 row_from t k = (get_or t.cells k unfilled).valve ∷ (get_or t.cells (k + 1) unfilled).valve ∷ (get_or t.cells (k + 2) unfilled).valve ∷ (get_or t.cells (k + 3) unfilled).valve ∷ []
 
 cell_from : (t : Table) (v w k : ℕ) → cell_place (suc v) w ≡ k → valve_at t (suc v) w ≡ (get_or t.cells k unfilled).valve

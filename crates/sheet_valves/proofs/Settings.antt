@@ -1,5 +1,6 @@
 -- What the code that reads a block's setting asks.
 -- Assumes nothing.
+use Rattle.std.specs.Prelude.{None, Option, Some, Err, Ok, Result}
 use mathlib.Core.Path.{◌≡◌, refl}
 use mathlib.Core.Bool.{Bool, true, false, cond}
 use mathlib.Core.List.{List, [], ◌∷◌}
@@ -14,25 +15,22 @@ use Rattle.set_table.specs.Rows.{meaning_of}
 use Rattle.set_table.specs.Shape.{is_free}
 use Rattle.set_table.specs.declared.Attrs.{Attrs}
 use Rattle.text_digits.specs.Digits.{number_in}
-use Rattle.text_digits.specs.declared.Decimal as decimals
-use Rattle.text_digits.specs.declared.Decimal.TheVariants.{None, Is}
 use Rattle.set_keyed.specs.Keyed.{values_by, key_found}
 use Rattle.set_keyed.proofs.Means.{key_means}
 use Rattle.sheet_valves.specs.Tables.{variant_count, max_valve, IsPlace, is_place}
 use Rattle.sheet_valves.specs.Settings.{variant_name, wheel_name, valve_name, wheel_of, setting_from, settled_by, read_setting, setting_by, setting_of}
 use Rattle.sheet_valves.specs.declared.Setting.{Setting}
-use Rattle.sheet_valves.specs.declared.Heard.TheVariants.{Refused, Set}
 use Rattle.sheet_valves.proofs.Cells.{place_yes, yes_place}
 
-pub settled_in : (v w x : ℕ) → IsPlace v w → Set (record { variant = v; wheel = w; valve = x }) ≡ setting_from v w x
+pub settled_in : (v w x : ℕ) → IsPlace v w → Ok (Some (record { variant = v; wheel = w; valve = x })) ≡ setting_from v w x
 unfolding setting_from
 settled_in v w x p = rw (place_yes p)
 
-pub settled_out : (v w x : ℕ) → (IsPlace v w → ⊥) → Refused BadSetting ≡ setting_from v w x
+pub settled_out : (v w x : ℕ) → (IsPlace v w → ⊥) → Err BadSetting ≡ setting_from v w x
 unfolding setting_from
 settled_out v w x n = go (is_place v w) refl
   where
-    go : (b : Bool) → is_place v w ≡ b → Refused BadSetting ≡ cond b (Set (record { variant = v; wheel = w; valve = x })) (Refused BadSetting)
+    go : (b : Bool) → is_place v w ≡ b → Err BadSetting ≡ cond {A = Result (Option Setting) Refusal} b (Ok (Some (record { variant = v; wheel = w; valve = x }))) (Err BadSetting)
     go true e = absurd (n (yes_place v w e))
     go false e = refl
 
@@ -42,20 +40,20 @@ unfolding setting_of is_free same
 found t a = rw (key_means t a variant_name refl, key_means t a wheel_name refl, key_means t a valve_name refl)
 
 -- a set is refused by 20 alone
-pub only_bad : (m : List Entry) {r : Refusal} → setting_of m ≡ Refused r → r ≡ BadSetting
+pub only_bad : (m : List Entry) {r : Refusal} → setting_of m ≡ Err r → r ≡ BadSetting
 unfolding setting_of setting_by read_setting setting_from
 only_bad m {r} = go (lookup variant_name m) (lookup wheel_name m) (lookup valve_name m)
   where
-    here : (b : Bool) (s : Setting) → cond b (Set s) (Refused BadSetting) ≡ Refused r → r ≡ BadSetting
+    here : (b : Bool) (s : Setting) → cond b (Ok (Some s)) (Err BadSetting) ≡ Err r → r ≡ BadSetting
     here true s f = let z : ◌≡◌ {A = ℕ} 0 1 = cc in absurd (omega arith)
     here false s f = cc
 
-    by : (a : decimals.Decimal) (w : ℕ) (c : decimals.Decimal) → settled_by a w c ≡ Refused r → r ≡ BadSetting
+    by : (a : Option ℕ) (w : ℕ) (c : Option ℕ) → settled_by a w c ≡ Err r → r ≡ BadSetting
     by None w c f = cc
-    by (Is v) w None f = cc
-    by (Is v) w (Is x) f = here (is_place v w) (record { variant = v; wheel = w; valve = x }) f
+    by (Some v) w None f = cc
+    by (Some v) w (Some x) f = here (is_place v w) (record { variant = v; wheel = w; valve = x }) f
 
-    go : (a b c : List (List ℕ)) → setting_by a b c ≡ Refused r → r ≡ BadSetting
+    go : (a b c : List (List ℕ)) → setting_by a b c ≡ Err r → r ≡ BadSetting
     go [] [] [] f = let z : ◌≡◌ {A = ℕ} 0 1 = cc in absurd (omega arith)
     go [] [] (x ∷ xs) f = cc
     go [] (w ∷ ws) c f = cc

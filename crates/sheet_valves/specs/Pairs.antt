@@ -1,27 +1,25 @@
 -- "At the end no variant may have one valve at two wheels." By rules: proved_valves/specs/Pairs.
-use Rattle.std.specs.Prelude.{ℕ, zero, suc, Bool, false, cond, ◌||◌, List, [], ◌∷◌, eqb}
+use Rattle.std.specs.Prelude.{ℕ, zero, suc, Bool, false, cond, ◌||◌, List, [], ◌∷◌, eqb, None, Option, Some}
 use Rattle.sheet_valves.specs.Tables.{variant_count, valve_at}
-use Rattle.sheet_valves.specs.declared.Valve.{Valve}
-use Rattle.sheet_valves.specs.declared.Valve.TheVariants.{Unfilled, Fitted}
 use Rattle.sheet_valves.specs.declared.Table.{Table}
 
 -- two wheels have one valve; "unfilled cells don't count"
-unfoldable pub one_valve : Valve → Valve → Bool
-one_valve Unfilled b = false
-one_valve (Fitted x) Unfilled = false
-one_valve (Fitted x) (Fitted y) = eqb x y
+unfoldable pub one_valve : Option ℕ → Option ℕ → Bool
+one_valve None b = false
+one_valve (Some x) None = false
+one_valve (Some x) (Some y) = eqb x y
 
 -- x is the valve of one of the wheels
-unfoldable pub among : Valve → List Valve → Bool
+unfoldable pub among : Option ℕ → List (Option ℕ) → Bool
 among x [] = false
 among x (y ∷ ys) = one_valve x y || among x ys
 
 -- one of the wheels has the valve of a later one
-unfoldable pub repeats : List Valve → Bool
+unfoldable pub repeats : List (Option ℕ) → Bool
 repeats [] = false
 repeats (x ∷ xs) = among x xs || repeats xs
 
-unfoldable pub row_of : Table → ℕ → List Valve
+unfoldable pub row_of : Table → ℕ → List (Option ℕ)
 row_of t v = valve_at t v 0 ∷ valve_at t v 1 ∷ valve_at t v 2 ∷ valve_at t v 3 ∷ []
 
 -- the first of n variants from v on that has a pair, 0 where none has

@@ -1,8 +1,6 @@
 -- The table of 30 variants by 4 wheels, and what settings put into it.
-use Rattle.std.specs.Prelude.{ℕ, ◌+◌, ◌-◌, ◌*◌, ◌≤◌, ◌<◌, Bool, cond, ◌&&◌, leb, ltb, get_or, set, replicate}
+use Rattle.std.specs.Prelude.{ℕ, ◌+◌, ◌-◌, ◌*◌, ◌≤◌, ◌<◌, Bool, cond, ◌&&◌, leb, ltb, get_or, set, replicate, None, Option, Some}
 use mathlib.Core.List.{List, foldl}
-use Rattle.sheet_valves.specs.declared.Valve.{Valve}
-use Rattle.sheet_valves.specs.declared.Valve.TheVariants.{Unfilled, Fitted}
 use Rattle.sheet_valves.specs.declared.Cell.{Cell}
 use Rattle.sheet_valves.specs.declared.Table.{Table}
 use Rattle.sheet_valves.specs.declared.Setting.{Setting}
@@ -22,7 +20,7 @@ abbrev pub max_valve : ℕ
 max_valve = 255
 
 abbrev pub unfilled : Cell
-unfilled = record { valve = Unfilled }
+unfilled = record { valve = None }
 
 abbrev pub empty_table : Table
 empty_table = record { cells = replicate cell_count unfilled }
@@ -40,13 +38,13 @@ is_place v w = leb 1 v && (leb v variant_count && ltb w wheels)
 abbrev pub cell_place : ℕ → ℕ → ℕ
 cell_place v w = (v - 1) * wheels + w
 
-unfoldable pub valve_at : Table → ℕ → ℕ → Valve
+unfoldable pub valve_at : Table → ℕ → ℕ → Option ℕ
 valve_at t v w = (get_or t.cells (cell_place v w) unfilled).valve
 
 -- a cell as a number: its valve, or one more than any valve where it is unfilled
-abbrev pub valve_no : Valve → ℕ
-valve_no Unfilled = max_valve + 1
-valve_no (Fitted n) = n
+abbrev pub valve_no : Option ℕ → ℕ
+valve_no None = max_valve + 1
+valve_no (Some n) = n
 
 abbrev pub cell_no : Cell → ℕ
 cell_no c = valve_no c.valve
@@ -55,7 +53,7 @@ cell_no c = valve_no c.valve
 unfoldable pub with_setting : Table → Setting → Table
 with_setting t s =
     cond (is_place s.variant s.wheel)
-    (record { cells = set t.cells (cell_place s.variant s.wheel) (record { valve = Fitted s.valve }) })
+    (record { cells = set t.cells (cell_place s.variant s.wheel) (record { valve = Some s.valve }) })
     t
 
 -- "Later blocks override earlier ones of the same variant and wheel."

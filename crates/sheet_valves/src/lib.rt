@@ -1,33 +1,24 @@
 // The dealers' table: which valve turns which wheel of which variant.
 #![tactic(auto)]
 
-ghost use Rattle.std.specs.Prelude.{◌≡◌, [], ◌∷◌, ◌≤◌, cond, ltb};
+ghost use Rattle.std.specs.Prelude.{◌≡◌, [], ◌∷◌, ◌≤◌, cond, ltb, Err, None, Ok};
 ghost use Rattle.sheet_valves.specs.Tables.{variant_count, max_valve, empty_table, with_setting};
 ghost use Rattle.sheet_valves.specs.Pairs.{one_valve, repeats, first_pair};
 ghost use Rattle.sheet_valves.specs.Settings.{heard_paper, wheel_of, setting_from, setting_of, read_setting};
 ghost use Rattle.sheet_valves.specs.Inner.{key_no, row_no, IsFound};
-ghost use Rattle.sheet_valves.specs.declared.Heard.TheVariants.{NoKey, Refused};
 ghost use Rattle.base_refusals.specs.declared.Refusal.TheVariants.{BadSetting};
 ghost use Rattle.set_table.specs.Types.{max_keys, two, name_bytes, value_bytes};
 ghost use Rattle.set_table.specs.Rows.{meaning_of};
 
 use base_refusals::Refusal;
 use set_table::{Attrs, Name, Slot, Value};
-use text_digits::Decimal;
 
 // The greatest number that a valve may have.
 pub const MAX_VALVE: u64 = 255;
 
-// The valve of a wheel, or none.
-#[derive(Clone, Copy)]
-pub enum Valve {
-    Unfilled,
-    Fitted(u8),
-}
-
 #[derive(Clone, Copy)]
 pub struct Cell {
-    pub valve: Valve,
+    pub valve: Option<u8>,
 }
 
 // Variant by variant, in each front-left, front-right, rear-left, rear-right.
@@ -52,14 +43,6 @@ struct KeyRows {
     valve: usize,
 }
 
-// What a block says: nothing of the three keys, why it is refused, or a setting.
-#[derive(Clone, Copy)]
-pub enum Heard {
-    NoKey,
-    Refused(Refusal),
-    Set(Setting),
-}
-
 impl Table {
     pub const VARIANTS: usize = 30;
 
@@ -71,9 +54,7 @@ impl Table {
     pub fn empty() -> Self
         ensures { result ≡ empty_table }
     {
-        let cell = Cell {
-            valve: Valve::Unfilled,
-        };
+        let cell = Cell { valve: None };
         let cells = [cell; Self::CELLS];
         Table { cells: cells }
     }
@@ -96,21 +77,21 @@ pub fn put(table: Table, setting: Setting) -> Table
     }
     let mut t = table;
     let cell = Cell {
-        valve: Valve::Fitted(setting.valve),
+        valve: Some(setting.valve),
     };
     t.cells[(variant - 1) * Table::WHEELS + wheel] = cell;
     t
 }
 
 // Whether two cells have one valve.
-fn one_valve(a: Valve, b: Valve) -> bool
+fn one_valve(a: Option<u8>, b: Option<u8>) -> bool
     ensures { result ≡ one_valve a b }
 {
     match a {
-        Valve::Unfilled => false,
-        Valve::Fitted(x) => match b {
-            Valve::Unfilled => false,
-            Valve::Fitted(y) => x == y,
+        None => false,
+        Some(x) => match b {
+            None => false,
+            Some(y) => x == y,
         },
     }
 }
@@ -150,8 +131,7 @@ fn row_repeats(a: Cell, b: Cell, c: Cell, d: Cell) -> bool
 pub fn first_pair(table: Table) -> usize
     ensures { result ≡ first_pair table }
 {
-    let mut v: usize = 0;
-    while v < Table::VARIANTS {
+    for v in 0..Table::VARIANTS {
         let at = v * Table::WHEELS;
         let a = table.cells[at];
         let b = table.cells[at + 1];
@@ -160,7 +140,6 @@ pub fn first_pair(table: Table) -> usize
         if row_repeats(a, b, c, d) {
             return v + 1;
         }
-        v += 1;
     }
     0
 }
@@ -185,22 +164,22 @@ fn wheel_of<'a>(first: &'a [u8], second: &'a [u8], value: Value) -> u8
 }
 
 // The setting of a variant, a wheel and a valve, where they are of a cell.
-fn settle(variant: u64, wheel: u8, valve: u64) -> Heard
+fn settle(variant: u64, wheel: u8, valve: u64) -> Result<Option<Setting>, Refusal>
     requires { (variant ≤ variant_count) × (valve ≤ max_valve) }
     ensures { result ≡ setting_from variant wheel valve }
 {
     if variant == 0 {
-        return Heard::Refused(Refusal::BadSetting);
+        return Err(Refusal::BadSetting);
     }
     if Table::WHEELS <= wheel as usize {
-        return Heard::Refused(Refusal::BadSetting);
+        return Err(Refusal::BadSetting);
     }
     let s = Setting {
         variant: variant as u8,
         wheel: wheel,
         valve: valve as u8,
     };
-    Heard::Set(s)
+    Ok(Some(s))
 }
 
 // What the three values say.
@@ -210,14 +189,14 @@ fn read_setting<'a>(
     variant: Value,
     wheel: Value,
     valve: Value,
-) -> Heard
+) -> Result<Option<Setting>, Refusal>
     ensures { result ≡ read_setting (value_bytes (two first.now second.now) variant) (value_bytes (two first.now second.now) wheel) (value_bytes (two first.now second.now) valve) }
 {
     match set_keyed::value_number(first, second, variant, Table::VARIANTS as u64) {
-        Decimal::None => Heard::Refused(Refusal::BadSetting),
-        Decimal::Is(v) => match set_keyed::value_number(first, second, valve, MAX_VALVE) {
-            Decimal::None => Heard::Refused(Refusal::BadSetting),
-            Decimal::Is(x) => settle(v, wheel_of(first, second, wheel), x),
+        None => Err(Refusal::BadSetting),
+        Some(v) => match set_keyed::value_number(first, second, valve, MAX_VALVE) {
+            None => Err(Refusal::BadSetting),
+            Some(x) => settle(v, wheel_of(first, second, wheel), x),
         },
     }
 }
@@ -272,64 +251,47 @@ fn key_rows<'a>(first: &'a [u8], second: &'a [u8], set: Attrs) -> KeyRows
     let mut variant = Attrs::KEYS;
     let mut wheel = Attrs::KEYS;
     let mut valve = Attrs::KEYS;
-    let mut k = 0;
-    'slots: loop {
-        if set.norder as usize <= k {
-            return KeyRows {
-                variant,
-                wheel,
-                valve,
-            };
-        }
-        if Attrs::SLOTS <= k {
-            return KeyRows {
-                variant,
-                wheel,
-                valve,
-            };
-        }
-        let p = set.order[k];
-        let s = p.slot;
-        let i = row_no(s, set.nkey as usize);
-        k += 1;
+    let n = (set.norder as usize).min(Attrs::SLOTS);
+    for p in &set.order[..n] {
+        let i = row_no(p.slot, set.nkey as usize);
         if Attrs::KEYS <= i {
-            continue 'slots;
+            continue;
         }
         let row = set.keys[i];
         let name = row.name;
         match key_no(first, second, name) {
-            0 => {
-                variant = earlier(variant, i);
-                continue 'slots;
-            }
-            1 => {
-                wheel = earlier(wheel, i);
-                continue 'slots;
-            }
-            2 => {
-                valve = earlier(valve, i);
-                continue 'slots;
-            }
-            _ => continue 'slots,
+            0 => variant = earlier(variant, i),
+            1 => wheel = earlier(wheel, i),
+            2 => valve = earlier(valve, i),
+            _ => {}
         }
+    }
+    KeyRows {
+        variant,
+        wheel,
+        valve,
     }
 }
 
 // What the two other keys say, where the first isn't there.
-fn say_without(wheel: usize, valve: usize) -> Heard
-    ensures { result ≡ cond (ltb wheel max_keys) (Refused BadSetting) (cond (ltb valve max_keys) (Refused BadSetting) NoKey) }
+fn say_without(wheel: usize, valve: usize) -> Result<Option<Setting>, Refusal>
+    ensures { result ≡ cond (ltb wheel max_keys) (Err BadSetting) (cond (ltb valve max_keys) (Err BadSetting) (Ok None)) }
 {
     if wheel < Attrs::KEYS {
-        return Heard::Refused(Refusal::BadSetting);
+        return Err(Refusal::BadSetting);
     }
     if valve < Attrs::KEYS {
-        return Heard::Refused(Refusal::BadSetting);
+        return Err(Refusal::BadSetting);
     }
-    Heard::NoKey
+    Ok(None)
 }
 
 // What a block's set says of the table.
-pub fn setting_of<'a>(first: &'a [u8], second: &'a [u8], set: Attrs) -> Heard
+pub fn setting_of<'a>(
+    first: &'a [u8],
+    second: &'a [u8],
+    set: Attrs,
+) -> Result<Option<Setting>, Refusal>
     ensures value { result ≡ setting_of (meaning_of (two first.now second.now) set) }
     ensures result_value { heard_paper result ≡ heard_paper (setting_of (meaning_of (two first.now second.now) set)) }
 {
@@ -341,10 +303,10 @@ pub fn setting_of<'a>(first: &'a [u8], second: &'a [u8], set: Attrs) -> Heard
         return say_without(w, x);
     }
     if Attrs::KEYS <= w {
-        return Heard::Refused(Refusal::BadSetting);
+        return Err(Refusal::BadSetting);
     }
     if Attrs::KEYS <= x {
-        return Heard::Refused(Refusal::BadSetting);
+        return Err(Refusal::BadSetting);
     }
     let variant = set.keys[v];
     let wheel = set.keys[w];

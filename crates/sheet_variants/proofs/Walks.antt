@@ -1,5 +1,6 @@
 -- The loop over the blocks of a sheet.
 -- Assumes nothing.
+use Rattle.std.specs.Prelude.{Ok, Err, None, Option, Result, Some}
 use mathlib.Core.Path.{◌≡◌, refl, sym, ◌∙◌, ap}
 use mathlib.Core.Bool.{true, false, cond}
 use mathlib.Core.List.{List, [], ◌∷◌, ◌++◌, append_assoc, append-nil}
@@ -10,7 +11,6 @@ use lib.Seq.{slice}
 use Rattle.base_refusals.specs.Numbers.{max_text}
 use Rattle.base_refusals.specs.declared.Refusal.{Refusal}
 use Rattle.base_refusals.specs.declared.Refusal.TheVariants.{SharedValve}
-use Rattle.base_refusals.specs.declared.Outcome.TheVariants as outcome
 use Rattle.set_table.specs.Types.{two}
 use Rattle.sheet_blocks.specs.declared.Next.{Next}
 use Rattle.sheet_blocks.specs.Sheets.{Try, blocks_of, tries_at, only_blocks, join_behind, up_to_block}
@@ -21,8 +21,6 @@ use Rattle.sheet_valves.specs.Tables.{empty_table, with_setting}
 use Rattle.sheet_valves.specs.Pairs.{first_pair}
 use Rattle.sheet_valves.specs.declared.Table.{Table}
 use Rattle.sheet_valves.specs.declared.Setting.{Setting}
-use Rattle.sheet_valves.specs.declared.Heard as heards
-use Rattle.sheet_valves.specs.declared.Heard.TheVariants as hear
 use Rattle.sheet_variants.specs.Variants.{heard_by, heard, no_table, whole_by, whole_table, heard_then, variants_from, is_stop, past_of}
 use Rattle.sheet_variants.specs.declared.Variants as answer
 
@@ -67,7 +65,7 @@ module _ {t join₀ : List ℕ} {R : answer.Variants} {P : List Try} {join : Lis
     w.joins ∙ ap (join_behind join₀) (sym (inv.gone ∙ rw (past_none t (tries_at t (length join₀) line at) w.blocks))),
   )
 
-  module _ {r : Next} {join' : List ℕ} (m : WalkMeets t join₀ at line inv.past r join') {h : heards.Heard}
+  module _ {r : Next} {join' : List ℕ} (m : WalkMeets t join₀ at line inv.past r join') {h : Result (Option Setting) Refusal}
       (q : h ≡ heard_by (two t (slice 0 r.block.joined join')) r.block.set r.block.outcome) where
     abbrev here : Try
     here = try t (length join₀) (line + r.skipped) r.at
@@ -89,21 +87,21 @@ module _ {t join₀ : List ℕ} {R : answer.Variants} {P : List Try} {join : Lis
     gone_is : P ≡ inv.past ++ (upto ++ cond (is_stop h) [] (past_of t more))
     gone_is = rw heard_is at (inv.gone ∙ ap (λ (l : List Try). inv.past ++ l) (ap (past_of t) m.tries ∙ past_first t more (tries_at t (length join₀) line at) m.blocks))
 
-    pub walks_refused : {p : answer.Variants} {w : Refusal} → h ≡ hear.Refused w → p ≡ no_table w (line + r.skipped) r.block.lines 0 → Tells join₀ R P p join'
+    pub walks_refused : {p : answer.Variants} {w : Refusal} → h ≡ Err w → p ≡ no_table w (line + r.skipped) r.block.lines 0 → Tells join₀ R P p join'
     walks_refused y x = (x ∙ sym (rest_is ∙ rw (y, m.lines)), m.walk.joins ∙ ap (join_behind join₀) (sym (gone_is ∙ rw (y, append-nil upto))))
 
     onward : {u : Table} → is_stop h ≡ false → R ≡ variants_from t u (only_blocks more) → Walks t join₀ R P join' r.block.next (line + r.skipped + r.block.lines) u
     onward y x = record { past = inv.past ++ upto; walk = m.walk; rest = x; gone = gone_is ∙ rw (y, append_assoc inv.past) }
 
-    pub walks_pass : h ≡ hear.NoKey → Walks t join₀ R P join' r.block.next (line + r.skipped + r.block.lines) table
+    pub walks_pass : h ≡ Ok None → Walks t join₀ R P join' r.block.next (line + r.skipped + r.block.lines) table
     walks_pass y = onward (rw y) (rest_is ∙ rw y)
 
-    pub walks_set : {s : Setting} {u : Table} → h ≡ hear.Set s → u ≡ with_setting table s → Walks t join₀ R P join' r.block.next (line + r.skipped + r.block.lines) u
+    pub walks_set : {s : Setting} {u : Table} → h ≡ Ok (Some s) → u ≡ with_setting table s → Walks t join₀ R P join' r.block.next (line + r.skipped + r.block.lines) u
     walks_set y x = onward (rw y) (rest_is ∙ rw (y, x))
 
 -- ---- the end of a sheet
 
-pub whole_passed : (t : Table) {v : ℕ} → v ≡ first_pair t → v ≡ 0 → record { outcome = outcome.Passed; line = 0; lines = 0; variant = 0; table = t } ≡ whole_table t
+pub whole_passed : (t : Table) {v : ℕ} → v ≡ first_pair t → v ≡ 0 → record { outcome = Ok tt; line = 0; lines = 0; variant = 0; table = t } ≡ whole_table t
 unfolding whole_table
 whole_passed t e z = rw (← e, z)
 

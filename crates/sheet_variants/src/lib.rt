@@ -10,15 +10,15 @@ ghost use Rattle.sheet_blocks.specs.Sheets.{blocks_of, tries_at, join_behind};
 ghost use Rattle.sheet_valves.specs.Tables.{empty_table};
 ghost use Rattle.sheet_variants.specs.Variants.{heard_by, no_table, whole_table, variants_from, past_of, variants_in, past_in, variants_of, variants_past, sheet_table, cell_nos, variants_paper, variants_order};
 
-use base_refusals::{Outcome, Refusal};
+use base_refusals::Refusal;
 use read_blocks::Block;
-use sheet_valves::{Heard, Table};
+use sheet_valves::{Setting, Table};
 
 // The table, empty on every refusal; the first line and the line count of the block that is refused, 0 and 0 where no block is; and for 21 the first variant
 // that has one valve at two wheels, else 0.
 #[derive(Clone, Copy)]
 pub struct Variants {
-    pub outcome: Outcome,
+    pub outcome: Result<(), Refusal>,
     pub line: usize,
     pub lines: usize,
     pub variant: usize,
@@ -26,17 +26,13 @@ pub struct Variants {
 }
 
 // What a block says, whose set is over the text and the bytes that were joined.
-fn hear<'a>(text: &'a [u8], join: &'a [u8], block: Block) -> Heard
+fn hear<'a>(text: &'a [u8], join: &'a [u8], block: Block) -> Result<Option<Setting>, Refusal>
     ensures { result ≡ heard_by (two text.now (slice 0 block.joined join.now)) block.set block.outcome }
 {
     let outcome = block.outcome;
-    match outcome {
-        Outcome::Refused(why) => Heard::Refused(why),
-        Outcome::Passed => {
-            let joined = set_table::bytes_of(join, 0, block.joined);
-            sheet_valves::setting_of(text, joined, block.set)
-        }
-    }
+    outcome?;
+    let joined = set_table::bytes_of(join, 0, block.joined);
+    sheet_valves::setting_of(text, joined, block.set)
 }
 
 // A refusal hands out no table.
@@ -45,7 +41,7 @@ fn no_table(why: Refusal, line: usize, lines: usize, variant: usize) -> Variants
 {
     let table = Table::empty();
     Variants {
-        outcome: Outcome::Refused(why),
+        outcome: Err(why),
         line,
         lines,
         variant,
@@ -60,7 +56,7 @@ fn whole_table(table: Table) -> Variants
     let v = sheet_valves::first_pair(table);
     if v == 0 {
         return Variants {
-            outcome: Outcome::Passed,
+            outcome: Ok(()),
             line: 0,
             lines: 0,
             variant: 0,
@@ -79,6 +75,7 @@ fn fill_table(text: &[u8], join: &mut [u8]) -> Variants
     let mut at = 0;
     let mut line = 1;
     let mut table = Table::empty();
+    // A loop: where the next block begins is known only once the one before it is read, so no range or iterator gives the places.
     'sheet: loop {
         let next = sheet_blocks::next_block(text, at, join);
         let block = next.block;
@@ -86,20 +83,15 @@ fn fill_table(text: &[u8], join: &mut [u8]) -> Variants
             return whole_table(table);
         }
         let n = line + next.skipped;
-        match hear(text, join, block) {
-            Heard::Refused(why) => return no_table(why, n, block.lines, 0),
-            Heard::NoKey => {
-                line = n + block.lines;
-                at = block.next;
-                continue 'sheet;
-            }
-            Heard::Set(s) => {
-                table = sheet_valves::put(table, s);
-                line = n + block.lines;
-                at = block.next;
-                continue 'sheet;
-            }
+        let said = match hear(text, join, block) {
+            Err(why) => return no_table(why, n, block.lines, 0),
+            Ok(said) => said,
+        };
+        if let Some(setting) = said {
+            table = sheet_valves::put(table, setting);
         }
+        line = n + block.lines;
+        at = block.next;
     }
 }
 
@@ -122,7 +114,7 @@ pub fn variants_of(text: &[u8], join: &mut [u8]) -> Variants
     ensures result_value { variants_paper result ≡ on_paper (variants_order text.now (length join.old)) (cell_nos (sheet_table text.now)) }
 {
     match text_checks::check_text(text) {
-        Outcome::Refused(why) => no_table(why, 0, 0, 0),
-        Outcome::Passed => fill_checked(text, join),
+        Err(why) => no_table(why, 0, 0, 0),
+        Ok(()) => fill_checked(text, join),
     }
 }

@@ -1,8 +1,8 @@
 // Buffers of exactly the canonical text's length and one short, and the longest canonical text.
 use crate::good::class_of;
-use crate::{MARK, good, is_kept, part, say, say_number, say_wrote};
+use crate::{MARK, good, is_kept, part, say, say_wrote};
+use base_refusals::Refusal;
 use set_table::Origin;
-use set_writer::Wrote;
 
 pub(crate) fn run(rt: &impl Print, text: &[u8]) {
     exact(rt, text);
@@ -63,12 +63,13 @@ fn longest_into(rt: &impl Print, text: &[u8], out: &mut [u8]) {
     say(rt, b"\n");
 }
 
-pub(crate) fn say_length(rt: &impl Print, wrote: Wrote) {
+pub(crate) fn say_length(rt: &impl Print, wrote: Result<usize, Refusal>) {
     match wrote {
-        Wrote::Refused(r) => {
-            say(rt, b"refused ");
-            say_number(rt, base_refusals::number(r) as usize);
+        Err(r) => {
+            let _ = print!(rt; "refused {}", base_refusals::number(r));
         }
-        Wrote::Bytes(n) => say_number(rt, n),
+        Ok(n) => {
+            let _ = print!(rt; "{n}");
+        }
     }
 }

@@ -1,8 +1,7 @@
 // The columns of hand-made tables, by value and laid into a lent table: lists of either text, values that no reading makes, and each refusal.
 use crate::good::{plain, plain_of, quoted, quoted_of, row, slot};
-use crate::same::same_tables;
-use crate::{say, say_number};
-use base_refusals::Outcome;
+use crate::say;
+use base_refusals::Refusal;
 use set_columns::{Align, Column, Columns, Made, Valign, Width};
 use set_table::{Attrs, Origin, Slot, Text, Value};
 
@@ -133,9 +132,9 @@ fn limits(rt: &impl Print, t: &[u8]) {
 // A table that has all its columns, each with an align, a vertical align and a width.
 fn all_columns() -> Columns {
     let c = Column {
-        align: Align::Center,
-        valign: Valign::Bottom,
-        width: Width::Range(Origin::Second, 7, 9),
+        align: Some(Align::Center),
+        valign: Some(Valign::Bottom),
+        width: Some(Width::Range(Origin::Second, 7, 9)),
     };
     let columns = [c; Columns::MOST];
     Columns {
@@ -199,15 +198,13 @@ fn told<'a>(rt: &impl Print, name: &'a [u8], first: &'a [u8], second: &'a [u8], 
     say(rt, b"\n");
 }
 
-fn say_outcome(rt: &impl Print, outcome: Outcome, table: Columns) {
+fn say_outcome(rt: &impl Print, outcome: Result<(), Refusal>, table: Columns) {
     match outcome {
-        Outcome::Refused(r) => {
-            say(rt, b": refused ");
-            say_number(rt, base_refusals::number(r) as usize);
+        Err(r) => {
+            let _ = print!(rt; ": refused {}", base_refusals::number(r));
         }
-        Outcome::Passed => {
-            say(rt, b": columns ");
-            say_number(rt, table.count as usize);
+        Ok(()) => {
+            let _ = print!(rt; ": columns {}", table.count);
         }
     }
 }
@@ -226,18 +223,17 @@ fn say_lent<'a>(
     let table = laid.table;
     let by_value = made.table;
     match outcome {
-        Outcome::Refused(r) => {
-            say(rt, b"refused ");
-            say_number(rt, base_refusals::number(r) as usize);
+        Err(r) => {
+            let _ = print!(rt; "refused {}", base_refusals::number(r));
         }
-        Outcome::Passed => say(rt, b"yes"),
+        Ok(()) => say(rt, b"yes"),
     }
     say_stands(rt, table, was, by_value);
 }
 
 // Whether a table is to its last row what it was before, or what is made by value.
 fn say_stands(rt: &impl Print, now: Columns, was: Columns, by_value: Columns) {
-    if same_tables(now, was) {
+    if now == was {
         say(rt, b", as it was");
     } else {
         say_new(rt, now, by_value);
@@ -245,7 +241,7 @@ fn say_stands(rt: &impl Print, now: Columns, was: Columns, by_value: Columns) {
 }
 
 fn say_new(rt: &impl Print, now: Columns, by_value: Columns) {
-    if same_tables(now, by_value) {
+    if now == by_value {
         say(rt, b", as by value");
     } else {
         say(rt, b", LAID OTHERWISE");
@@ -253,11 +249,8 @@ fn say_new(rt: &impl Print, now: Columns, by_value: Columns) {
 }
 
 fn say_columns(rt: &impl Print, columns: [Column; Columns::MOST], n: usize) {
-    let mut k = 0;
-    while k < Columns::MOST {
-        let c = columns[k];
-        say_column(rt, c, k < n);
-        k += 1;
+    for (k, c) in columns.iter().enumerate() {
+        say_column(rt, *c, k < n);
     }
 }
 
@@ -283,34 +276,32 @@ fn say_if(rt: &impl Print, words: &[u8], counts: bool) {
     say(rt, b" AND A COLUMN");
 }
 
-fn say_align(rt: &impl Print, a: Align, counts: bool) {
+fn say_align(rt: &impl Print, a: Option<Align>, counts: bool) {
     match a {
-        Align::Unset => {}
-        Align::Left => say_if(rt, b" left", counts),
-        Align::Right => say_if(rt, b" right", counts),
-        Align::Center => say_if(rt, b" center", counts),
+        None => {}
+        Some(Align::Left) => say_if(rt, b" left", counts),
+        Some(Align::Right) => say_if(rt, b" right", counts),
+        Some(Align::Center) => say_if(rt, b" center", counts),
     }
 }
 
-fn say_valign(rt: &impl Print, v: Valign, counts: bool) {
+fn say_valign(rt: &impl Print, v: Option<Valign>, counts: bool) {
     match v {
-        Valign::Unset => {}
-        Valign::Top => say_if(rt, b" top", counts),
-        Valign::Middle => say_if(rt, b" middle", counts),
-        Valign::Bottom => say_if(rt, b" bottom", counts),
+        None => {}
+        Some(Valign::Top) => say_if(rt, b" top", counts),
+        Some(Valign::Middle) => say_if(rt, b" middle", counts),
+        Some(Valign::Bottom) => say_if(rt, b" bottom", counts),
     }
 }
 
-fn say_width(rt: &impl Print, w: Width, counts: bool) {
+fn say_width(rt: &impl Print, w: Option<Width>, counts: bool) {
     match w {
-        Width::Unset => {}
-        Width::Empty => say_if(rt, b" empty", counts),
-        Width::Range(o, f, t) => {
+        None => {}
+        Some(Width::Empty) => say_if(rt, b" empty", counts),
+        Some(Width::Range(o, f, t)) => {
             say_if(rt, b" ", counts);
             say_origin(rt, o);
-            say_number(rt, f as usize);
-            say(rt, b"-");
-            say_number(rt, t as usize);
+            let _ = print!(rt; "{f}-{t}");
         }
     }
 }

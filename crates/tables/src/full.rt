@@ -1,7 +1,6 @@
 // Tables that are full: an id, a class and as many keys as a set has, so all its slots; and merges that would have more keys.
 use crate::good::{plain, row, slot};
-use crate::{MARK, say, say_number, say_wrote};
-use base_refusals::Outcome;
+use crate::{MARK, say, say_wrote};
 use set_table::{Attrs, Filled, Slot};
 
 pub(crate) fn run(rt: &impl Print) {
@@ -27,11 +26,9 @@ pub(crate) fn full(long: bool) -> Attrs {
     s.nclass = 1;
     s.order[0] = slot(Slot::Id);
     s.order[1] = slot(Slot::Class);
-    let mut k: u8 = 0;
-    while k < Attrs::KEYS as u8 {
+    for k in 0..Attrs::KEYS as u8 {
         s.keys[k as usize] = row(k as u16, name_end(k, long), plain(0, 2));
         s.order[k as usize + 2] = slot(Slot::Key(k));
-        k += 1;
     }
     s.nkey = Attrs::KEYS as u8;
     s.norder = Attrs::SLOTS as u8;
@@ -88,17 +85,14 @@ pub(crate) fn say_counts(rt: &impl Print, merged: Filled) {
     let outcome = merged.outcome;
     let set = merged.set;
     match outcome {
-        Outcome::Refused(r) => {
-            say(rt, b"refused ");
-            say_number(rt, base_refusals::number(r) as usize);
+        Err(r) => {
+            let _ = print!(rt; "refused {}", base_refusals::number(r));
         }
-        Outcome::Passed => {
-            say_number(rt, set.nclass as usize);
-            say(rt, b" classes, ");
-            say_number(rt, set.nkey as usize);
-            say(rt, b" keys, ");
-            say_number(rt, set.norder as usize);
-            say(rt, b" slots");
+        Ok(()) => {
+            let _ = print!(rt;
+                "{} classes, {} keys, {} slots",
+                set.nclass, set.nkey, set.norder
+            );
         }
     }
     say(rt, b"\n");

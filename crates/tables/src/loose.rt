@@ -1,8 +1,8 @@
 // The key `loose` taken out of hand-made tables, by value and lent: rows and slots behind it, the row and the slot that become free, and each refusal.
 use crate::good::{plain, plain_of, quoted, row, row_of, slot};
-use crate::same::same_sets;
-use crate::{MARK, full, say, say_number, say_wrote};
-use set_loose::{Consumed, Did};
+use crate::{MARK, full, say, say_wrote};
+use base_refusals::Refusal;
+use set_loose::Consumed;
 use set_table::{Attrs, Name, Origin, Row, Slot, SlotRecord, Text, Value};
 
 // 0 `loose`, 5 `loose-list`, 15 `LOOSE`, 20 `abc`, and its end at 23; the second text is `loose`.
@@ -122,10 +122,8 @@ fn reversed() -> Attrs {
     let mut s = full::full(false);
     s.order[Attrs::KEYS] = slot(Slot::Class);
     s.order[Attrs::KEYS + 1] = slot(Slot::Id);
-    let mut k: u8 = 0;
-    while k < Attrs::KEYS as u8 {
+    for k in 0..Attrs::KEYS as u8 {
         s.order[k as usize] = slot(Slot::Key(Attrs::KEYS as u8 - 1 - k));
-        k += 1;
     }
     s
 }
@@ -197,14 +195,13 @@ fn told<'a>(rt: &impl Print, name: &'a [u8], first: &'a [u8], second: &'a [u8], 
     say(rt, b"\n");
 }
 
-fn say_did(rt: &impl Print, did: Did) {
+fn say_did(rt: &impl Print, did: Result<bool, Refusal>) {
     match did {
-        Did::Refused(r) => {
-            say(rt, b"refused ");
-            say_number(rt, base_refusals::number(r) as usize);
+        Err(r) => {
+            let _ = print!(rt; "refused {}", base_refusals::number(r));
         }
-        Did::Yes => say(rt, b"yes"),
-        Did::No => say(rt, b"no"),
+        Ok(true) => say(rt, b"yes"),
+        Ok(false) => say(rt, b"no"),
     }
 }
 
@@ -227,7 +224,7 @@ fn say_lent<'a>(
 
 // Whether a set is to its last row what it was before, or what is left by value.
 fn say_stands(rt: &impl Print, now: Attrs, was: Attrs, by_value: Attrs) {
-    if same_sets(now, was) {
+    if now == was {
         say(rt, b", as it was");
     } else {
         say_new(rt, now, by_value);
@@ -235,7 +232,7 @@ fn say_stands(rt: &impl Print, now: Attrs, was: Attrs, by_value: Attrs) {
 }
 
 fn say_new(rt: &impl Print, now: Attrs, by_value: Attrs) {
-    if same_sets(now, by_value) {
+    if now == by_value {
         say(rt, b", as by value");
     } else {
         say(rt, b", LEFT OTHERWISE");
@@ -251,11 +248,8 @@ fn say_rows<'a>(
     n: usize,
 ) {
     say(rt, b", rows");
-    let mut k = 0;
-    while k < Attrs::KEYS {
-        let r = keys[k];
-        say_row(rt, first, second, r, k < n);
-        k += 1;
+    for (k, r) in keys.iter().enumerate() {
+        say_row(rt, first, second, *r, k < n);
     }
 }
 
@@ -295,12 +289,8 @@ fn say_name_past(rt: &impl Print, name: Name) {
 // The first n slots, and whether those behind them are zero.
 fn say_slots(rt: &impl Print, order: [SlotRecord; Attrs::SLOTS], n: usize) {
     say(rt, b", slots");
-    let mut k = 0;
-    while k < Attrs::SLOTS {
-        let p = order[k];
-        let s = p.slot;
-        say_slot(rt, s, k < n);
-        k += 1;
+    for (k, p) in order.iter().enumerate() {
+        say_slot(rt, p.slot, k < n);
     }
 }
 
@@ -316,8 +306,7 @@ fn say_slot(rt: &impl Print, slot: Slot, counts: bool) {
 fn say_place(rt: &impl Print, slot: Slot) {
     match slot {
         Slot::Key(k) => {
-            say(rt, b" ");
-            say_number(rt, k as usize);
+            let _ = print!(rt; " {k}");
         }
         Slot::Id => say(rt, b" id"),
         Slot::Class => say(rt, b" class"),

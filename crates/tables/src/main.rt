@@ -10,22 +10,16 @@ mod good;
 mod loose;
 mod pairs;
 mod repeats;
-mod same;
 mod texts;
 
-use base_refusals::{Outcome, Refusal};
+use base_refusals::Refusal;
 use set_table::{Attrs, Filled};
-use set_writer::Wrote;
 
 // What lent memory holds before a call.
 pub(crate) const MARK: u8 = b'#';
 
 pub(crate) fn say(rt: &impl Print, words: &[u8]) {
     let _ = rt.write_all(words);
-}
-
-pub(crate) fn say_number(rt: &impl Print, n: usize) {
-    let _ = rt.print(n);
 }
 
 // A table over one text, the other being lent empty.
@@ -60,14 +54,13 @@ pub(crate) fn over<'a>(
 }
 
 // The text that was written, or the refusal; then whether the rest of the memory is as it was.
-pub(crate) fn say_wrote(rt: &impl Print, wrote: Wrote, out: &[u8]) {
+pub(crate) fn say_wrote(rt: &impl Print, wrote: Result<usize, Refusal>, out: &[u8]) {
     match wrote {
-        Wrote::Refused(r) => {
-            say(rt, b", written: refused ");
-            say_number(rt, base_refusals::number(r) as usize);
+        Err(r) => {
+            let _ = print!(rt; ", written: refused {}", base_refusals::number(r));
             say_kept(rt, out);
         }
-        Wrote::Bytes(n) => {
+        Ok(n) => {
             say(rt, b", written: ");
             say(rt, part(out, 0, n));
             say_kept(rt, part(out, n, out.len()));
@@ -95,27 +88,20 @@ fn say_kept(rt: &impl Print, rest: &[u8]) {
 }
 
 pub(crate) fn is_kept(s: &[u8]) -> bool {
-    let mut i = 0;
-    while i < s.len() {
-        if s[i] != MARK {
-            return false;
-        }
-        i += 1;
-    }
-    true
+    s.iter().all(|b| *b == MARK)
 }
 
 fn say_merged(rt: &impl Print, merged: Filled) {
     let outcome = merged.outcome;
     match outcome {
-        Outcome::Refused(r) => say_refused(rt, r, merged.set),
-        Outcome::Passed => say(rt, b"yes"),
+        Err(r) => say_refused(rt, r, merged.set),
+        Ok(()) => say(rt, b"yes"),
     }
 }
 
 // A refusal hands out no set.
 fn say_refused(rt: &impl Print, r: Refusal, set: Attrs) {
-    say_number(rt, base_refusals::number(r) as usize);
+    let _ = print!(rt; "{}", base_refusals::number(r));
     if 0 < set.norder {
         say(rt, b" WITH A SET");
     }

@@ -2,8 +2,8 @@
 use crate::buffers::say_length;
 use crate::full::say_counts;
 use crate::good::{class_of, plain, plain_of, row_of, slot};
-use crate::{MARK, good, is_kept, over, say, say_number, say_wrote};
-use base_refusals::Outcome;
+use crate::{MARK, good, is_kept, over, say, say_wrote};
+use base_refusals::Refusal;
 use set_table::{Attrs, Origin, Slot};
 
 pub(crate) fn run<'a>(rt: &impl Print, t: &'a [u8], u: &'a [u8]) {
@@ -100,10 +100,12 @@ fn lent<'a>(
     say(rt, b"\n");
 }
 
-fn say_outcome(rt: &impl Print, outcome: Outcome) {
+fn say_outcome(rt: &impl Print, outcome: Result<(), Refusal>) {
     match outcome {
-        Outcome::Refused(r) => say_number(rt, base_refusals::number(r) as usize),
-        Outcome::Passed => say(rt, b"yes"),
+        Err(r) => {
+            let _ = print!(rt; "{}", base_refusals::number(r));
+        }
+        Ok(()) => say(rt, b"yes"),
     }
 }
 

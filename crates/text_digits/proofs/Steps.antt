@@ -1,5 +1,6 @@
 -- What the code of one step asks.
 -- Assumes nothing.
+use Rattle.std.specs.Prelude.{Option, Some}
 use mathlib.Core.Path.{◌≡◌, refl, sym, ◌∙◌, ap}
 use mathlib.Core.Bool.{Bool, true, false, cond}
 use mathlib.Core.List.{List, [], ◌∷◌}
@@ -13,8 +14,6 @@ use Rattle.base_bytes.specs.Bytes.{is_digit, within}
 use Rattle.text_digits.specs.Digits.{bounded, first_digit, grown, digits_step, digits_from, digits_of, read_out, number_in}
 use Rattle.text_digits.specs.declared.Digits as state
 use Rattle.text_digits.specs.declared.Digits.TheVariants.{NoDigit, Zero, Number, Bad}
-use Rattle.text_digits.specs.declared.Decimal as answer
-use Rattle.text_digits.specs.declared.Decimal.TheVariants.{Is}
 
 pub bounded_in : (most n : ℕ) → n ≤ most → Number n ≡ bounded most n
 unfolding bounded
@@ -81,11 +80,11 @@ unfolding digits_from
 from_keeps most d [] h = h
 from_keeps most d (b ∷ s) h = from_keeps most (digits_step most d b) s (step_keeps most d b)
 
-pub in_bound : {most n : ℕ} (s : List ℕ) {r : answer.Decimal} → r ≡ number_in most s → r ≡ Is n → n ≤ most
+pub in_bound : {most n : ℕ} (s : List ℕ) {r : Option ℕ} → r ≡ number_in most s → r ≡ Some n → n ≤ most
 unfolding number_in digits_of InBound
 in_bound {most} {n} s e f = go (digits_from most NoDigit s) (from_keeps most NoDigit s tt) (sym e ∙ f)
   where
-    go : (d : state.Digits) → InBound most d → read_out d ≡ Is n → n ≤ most
+    go : (d : state.Digits) → InBound most d → read_out d ≡ Some n → n ≤ most
     go NoDigit m f = let z : ◌≡◌ {A = ℕ} 0 1 = cc in absurd (omega arith)
     go Zero m f = let z : 0 ≡ n = cc in omega arith
     go (Number k) m f = let z : k ≡ n = cc in omega (arith, m)

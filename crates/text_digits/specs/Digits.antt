@@ -1,12 +1,10 @@
 -- "decimal, no leading zero": a number as it is read, one byte after the other.
-use Rattle.std.specs.Prelude.{ℕ, ◌+◌, ◌-◌, ◌*◌, cond, eqb, leb}
+use Rattle.std.specs.Prelude.{ℕ, ◌+◌, ◌-◌, ◌*◌, cond, eqb, leb, None, Option, Some}
 use mathlib.Core.List.{List, [], ◌∷◌, foldl}
 use Rattle.base_bytes.specs.Bytes.{is_digit}
 use Rattle.base_refusals.specs.Numbers.{Paper, passed_paper}
 use Rattle.text_digits.specs.declared.Digits as state
 use Rattle.text_digits.specs.declared.Digits.TheVariants.{NoDigit, Zero, Number, Bad}
-use Rattle.text_digits.specs.declared.Decimal as answer
-use Rattle.text_digits.specs.declared.Decimal.TheVariants.{None, Is}
 
 -- above the bound it is bad
 unfoldable pub bounded : ℕ → ℕ → state.Digits
@@ -32,14 +30,14 @@ unfoldable pub digits_of : ℕ → List ℕ → state.Digits
 digits_of most s = digits_from most NoDigit s
 
 -- no digit is no number
-abbrev pub read_out : state.Digits → answer.Decimal
+abbrev pub read_out : state.Digits → Option ℕ
 read_out NoDigit = None
-read_out Zero = Is 0
-read_out (Number n) = Is n
+read_out Zero = Some 0
+read_out (Number n) = Some n
 read_out Bad = None
 
 -- the number that s is, if there is one: exactly where s is its `decimal` (proved_valves/specs/Numbers)
-unfoldable pub number_in : ℕ → List ℕ → answer.Decimal
+unfoldable pub number_in : ℕ → List ℕ → Option ℕ
 number_in most s = read_out (digits_of most s)
 
 -- ---- on paper: what was read so far, as 0 to 3 and then the number where there is one; and the number that was read, if there is one
@@ -49,6 +47,6 @@ digits_paper Zero = passed_paper (1 ∷ [])
 digits_paper (Number n) = passed_paper (2 ∷ n ∷ [])
 digits_paper Bad = passed_paper (3 ∷ [])
 
-abbrev pub decimal_paper : answer.Decimal → Paper
+abbrev pub decimal_paper : Option ℕ → Paper
 decimal_paper None = passed_paper []
-decimal_paper (Is n) = passed_paper (n ∷ [])
+decimal_paper (Some n) = passed_paper (n ∷ [])

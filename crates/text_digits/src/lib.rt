@@ -16,13 +16,6 @@ pub enum Digits {
     Bad,
 }
 
-// The number that was read, if there is one.
-#[derive(Clone, Copy)]
-pub enum Decimal {
-    None,
-    Is(u64),
-}
-
 // The number ten times n and a digit more, where it is within the bound.
 fn grow(n: u64, digit: u64, most: u64) -> Digits
     ensures { result ≡ bounded most (n * 10 + digit) }
@@ -73,15 +66,15 @@ pub fn step(d: Digits, b: u8, most: u64) -> Digits
 }
 
 // The number that the bytes read so far are.
-pub fn read_out(d: Digits) -> Decimal
+pub fn read_out(d: Digits) -> Option<u64>
     ensures value { result ≡ read_out d }
     ensures result_value { decimal_paper result ≡ decimal_paper (read_out d) }
 {
     match d {
-        Digits::NoDigit => Decimal::None,
-        Digits::Zero => Decimal::Is(0),
-        Digits::Number(n) => Decimal::Is(n),
-        Digits::Bad => Decimal::None,
+        Digits::NoDigit => None,
+        Digits::Zero => Some(0),
+        Digits::Number(n) => Some(n),
+        Digits::Bad => None,
     }
 }
 

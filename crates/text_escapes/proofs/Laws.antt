@@ -1,5 +1,6 @@
 -- The three loops over the pieces of a text: how each goes on behind a byte, and what it has at the end.
 -- Assumes nothing.
+use Rattle.std.specs.Prelude.{None, Option, Some}
 use mathlib.Core.Path.{◌≡◌, refl, sym, ◌∙◌, ap}
 use mathlib.Core.Bool.{false}
 use mathlib.Core.List.{List, ◌++◌}
@@ -13,8 +14,6 @@ use lib.ListN.{length, get_or, drop, set, drop_of_length-le, length-set}
 use lib.Seq.{drop-cons, sets}
 use Rattle.base_lists.specs.Lists.{same}
 use Rattle.base_lists.proofs.Same.{same_nil}
-use Rattle.text_escapes.specs.declared.Written.{Written}
-use Rattle.text_escapes.specs.declared.Written.TheVariants.{Full, To}
 use Rattle.text_escapes.specs.Unescape.{unescape, fits, written_to, written_paper, content_of}
 use Rattle.text_escapes.proofs.Pieces.{Stands, Ends}
 
@@ -88,20 +87,20 @@ module _ {buf₀ : List ℕ} {at : ℕ} {s buf : List ℕ} {k i : ℕ} (inv : Wr
 
 -- ---- room
 module _ (buf : List ℕ) (at : ℕ) (xs : List ℕ) where
-  abbrev pub Answers : Written → List ℕ → Type 0
+  abbrev pub Answers : Option ℕ → List ℕ → Type 0
   Answers r b = (r ≡ written_to buf at xs) × ((b ≡ content_of buf at xs) × (written_paper r ≡ written_paper (written_to buf at xs)))
 
-  answers : {r : Written} {b : List ℕ} → r ≡ written_to buf at xs → b ≡ content_of buf at xs → Answers r b
+  answers : {r : Option ℕ} {b : List ℕ} → r ≡ written_to buf at xs → b ≡ content_of buf at xs → Answers r b
   answers p q = (p, (q, ap written_paper p))
 
-  pub none_before : length buf < at → Answers Full buf
+  pub none_before : length buf < at → Answers None buf
   unfolding fits written_to content_of
   none_before h = let e = lt-leb (at + length xs) (length buf) (omega (arith, h)) in answers (rw e) (rw e)
 
-  pub none_behind : at ≤ length buf → length buf - at < length xs → Answers Full buf
+  pub none_behind : at ≤ length buf → length buf - at < length xs → Answers None buf
   unfolding fits written_to content_of
   none_behind h l = let e = lt-leb (at + length xs) (length buf) (omega (arith, h, l)) in answers (rw e) (rw e)
 
-  pub room : at ≤ length buf → length xs ≤ length buf - at → {k : ℕ} {b : List ℕ} → k ≡ at + length xs → b ≡ sets buf at xs → Answers (To k) b
+  pub room : at ≤ length buf → length xs ≤ length buf - at → {k : ℕ} {b : List ℕ} → k ≡ at + length xs → b ≡ sets buf at xs → Answers (Some k) b
   unfolding fits written_to content_of
   room h l p q = let e = le-leb (at + length xs) (length buf) (omega (arith, h, l)) in answers (rw (e, p)) (rw (e, q))

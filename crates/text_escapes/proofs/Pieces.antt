@@ -1,5 +1,6 @@
 -- `unescape` a piece at a time: what `piece_at` answers is the next byte of the unescaped text. Then what holds of the text as a whole.
 -- Assumes nothing.
+use Rattle.std.specs.Prelude.{None, Option, Some}
 use mathlib.Core.Path.{◌≡◌, refl, sym, ◌∙◌}
 use mathlib.Core.Bool.{Bool, true, false, cond, not, ◌&&◌, ◌||◌}
 use mathlib.Core.List.{List, [], ◌∷◌}
@@ -12,10 +13,9 @@ use lib.Dec.{eqb, leb}
 use lib.ListN.{length, get_or, drop, drop_of_length-le, get_or-eq_default}
 use lib.Seq.{drop-cons, get_or-drop, drop-drop}
 use Rattle.base_lists.specs.Lists.{all, is_in}
+use Rattle.std.proofs.lemmas.Option.{some_pair_parts}
 use Rattle.base_lists.proofs.Scan.{both}
 use Rattle.base_bytes.specs.Bytes.{is_punct, is_space, within}
-use Rattle.text_escapes.specs.declared.Piece.{Piece}
-use Rattle.text_escapes.specs.declared.Piece.TheVariants.{End, Byte}
 use Rattle.text_escapes.specs.Unescape.{unescape, unescape_from, is_pair, piece_at}
 
 clash : {A : Type 0} (t : Bool) → t ≡ true → t ≡ false → A
@@ -89,36 +89,36 @@ pub record Ends (s : List ℕ) (i : ℕ) : Type 0 where
   pub past : length s ≤ i
   pub rest : unescape (drop i s) ≡ []
 
-module _ {s : List ℕ} {i : ℕ} {r : Piece} where
-  pub byte_at : {b next : ℕ} → r ≡ piece_at s i → r ≡ Byte b next → Stands s i b next
+module _ {s : List ℕ} {i : ℕ} {r : Option (ℕ × ℕ)} where
+  pub byte_at : {b next : ℕ} → r ≡ piece_at s i → r ≡ Some (b, next) → Stands s i b next
   unfolding piece_at is_pair
   byte_at {b} {next} e q = go (leb (length s) i) (is_pair s i) refl refl (sym e ∙ q)
     where
       behind : get_or (drop (suc i) s) 0 0 ≡ get_or s (i + 1) 0
       behind = get_or-drop (suc i) s 0 0 ∙ rw (add-zero, add-one)
 
-      go : (x y : Bool) → leb (length s) i ≡ x → is_pair s i ≡ y → cond x End (cond y (Byte (get_or s (i + 1) 0) (i + 2)) (Byte (get_or s i 0) (i + 1))) ≡ Byte b next → Stands s i b next
+      go : (x y : Bool) → leb (length s) i ≡ x → is_pair s i ≡ y → cond {A = Option (ℕ × ℕ)} x None (cond y (Some (get_or s (i + 1) 0, i + 2)) (Some (get_or s i 0, i + 1))) ≡ Some (b, next) → Stands s i b next
       go true y p h z = let z : ◌≡◌ {A = ℕ} 0 1 = cc in absurd (omega arith)
       go false true p h z =
           let l = leb-false (length s) i p in
           let w = pair_within s i h in
-          let n : next ≡ i + 2 = cc in
-          let v : b ≡ get_or s (i + 1) 0 = cc in
+          let n : next ≡ i + 2 = sym (some_pair_parts _ _ _ _ z).1 in
+          let v : b ≡ get_or s (i + 1) 0 = sym (some_pair_parts _ _ _ _ z).0 in
           let d : suc i + 1 ≡ i + 2 = omega arith in
           let k : i + 2 - 1 ≡ i + 1 = omega arith in
           record { ahead = omega arith; within = omega arith; raw = rw (n, k, v); rest = rw (drop-cons s i 0 l, v, n) (pair_front (get_or s i 0) (drop (suc i) s) (rw behind h) ∙ rw (behind, drop-drop 1 (suc i) s, d)) }
       go false false p h z =
           let l = leb-false (length s) i p in
-          let n : next ≡ i + 1 = cc in
-          let v : b ≡ get_or s i 0 = cc in
+          let n : next ≡ i + 1 = sym (some_pair_parts _ _ _ _ z).1 in
+          let v : b ≡ get_or s i 0 = sym (some_pair_parts _ _ _ _ z).0 in
           let k : i + 1 - 1 ≡ i = omega arith in
           record { ahead = omega arith; within = omega arith; raw = rw (n, k, v); rest = rw (drop-cons s i 0 l, v, n, add-one) (byte_front (get_or s i 0) (drop (suc i) s) (rw behind h)) }
 
-  pub end_at : r ≡ piece_at s i → r ≡ End → Ends s i
+  pub end_at : r ≡ piece_at s i → r ≡ None → Ends s i
   unfolding piece_at unescape unescape_from
   end_at e q = go (leb (length s) i) (is_pair s i) refl (sym e ∙ q)
     where
-      go : (x y : Bool) → leb (length s) i ≡ x → cond x End (cond y (Byte (get_or s (i + 1) 0) (i + 2)) (Byte (get_or s i 0) (i + 1))) ≡ End → Ends s i
+      go : (x y : Bool) → leb (length s) i ≡ x → cond {A = Option (ℕ × ℕ)} x None (cond y (Some (get_or s (i + 1) 0, i + 2)) (Some (get_or s i 0, i + 1))) ≡ None → Ends s i
       go true y p z = let l = leb-true (length s) i p in record { past = l; rest = rw (drop_of_length-le s l) }
       go false true p z = let z : ◌≡◌ {A = ℕ} 0 1 = cc in absurd (omega arith)
       go false false p z = let z : ◌≡◌ {A = ℕ} 0 1 = cc in absurd (omega arith)

@@ -6,20 +6,6 @@ ghost use Rattle.std.proofs.lemmas.List.Edits.{sets};
 ghost use Rattle.base_lists.specs.Lists.{same};
 ghost use Rattle.text_escapes.specs.Unescape.{unescape, is_pair, piece_at, piece_paper, written_to, written_paper, content_of};
 
-// A byte of the unescaped text, and where the raw text goes on.
-#[derive(Clone, Copy)]
-pub enum Piece {
-    End,
-    Byte(u8, usize),
-}
-
-// Where what was written ends, or that it had no room.
-#[derive(Clone, Copy)]
-pub enum Written {
-    Full,
-    To(usize),
-}
-
 // Whether an escape begins at i.
 fn is_pair(s: &[u8], i: usize) -> bool
     requires { i < length s.now }
@@ -36,17 +22,17 @@ fn is_pair(s: &[u8], i: usize) -> bool
 
 // The first byte of what the raw text from i on stands for, and where the next one stands. A walk starts at the value's front and
 // passes the value alone, so that no pair is cut.
-pub fn piece_at(s: &[u8], i: usize) -> Piece
+pub fn piece_at(s: &[u8], i: usize) -> Option<(u8, usize)>
     ensures value { result ≡ piece_at s.now i }
     ensures result_value { piece_paper result ≡ piece_paper (piece_at s.now i) }
 {
     if s.len() <= i {
-        return Piece::End;
+        return None;
     }
     if is_pair(s, i) {
-        return Piece::Byte(s[i + 1], i + 2);
+        return Some((s[i + 1], i + 2));
     }
-    Piece::Byte(s[i], i + 1)
+    Some((s[i], i + 1))
 }
 
 // How many bytes the unescaped text has.
@@ -57,8 +43,8 @@ pub fn unescaped_len(s: &[u8]) -> usize
     let mut i = 0;
     'pieces: loop {
         match piece_at(s, i) {
-            Piece::End => break 'pieces n,
-            Piece::Byte(_, next) => {
+            None => break 'pieces n,
+            Some((_, next)) => {
                 n += 1;
                 i = next;
                 continue 'pieces;
@@ -75,8 +61,8 @@ pub fn same_unescaped(s: &[u8], t: &[u8]) -> bool
     let mut i = 0;
     'pieces: loop {
         match piece_at(s, i) {
-            Piece::End => break 'pieces k == t.len(),
-            Piece::Byte(b, next) => {
+            None => break 'pieces k == t.len(),
+            Some((b, next)) => {
                 if t.len() <= k {
                     break 'pieces false;
                 }
@@ -101,8 +87,8 @@ fn put_unescaped(buf: &mut [u8], at: usize, s: &[u8]) -> usize
     let mut i = 0;
     'pieces: loop {
         match piece_at(s, i) {
-            Piece::End => break 'pieces k,
-            Piece::Byte(b, next) => {
+            None => break 'pieces k,
+            Some((b, next)) => {
                 buf[k] = b;
                 k += 1;
                 i = next;
@@ -113,17 +99,17 @@ fn put_unescaped(buf: &mut [u8], at: usize, s: &[u8]) -> usize
 }
 
 // Writes the unescaped text into lent memory from `at` on, or nothing where it has no room.
-pub fn write_unescaped(buf: &mut [u8], at: usize, s: &[u8]) -> Written
+pub fn write_unescaped(buf: &mut [u8], at: usize, s: &[u8]) -> Option<usize>
     ensures value { result ≡ written_to buf.old at (unescape s.now) }
     ensures buf_after { buf.new ≡ content_of buf.old at (unescape s.now) }
     ensures result_value { written_paper result ≡ written_paper (written_to buf.old at (unescape s.now)) }
 {
     if buf.len() < at {
-        return Written::Full;
+        return None;
     }
     if buf.len() - at < unescaped_len(s) {
-        return Written::Full;
+        return None;
     }
     let to = put_unescaped(buf, at, s);
-    Written::To(to)
+    Some(to)
 }

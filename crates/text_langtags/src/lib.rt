@@ -7,8 +7,6 @@ ghost use Rattle.text_langtags.specs.Letters.{small, is_x};
 ghost use Rattle.text_langtags.specs.Computed.{is_subtag, is_part, opened, began, continued, next_stage, may_end, is_well_formed, is_allowed};
 ghost use Rattle.text_langtags.specs.Inner.{no_byte_yet, longer, subtag_with, shape_kind, is_spelled, spelled, is_word, tag_start, behind, stepped, well_formed_so_far, allowed_so_far};
 
-use text_escapes::Piece;
-
 // What a whole subtag is, by its length and its bytes.
 #[derive(Clone, Copy)]
 enum SubtagKind {
@@ -61,10 +59,7 @@ struct TagWalk {
 fn is_x(b: u8) -> bool
     ensures { result ≡ is_x b }
 {
-    match b {
-        b'X' | b'x' => true,
-        _ => false,
-    }
+    matches!(b, b'X' | b'x')
 }
 
 // One of two kinds.
@@ -265,10 +260,7 @@ fn next_stage(st: Stage, k: SubtagKind) -> Stage
 fn may_end(st: Stage) -> bool
     ensures { result ≡ may_end st }
 {
-    match st {
-        Stage::Body(_) | Stage::Extension | Stage::Own => true,
-        _ => false,
-    }
+    matches!(st, Stage::Body(_) | Stage::Extension | Stage::Own)
 }
 
 // ---- the bytes as one number
@@ -320,26 +312,26 @@ fn spell(w: u64, b: u8) -> u64
 fn is_word(w: u64) -> bool
     ensures { result ≡ is_word w }
 {
-    match w {
+    matches!(
+        w,
         155780572333015957 // en-GB-oed
-        | 3289922394 // i-ami
-        | 3289929539 // i-bnn
-        | 163796833982234705 // i-default
-        | 13758966762955576751 // i-enochian
-        | 3289970780 // i-hak
-        | 163799322500260007 // i-klingon
-        | 3290000697 // i-lux
-        | 23214287527608 // i-mingo
-        | 1950003940840356 // i-navajo
-        | 3290029079 // i-pwn
-        | 3290055456 // i-tao
-        | 3290055466 // i-tay
-        | 3290056974 // i-tsu
-        | 190299225687434967 // sgn-BE-FR
-        | 190299225687435633 // sgn-BE-NL
-        | 190299225739000034 => true, // sgn-CH-DE
-        _ => false,
-    }
+            | 3289922394 // i-ami
+            | 3289929539 // i-bnn
+            | 163796833982234705 // i-default
+            | 13758966762955576751 // i-enochian
+            | 3289970780 // i-hak
+            | 163799322500260007 // i-klingon
+            | 3290000697 // i-lux
+            | 23214287527608 // i-mingo
+            | 1950003940840356 // i-navajo
+            | 3290029079 // i-pwn
+            | 3290055456 // i-tao
+            | 3290055466 // i-tay
+            | 3290056974 // i-tsu
+            | 190299225687434967 // sgn-BE-FR
+            | 190299225687435633 // sgn-BE-NL
+            | 190299225739000034 // sgn-CH-DE
+    )
 }
 
 // ---- the walk
@@ -410,10 +402,8 @@ pub fn is_well_formed_tag(s: &[u8]) -> bool
     ensures { result ≡ is_well_formed s.now }
 {
     let mut w = start_tag();
-    let mut i = 0;
-    while i < s.len() {
-        w = step_tag(w, s[i]);
-        i += 1;
+    for b in s {
+        w = step_tag(w, *b);
     }
     accepts_tag(w)
 }
@@ -434,10 +424,11 @@ pub fn is_allowed_unescaped(s: &[u8]) -> bool
 {
     let mut w = start_tag();
     let mut i = 0;
+    // A loop: a byte that the text stands for is written with one byte or with several.
     'pieces: loop {
         match text_escapes::piece_at(s, i) {
-            Piece::End => break 'pieces allows_tag(w),
-            Piece::Byte(b, next) => {
+            None => break 'pieces allows_tag(w),
+            Some((b, next)) => {
                 w = step_tag(w, b);
                 i = next;
                 continue 'pieces;

@@ -1,37 +1,32 @@
 -- Where the line of a number begins: "elsewhere 1, 2, 3, .."
-use Rattle.std.specs.Prelude.{ℕ, List, [], ◌∷◌, ◌++◌}
+use Rattle.std.specs.Prelude.{ℕ, List, [], ◌∷◌, ◌++◌, Err, None, Ok, Option, Result, Some}
 use Rattle.base_refusals.specs.Numbers.{Paper, refused_paper, passed_paper}
 use Rattle.base_refusals.specs.Orders.{Ground, on_paper}
 use Rattle.base_refusals.specs.declared.Refusal.{Refusal}
 use Rattle.base_refusals.specs.declared.Refusal.TheVariants.{NothingThere}
 use Rattle.text_checks.specs.Check.{text_order, check_of}
-use Rattle.base_refusals.specs.declared.Outcome as outcomes
-use Rattle.base_refusals.specs.declared.Outcome.TheVariants as outcome
 use Rattle.text_lines.specs.Lines.{line_of, is_no_line, line_start}
-use Rattle.text_lines.specs.declared.Line as places
-use Rattle.text_lines.specs.declared.Line.TheVariants as place
-use Rattle.text_line_start.specs.declared.Start as starts
-use Rattle.text_line_start.specs.declared.Start.TheVariants as start
+use Rattle.text_lines.specs.declared.Range.{Range}
 
 -- where the line of a number begins, or 1, 2, or 3: "no such line"
-abbrev pub begun : outcomes.Outcome → places.Line → starts.Start
-begun (outcome.Refused r) l = start.Refused r
-begun outcome.Passed place.Missing = start.Refused NothingThere
-begun outcome.Passed (place.At r) = start.At r.from
+abbrev pub begun : Result (Unit {0}) Refusal → Option Range → Result ℕ Refusal
+begun (Err r) l = Err r
+begun (Ok _) None = Err NothingThere
+begun (Ok _) (Some r) = Ok r.from
 
-unfoldable pub start_at : List ℕ → ℕ → starts.Start
+unfoldable pub start_at : List ℕ → ℕ → Result ℕ Refusal
 start_at t n = begun (check_of t) (line_of n t)
 
-abbrev pub on_start : {A : Type 0} → (Refusal → A) → (ℕ → A) → starts.Start → A
-on_start f g (start.Refused r) = f r
-on_start f g (start.At at) = g at
+abbrev pub on_start : {A : Type 0} → (Refusal → A) → (ℕ → A) → Result ℕ Refusal → A
+on_start f g (Err r) = f r
+on_start f g (Ok at) = g at
 
 -- the line's place, 0 where there is none
 abbrev pub place_of : List ℕ → ℕ → ℕ
 place_of t n = on_start (λ r. 0) (λ at. at) (start_at t n)
 
 -- the same on paper
-abbrev pub start_paper : starts.Start → Paper
+abbrev pub start_paper : Result ℕ Refusal → Paper
 start_paper s = on_start refused_paper (λ at. passed_paper (at ∷ [])) s
 
 -- "elsewhere 1, 2, 3, ..", where 3 is "no such line" and h is the order of the line that begins at a place

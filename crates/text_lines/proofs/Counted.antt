@@ -1,5 +1,6 @@
 -- The line of a number on paper: it is missing exactly where there is none, and it begins behind the LFs of the lines before it.
 -- Assumes nothing.
+use Rattle.std.specs.Prelude.{None, Option, Some}
 use mathlib.Core.Path.{◌≡◌, refl, sym, ◌∙◌, ap}
 use mathlib.Core.Bool.{Bool, true, false, cond, ◌||◌}
 use mathlib.Core.List.{List, [], ◌∷◌, map}
@@ -14,8 +15,6 @@ use Rattle.base_refusals.specs.Numbers.{Paper, refused_paper, passed_paper}
 use Rattle.base_refusals.specs.Orders.{in_order, on_paper}
 use Rattle.base_refusals.specs.declared.Refusal.TheVariants.{NothingThere}
 use Rattle.text_lines.specs.declared.Range.{Range}
-use Rattle.text_lines.specs.declared.Line.{Line}
-use Rattle.text_lines.specs.declared.Line.TheVariants.{Missing, At}
 use Rattle.text_lines.specs.Lines.{lines, first_of, line_from, ranges_from, ranges, bytes_of, pick, line_of, line_paper, is_no_line, behind_lfs, line_start, numbered_line}
 use Rattle.text_lines.proofs.Lines.{after, line_at_lem, lines_end, next_beyond, pick_on, pick_zero, ranges_at, ranges_end, line_found}
 
@@ -41,24 +40,24 @@ count t = sym (length-map (ranges t) (bytes_of t)) ∙ ap length (ranges-lines t
 
 -- ---- line 0 and a line past the last are missing, and no others are
 
-pick_past : (n : ℕ) (ls : List Range) → length ls < n → pick n ls ≡ Missing
+pick_past : (n : ℕ) (ls : List Range) → length ls < n → pick n ls ≡ None
 unfolding pick
 pick_past n [] h = refl
 pick_past n (l ∷ ls) h = pick_on n l ls (omega arith) ∙ pick_past (n - 1) ls (omega arith)
 
-pick_none : (n : ℕ) (ls : List Range) → 0 < n → pick n ls ≡ Missing → length ls < n
+pick_none : (n : ℕ) (ls : List Range) → 0 < n → pick n ls ≡ None → length ls < n
 unfolding pick
 pick_none n [] h e = h
 pick_none zero (l ∷ ls) h e = absurd (omega arith)
 pick_none (suc zero) (l ∷ ls) h e = let z : ◌≡◌ {A = ℕ} 0 1 = cc in absurd (omega arith)
 pick_none (suc (suc n)) (l ∷ ls) h e = omega (arith, pick_none (suc n) ls (omega arith) (rw (eqb-suc-zero n) at e))
 
-pub line_missing : (n : ℕ) (t : List ℕ) → line_of n t ≡ Missing → (n ≡ 0) ⊎ (length (lines t) < n)
+pub line_missing : (n : ℕ) (t : List ℕ) → line_of n t ≡ None → (n ≡ 0) ⊎ (length (lines t) < n)
 unfolding line_of
 line_missing zero t q = inl refl
 line_missing (suc n) t q = inr (omega (arith, count t, pick_none (suc n) (ranges t) (omega arith) q))
 
-pub missing_line : (n : ℕ) (t : List ℕ) → (n ≡ 0) ⊎ (length (lines t) < n) → line_of n t ≡ Missing
+pub missing_line : (n : ℕ) (t : List ℕ) → (n ≡ 0) ⊎ (length (lines t) < n) → line_of n t ≡ None
 unfolding line_of
 missing_line n t (inl e) = rw e (pick_zero (ranges t))
 missing_line n t (inr h) = pick_past n (ranges t) (omega (arith, count t))
@@ -74,18 +73,18 @@ front (b ∷ s) = refl
 abbrev Begins : ℕ → ℕ → ℕ → List ℕ → Range → Type 0
 Begins n from at s r = r.from ≡ cond (eqb n 0) from (at + behind_lfs s n)
 
-starts : (n from : ℕ) (c : Bool) (at : ℕ) (s : List ℕ) (r : Range) → pick (suc n) (ranges_from from c at s) ≡ At r → Begins n from at s r
+starts : (n from : ℕ) (c : Bool) (at : ℕ) (s : List ℕ) (r : Range) → pick (suc n) (ranges_from from c at s) ≡ Some r → Begins n from at s r
 unfolding pick ranges_from behind_lfs
 starts n from c at [] r q = go (ltb from at) n q
   where
-    go : (x : Bool) (n : ℕ) → pick (suc n) (cond x (record { from = from; to = at } ∷ []) []) ≡ At r → Begins n from at [] r
+    go : (x : Bool) (n : ℕ) → pick (suc n) (cond x (record { from = from; to = at } ∷ []) []) ≡ Some r → Begins n from at [] r
     go true zero e = let z : r ≡ record { from = from; to = at } = cc in rw z
     go true (suc n) e = let m = rw (eqb-suc-zero n) at e in let z : ◌≡◌ {A = ℕ} 0 1 = cc in absurd (omega arith)
     go false n e = let z : ◌≡◌ {A = ℕ} 0 1 = cc in absurd (omega arith)
 starts n from c at (b ∷ s) r q = go (eqb b 10) refl n q (starts n from (eqb b 13) (suc at) s r) (λ k. starts k (suc at) false (suc at) s r)
   where
-    go : (x : Bool) → eqb b 10 ≡ x → (n : ℕ) → pick (suc n) (cond x (record { from = from; to = cond c (at - 1) at } ∷ after (suc at) s) (ranges_from from (eqb b 13) (suc at) s)) ≡ At r
-        → (pick (suc n) (ranges_from from (eqb b 13) (suc at) s) ≡ At r → Begins n from (suc at) s r) → ((k : ℕ) → pick (suc k) (after (suc at) s) ≡ At r → Begins k (suc at) (suc at) s r)
+    go : (x : Bool) → eqb b 10 ≡ x → (n : ℕ) → pick (suc n) (cond x (record { from = from; to = cond c (at - 1) at } ∷ after (suc at) s) (ranges_from from (eqb b 13) (suc at) s)) ≡ Some r
+        → (pick (suc n) (ranges_from from (eqb b 13) (suc at) s) ≡ Some r → Begins n from (suc at) s r) → ((k : ℕ) → pick (suc k) (after (suc at) s) ≡ Some r → Begins k (suc at) (suc at) s r)
         → Begins n from at (b ∷ s) r
     go true x zero e ih next = let z : r ≡ record { from = from; to = cond c (at - 1) at } = cc in rw z
     go true x (suc zero) e ih next = rw (x, front s) (omega (arith, next 0 e))
@@ -93,10 +92,10 @@ starts n from c at (b ∷ s) r q = go (eqb b 10) refl n q (starts n from (eqb b 
     go false x zero e ih next = ih e
     go false x (suc n) e ih next = rw (x, eqb-suc-zero n) (omega (arith, rw (eqb-suc-zero n) at (ih e)))
 
-begins_at : (n : ℕ) (t : List ℕ) {r : Range} → line_of n t ≡ At r → r.from ≡ line_start n t
+begins_at : (n : ℕ) (t : List ℕ) {r : Range} → line_of n t ≡ Some r → r.from ≡ line_start n t
 unfolding line_of ranges
 begins_at zero t {r} q =
-    let e : Missing ≡ At r = rw pick_zero at q in
+    let e : None ≡ Some r = rw pick_zero at q in
     let z : ◌≡◌ {A = ℕ} 0 1 = cc in
     absurd (omega arith)
 begins_at (suc zero) t {r} q = starts 0 0 false 0 t r q ∙ sym (front t)
@@ -113,14 +112,14 @@ first_drop zero (l ∷ ls) = refl
 first_drop (suc n) (l ∷ ls) = first_drop n ls
 
 module _ (n : ℕ) (t : List ℕ) where
-  pub no_line : line_of n t ≡ Missing → is_no_line n t ≡ true
+  pub no_line : line_of n t ≡ None → is_no_line n t ≡ true
   no_line q = go (line_missing n t q)
     where
       go : (n ≡ 0) ⊎ (length (lines t) < n) → is_no_line n t ≡ true
       go (inl e) = rw (eq-eqb n 0 e)
       go (inr h) = rw (ne_eqb n 0 (λ e. omega arith), lt-ltb (length (lines t)) n h)
 
-  module _ {r : Range} (q : line_of n t ≡ At r) where
+  module _ {r : Range} (q : line_of n t ≡ Some r) where
     pub some_line : is_no_line n t ≡ false
     some_line = let f = line_found n t r q in rw (ne_eqb n 0 (λ e. omega (arith, f.some)), le-ltb (length (lines t)) n f.within)
 
@@ -135,6 +134,6 @@ pub line_paper_lem : (n : ℕ) (t : List ℕ) → line_paper (line_of n t) ≡ n
 unfolding on_paper in_order
 line_paper_lem n t = go (line_of n t) refl
   where
-    go : (l : Line) → line_of n t ≡ l → line_paper l ≡ numbered_line n t
-    go Missing q = rw (no_line n t q)
-    go (At r) q = rw (some_line n t q, line_begins n t q, line_ends n t q)
+    go : (l : Option Range) → line_of n t ≡ l → line_paper l ≡ numbered_line n t
+    go None q = rw (no_line n t q)
+    go (Some r) q = rw (some_line n t q, line_begins n t q, line_ends n t q)

@@ -1,21 +1,20 @@
 -- The lines of a text by the places where they begin and end, and by number: what a loop over lines goes by.
 -- Assumes nothing.
+use Rattle.std.specs.Prelude.{None, Option, Some}
 use mathlib.Core.Path.{◌≡◌, refl, sym, ◌∙◌, ap}
 use mathlib.Core.Bool.{Bool, true, false, cond, not, ◌||◌}
 use mathlib.Core.List.{List, [], ◌∷◌}
-use mathlib.Core.Logic.{◌⊎◌}
-use Prim.Native.Nat.{ℕ, zero, suc, ◌+◌, ◌-◌, ◌<◌, ◌≤◌, min}
+use Prim.Native.Nat.{ℕ, zero, suc, ◌+◌, ◌-◌, ◌<◌, ◌≤◌, min, max}
 use native.Mathlib.Nat.{zero-add, add-zero}
 use native.Mathlib.Numerals.{add-one}
 use native.Mathlib.Omega.{arith}
 use borrow.Author.Tests.{ltb-true, ltb-false, eqb-true, eqb-false, eq-eqb, ne_eqb, le-ltb, lt-ltb}
 use lib.Dec.{eqb, ltb, eqb-suc-zero}
-use lib.ListN.{length, get_or, drop, length-drop, drop_of_length-le}
+use lib.ListN.{length, get_or, take, drop, length-take, length-drop, drop_of_length-le}
+use Rattle.std.proofs.lemmas.List.{get_or-take}
 use lib.Seq.{drop-cons, drop-drop, get_or-drop, slice}
 use Rattle.base_lists.specs.Lists.{all}
 use Rattle.text_lines.specs.declared.Range.{Range}
-use Rattle.text_lines.specs.declared.Line.{Line}
-use Rattle.text_lines.specs.declared.Line.TheVariants.{Missing, At}
 use Rattle.text_lines.specs.declared.LineEnd.{LineEnd}
 use Rattle.text_lines.specs.Lines.{onto, is_dropped, lines, eol, first_of, line_from, ranges_from, ranges, bytes_of, pick, line_of}
 use Rattle.base_lists.proofs.Parts.{slice_add, drop_min}
@@ -38,6 +37,14 @@ module _ {t : List ℕ} {at i : ℕ} (inv : Feeds t at i) where
     pub feeds_go : (get_or t i 0 ≡ 10 → ⊥) → Feeds t at (i + 1)
     unfolding eol
     feeds_go e = record { rest = let z = rw (drop-cons t i 0 h, ne_eqb _ _ e) at inv.rest in rw (add-one i) (omega (arith, z)) }
+
+-- a loop from `from` on, up to the text's end or not at all
+pub feeds_max : {t : List ℕ} {at from i : ℕ} → Feeds t at from → Feeds t at i → length t ≤ i → (from ≤ length t → i ≤ length t) → max from (length t) ≡ at + eol (drop at t)
+feeds_max {t} {at} {from} {i} a b h k = go (ltb (length t) from) refl
+  where
+    go : (x : Bool) → ltb (length t) from ≡ x → max from (length t) ≡ at + eol (drop at t)
+    go true e = let l = ltb-true (length t) from e in omega (arith, feeds_end a (omega arith))
+    go false e = let l = ltb-false (length t) from e in omega (arith, feeds_end b h, k l)
 
 -- ---- the same for the strides: where the line ends at k or behind, it ends where the one from k on does
 
@@ -74,6 +81,14 @@ looked_go {t} {i} {k} {f} {g} inv h e = record { onward = omega (arith, inv.onwa
     go true q x p = sym (lt-ltb _ (k + 1) (omega (arith, ltb-true _ k (sym q))))
     go false q true p = sym (lt-ltb _ (k + 1) (omega (arith, feeds_stop (here (ltb-false _ k (sym q))) h (eqb-true _ _ p))))
     go false q false p = sym (le-ltb _ (k + 1) (omega (arith, (feeds_go (here (ltb-false _ k (sym q))) h (eqb-false _ _ p)).rest)))
+
+-- a loop over the bytes from i up to e: byte k of them is byte i + k of the text
+pub looked_on : (e : ℕ) {t : List ℕ} {i k : ℕ} {f g : Bool} → Looked t i (i + k) f → k < length (take (e - i) (drop i t)) → g ≡ (f || eqb (get_or (take (e - i) (drop i t)) k 0) 10) → Looked t i (i + (k + 1)) g
+looked_on e {t} {i} {k} {f} {g} inv h q =
+    let a : k < e - i = omega (arith, length-take (e - i) (drop i t)) in
+    let b : i + k < length t = omega (arith, length-take (e - i) (drop i t), length-drop i t) in
+    let z : i + k + 1 ≡ i + (k + 1) = omega arith in
+    rw z at (looked_go inv b (rw (get_or-take (e - i) (drop i t) k 0 a, get_or-drop i t k 0) at q))
 
 pub looked_end : {t : List ℕ} {i k e : ℕ} {f : Bool} → Looked t i k f → k ≡ e → f ≡ ltb (i + eol (drop i t)) e
 looked_end inv e = rw e at inv.is
@@ -197,7 +212,7 @@ ranges_at t at h = rw (← drop-drop, drop_min, drop-cons t at 0 h) (ranges_firs
 
 -- ---- the loop of `line_of` stands before the line at `at`: the one asked for is number `left` from there on
 
-pub pick_zero : (ls : List Range) → pick 0 ls ≡ Missing
+pub pick_zero : (ls : List Range) → pick 0 ls ≡ None
 unfolding pick
 pick_zero [] = refl
 pick_zero (l ∷ ls) = refl
@@ -207,11 +222,11 @@ unfolding pick
 pick_on zero l ls h = absurd (omega arith)
 pick_on (suc n) l ls h = let z : suc n - 1 ≡ n = omega arith in rw (ne_eqb n 0 (λ q. omega arith), z)
 
-pub record Counts (t : List ℕ) (r : Line) (left at : ℕ) : Type 0 where
+pub record Counts (t : List ℕ) (r : Option Range) (left at : ℕ) : Type 0 where
   pub some : 0 < left
   pub rest : pick left (ranges_from at false at (drop at t)) ≡ r
 
-pub counts_zero : (n : ℕ) (t : List ℕ) → n ≡ 0 → Missing ≡ line_of n t
+pub counts_zero : (n : ℕ) (t : List ℕ) → n ≡ 0 → None ≡ line_of n t
 unfolding line_of
 counts_zero n t e = rw e (sym (pick_zero (ranges t)))
 
@@ -219,13 +234,13 @@ pub counts_start : (n : ℕ) (t : List ℕ) → (n ≡ 0 → ⊥) → Counts t (
 unfolding line_of ranges
 counts_start n t h = record { some = omega arith; rest = refl }
 
-module _ {t : List ℕ} {r : Line} {left at : ℕ} (inv : Counts t r left at) where
-  pub counts_end : length t ≤ at → Missing ≡ r
+module _ {t : List ℕ} {r : Option Range} {left at : ℕ} (inv : Counts t r left at) where
+  pub counts_end : length t ≤ at → None ≡ r
   unfolding pick
   counts_end h = rw (ranges_end t at h) at inv.rest
 
   module _ (h : at < length t) {l : LineEnd} (e : l ≡ line_from t at) where
-    pub counts_stop : left ≡ 1 → At (record { from = at; to = l.to }) ≡ r
+    pub counts_stop : left ≡ 1 → Some (record { from = at; to = l.to }) ≡ r
     unfolding pick
     counts_stop o = rw e (rw (ranges_at t at h, o) at inv.rest)
 
@@ -243,22 +258,22 @@ record Reached (t : List ℕ) (at n : ℕ) (r : Range) : Type 0 where
   pub end : r.to ≡ (line_from t r.from).to
   pub rest : lines (drop r.from t) ≡ drop n (lines (drop at t))
 
-inside : (n : ℕ) (t : List ℕ) (at : ℕ) (r : Range) → pick n (after at (drop at t)) ≡ At r → at < length t
+inside : (n : ℕ) (t : List ℕ) (at : ℕ) (r : Range) → pick n (after at (drop at t)) ≡ Some r → at < length t
 unfolding pick
 inside n t at r q = go (ltb at (length t)) refl
   where
     go : (x : Bool) → ltb at (length t) ≡ x → at < length t
     go true x = ltb-true at (length t) x
     go false x =
-        let e : Missing ≡ At r = rw (ranges_end t at (ltb-false at (length t) x)) at q in
+        let e : None ≡ Some r = rw (ranges_end t at (ltb-false at (length t) x)) at q in
         let z : ◌≡◌ {A = ℕ} 0 1 = cc in
         absurd (omega arith)
 
-reach : (n : ℕ) (t : List ℕ) (at : ℕ) (r : Range) → pick (suc n) (after at (drop at t)) ≡ At r → Reached t at n r
+reach : (n : ℕ) (t : List ℕ) (at : ℕ) (r : Range) → pick (suc n) (after at (drop at t)) ≡ Some r → Reached t at n r
 unfolding pick
 reach zero t at r q =
     let k = inside 1 t at r q in
-    let e : At (record { from = at; to = (line_from t at).to }) ≡ At r = rw (ranges_at t at k) at q in
+    let e : Some (record { from = at; to = (line_from t at).to }) ≡ Some r = rw (ranges_at t at k) at q in
     let z : record { from = at; to = (line_from t at).to } ≡ r = cc in
     rw (← z) (record { start = k; end = refl; rest = refl })
 reach (suc n) t at r q =
@@ -275,10 +290,10 @@ pub record Found (n : ℕ) (t : List ℕ) (r : Range) : Type 0 where
   pub end : r.to ≡ (line_from t r.from).to
   pub rest : lines (drop r.from t) ≡ drop (n - 1) (lines t)
 
-pub line_found : (n : ℕ) (t : List ℕ) (r : Range) → line_of n t ≡ At r → Found n t r
+pub line_found : (n : ℕ) (t : List ℕ) (r : Range) → line_of n t ≡ Some r → Found n t r
 unfolding line_of ranges
 line_found zero t r q =
-    let e : Missing ≡ At r = rw pick_zero at q in
+    let e : None ≡ Some r = rw pick_zero at q in
     let z : ◌≡◌ {A = ℕ} 0 1 = cc in
     absurd (omega arith)
 line_found (suc n) t r q =

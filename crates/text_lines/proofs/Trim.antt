@@ -1,13 +1,17 @@
 -- Trimming by places: what the code finds at both ends of s cuts out `trim s`, and nothing is left exactly where every byte is whitespace.
 -- Assumes nothing.
 use mathlib.Core.Path.{◌≡◌, refl, sym, ◌∙◌, ap}
-use mathlib.Core.Bool.{Bool, true, false}
-use mathlib.Core.List.{List, [], ◌∷◌, ◌++◌}
+use mathlib.Core.Bool.{Bool, true, false, cond}
+use mathlib.Core.List.{List, [], ◌∷◌, ◌++◌, reverse}
 use Prim.Native.Nat.{ℕ, suc, ◌+◌, ◌-◌, ◌<◌, ◌≤◌, zero-le}
 use native.Mathlib.Omega.{arith}
 use lib.Dec.{eqb, eqb-suc-zero}
 use lib.ListN.{length, get_or, take, drop, length-drop}
 use lib.Seq.{take-suc, take-length, take_all, length-take-le, slice}
+use Rattle.std.specs.List.{prefix_len}
+use Rattle.std.proofs.lemmas.Grind.{reverse_onto}
+use Rattle.std.proofs.lemmas.List.{length-append, length-reverse, reverse-reverse}
+use Rattle.std.proofs.lemmas.List.Folds.{length-prefix_len}
 use Rattle.base_lists.specs.Lists.{all, run}
 use Rattle.base_lists.proofs.Scan.{run_le, all_snoc, all-run}
 use Rattle.base_bytes.specs.Bytes.{is_space}
@@ -25,6 +29,14 @@ trim_start_lem (b ∷ s) = go (is_space b) refl (trim_start_lem s)
     go : (x : Bool) → is_space b ≡ x → trim_start s ≡ drop (run is_space s) s → trim_start (b ∷ s) ≡ drop (run is_space (b ∷ s)) (b ∷ s)
     go true e ih = rw e ih
     go false e ih = rw e
+
+front : (s : List ℕ) → prefix_len is_space s ≡ run is_space s
+unfolding run
+front [] = refl
+front (b ∷ s) = let z : 1 + run is_space s ≡ suc (run is_space s) = omega arith in rw (front s, z)
+
+pub front_run : (s : List ℕ) → length (take (prefix_len is_space s) s) ≡ run is_space s
+front_run s = length-prefix_len is_space s ∙ front s
 
 -- ---- the end
 
@@ -58,7 +70,7 @@ unfolding trim_end all
 end_other [] b e = rw e
 end_other (a ∷ s) b e = rw (all_snoc is_space (a ∷ s) b false e, end_other s b e)
 
--- the loop of `trim_ascii_end` stands behind byte i - 1: the bytes before i trim to what s trims to
+-- a loop from the end stands behind byte i - 1: the bytes before i trim to what s trims to
 pub record Trims (s : List ℕ) (i : ℕ) : Type 0 where
   pub within : i ≤ length s
   pub rest : trim_end (take i s) ≡ trim_end s
@@ -66,20 +78,24 @@ pub record Trims (s : List ℕ) (i : ℕ) : Type 0 where
 pub trims_start : (s : List ℕ) → Trims s (length s)
 trims_start s = record { within = omega arith; rest = rw take-length }
 
-module _ {s : List ℕ} {i : ℕ} (inv : Trims s i) where
-  pub trims_end : i ≤ 0 → i ≡ length (trim_end s)
-  unfolding trim_end
-  trims_end h = let z : i ≡ 0 = omega arith in z ∙ ap length (rw z at inv.rest)
+pub trims_stop : {s : List ℕ} {i : ℕ} → Trims s i → 0 < i → is_space (get_or s (i - 1) 0) ≡ false → i ≡ length (trim_end s)
+trims_stop {s} {i} inv h e =
+    let z : i ≡ suc (i - 1) = omega arith in
+    let last : take i s ≡ take (i - 1) s ++ (get_or s (i - 1) 0 ∷ []) = ap (λ (n : ℕ). take n s) z ∙ take-suc s (i - 1) 0 (omega (arith, inv.within)) in
+    sym (length-take-le i s inv.within) ∙ ap length (last ∙ sym (end_other (take (i - 1) s) _ e) ∙ ap trim_end (sym last) ∙ inv.rest)
 
-  module _ (h : 0 < i) where
-    last : take i s ≡ take (i - 1) s ++ (get_or s (i - 1) 0 ∷ [])
-    last = let z : i ≡ suc (i - 1) = omega arith in ap (λ (n : ℕ). take n s) z ∙ take-suc s (i - 1) 0 (omega (arith, inv.within))
+-- the whitespace at the end of s, which stands at the front of s reversed, and what is left make up s
+back : (s : List ℕ) → run is_space s + length (trim_end (reverse s)) ≡ length s
+unfolding run trim_end
+back [] = refl
+back (b ∷ s) = rw (reverse_onto s b []) (go (is_space b) refl (back s))
+  where
+    go : (x : Bool) → is_space b ≡ x → run is_space s + length (trim_end (reverse s)) ≡ length s → cond x (suc (run is_space s)) 0 + length (trim_end (reverse s ++ (b ∷ []))) ≡ suc (length s)
+    go true e ih = rw (end_space (reverse s) b e) (omega arith)
+    go false e ih = rw (end_other (reverse s) b e) (omega (arith, length-append (reverse s) (b ∷ []), length-reverse s))
 
-    pub trims_stop : is_space (get_or s (i - 1) 0) ≡ false → i ≡ length (trim_end s)
-    trims_stop e = sym (length-take-le i s inv.within) ∙ ap length (last ∙ sym (end_other (take (i - 1) s) _ e) ∙ ap trim_end (sym last) ∙ inv.rest)
-
-    pub trims_go : is_space (get_or s (i - 1) 0) ≡ true → Trims s (i - 1)
-    trims_go e = record { within = omega (arith, inv.within); rest = sym (end_space (take (i - 1) s) _ e) ∙ ap trim_end (sym last) ∙ inv.rest }
+pub back_run : (s : List ℕ) → length s - length (take (prefix_len is_space (reverse s)) (reverse s)) ≡ length (trim_end s)
+back_run s = rw front_run (omega (arith, length-reverse s, rw reverse-reverse at (back (reverse s))))
 
 -- ---- both ends
 

@@ -1,13 +1,11 @@
 -- "Lines end at LF; a CR just before that LF is dropped. Text after the last LF is a line if it isn't empty. A line number counts from 1."
-use Rattle.std.specs.Prelude.{ℕ, zero, suc, ◌+◌, ◌-◌, min, Bool, false, cond, ◌&&◌, ◌||◌, List, [], ◌∷◌, eqb, ltb, length, get_or, drop}
+use Rattle.std.specs.Prelude.{ℕ, zero, suc, ◌+◌, ◌-◌, min, Bool, false, cond, ◌&&◌, ◌||◌, List, [], ◌∷◌, eqb, ltb, length, get_or, drop, None, Option, Some}
 use Rattle.std.proofs.Math.Seq.{slice}
 use Rattle.base_lists.specs.Lists.{begins}
 use Rattle.base_refusals.specs.Numbers.{Paper, refused_paper, passed_paper}
 use Rattle.base_refusals.specs.Orders.{Ground, on_paper}
 use Rattle.base_refusals.specs.declared.Refusal.TheVariants.{NothingThere}
 use Rattle.text_lines.specs.declared.Range.{Range}
-use Rattle.text_lines.specs.declared.Line.{Line}
-use Rattle.text_lines.specs.declared.Line.TheVariants.{Missing, At}
 use Rattle.text_lines.specs.declared.LineEnd.{LineEnd}
 use Rattle.base_bytes.specs.Bytes.{cr, lf}
 
@@ -68,21 +66,21 @@ abbrev pub bytes_of : List ℕ → Range → List ℕ
 bytes_of t r = slice r.from r.to t
 
 -- "A line number counts from 1.": line 0 and a line past the last are missing
-unfoldable pub pick : ℕ → List Range → Line
-pick n [] = Missing
-pick zero (l ∷ ls) = Missing
-pick (suc n) (l ∷ ls) = cond (eqb n 0) (At l) (pick n ls)
+unfoldable pub pick : ℕ → List Range → Option Range
+pick n [] = None
+pick zero (l ∷ ls) = None
+pick (suc n) (l ∷ ls) = cond (eqb n 0) (Some l) (pick n ls)
 
 -- the line of a number
-unfoldable pub line_of : ℕ → List ℕ → Line
+unfoldable pub line_of : ℕ → List ℕ → Option Range
 line_of n t = pick n (ranges t)
 
 -- ---- the same on paper
 
 -- 3, "no such line", or where the line lies
-abbrev pub line_paper : Line → Paper
-line_paper Missing = refused_paper NothingThere
-line_paper (At r) = passed_paper (r.from ∷ r.to ∷ [])
+abbrev pub line_paper : Option Range → Paper
+line_paper None = refused_paper NothingThere
+line_paper (Some r) = passed_paper (r.from ∷ r.to ∷ [])
 
 -- "no such line": number 0, or one past the last
 abbrev pub is_no_line : ℕ → List ℕ → Bool

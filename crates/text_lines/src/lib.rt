@@ -14,13 +14,6 @@ pub struct Range {
     pub to: usize,
 }
 
-// Where a line lies, without its LF and the CR that is dropped with it.
-#[derive(Clone, Copy)]
-pub enum Line {
-    Missing,
-    At(Range),
-}
-
 // Where a line's bytes end, and where the next line begins.
 #[derive(Clone, Copy)]
 pub struct LineEnd {
@@ -32,28 +25,19 @@ pub struct LineEnd {
 pub fn trim_ascii_start(s: &[u8]) -> usize
     ensures { result ≡ run is_space s.now }
 {
-    let mut i = 0;
-    while i < s.len() {
-        if !base_bytes::is_space(s[i]) {
-            return i;
-        }
-        i += 1;
-    }
-    i
+    s.iter().take_while(|b| base_bytes::is_space(**b)).count()
 }
 
 // How many bytes are left without the whitespace at the end.
 pub fn trim_ascii_end(s: &[u8]) -> usize
     ensures { result ≡ length (trim_end s.now) }
 {
-    let mut i = s.len();
-    while 0 < i {
-        if !base_bytes::is_space(s[i - 1]) {
-            return i;
-        }
-        i -= 1;
-    }
-    i
+    let spaces = s
+        .iter()
+        .rev()
+        .take_while(|last| base_bytes::is_space(**last))
+        .count();
+    s.len() - spaces
 }
 
 // Where what remains without the whitespace at both ends stands.
@@ -92,10 +76,8 @@ fn has_lf(text: &[u8], i: usize) -> bool
     ensures { result ≡ ltb (i + eol (drop i text.now)) (i + 16) }
 {
     let mut found = false;
-    let mut k = i;
-    while k < i + 16 {
-        found = or_lf(found, text[k]);
-        k += 1;
+    for b in &text[i..i + 16] {
+        found = or_lf(found, *b);
     }
     found
 }
@@ -109,6 +91,7 @@ fn past_strides(text: &[u8], at: usize) -> usize
     }
     let last = text.len() - 16;
     let mut i = at;
+    // A while: a step is 16 bytes, and where the steps stop is the answer, which no range gives.
     while i <= last {
         if has_lf(text, i) {
             return i;
@@ -122,14 +105,13 @@ fn past_strides(text: &[u8], at: usize) -> usize
 fn line_feed(text: &[u8], at: usize) -> usize
     ensures { result ≡ at + eol (drop at text.now) }
 {
-    let mut i = past_strides(text, at);
-    while i < text.len() {
+    let from = past_strides(text, at);
+    for i in from..text.len() {
         if text[i] == b'\n' {
             return i;
         }
-        i += 1;
     }
-    i
+    from.max(text.len())
 }
 
 // Where the line that begins at `at` ends, and where the next one begins; both are `at` where the text has no byte there.
@@ -151,22 +133,23 @@ pub fn line_from(text: &[u8], at: usize) -> LineEnd
 }
 
 // The line of a number, counted from 1.
-pub fn line_of(text: &[u8], number: usize) -> Line
+pub fn line_of(text: &[u8], number: usize) -> Option<Range>
     ensures value { result ≡ line_of number text.now }
     ensures result_value { line_paper result ≡ numbered_line number text.now }
 {
     if number == 0 {
-        return Line::Missing;
+        return None;
     }
     let mut at = 0;
     let mut left = number;
+    // A while: a step is a whole line, as long as that line is.
     while at < text.len() {
         let l = line_from(text, at);
         if left == 1 {
-            return Line::At(Range { from: at, to: l.to });
+            return Some(Range { from: at, to: l.to });
         }
         left -= 1;
         at = l.next;
     }
-    Line::Missing
+    None
 }

@@ -1,5 +1,6 @@
 -- What a tag is by the run of letters and digits at its front, and how far it goes: what the recursion and the loop ask.
 -- Assumes nothing.
+use Rattle.std.specs.Prelude.{Err, Ok, Result}
 use mathlib.Core.Path.{◌≡◌, refl, sym, ◌∙◌}
 use mathlib.Core.Bool.{Bool, true, false, cond, ◌&&◌}
 use mathlib.Core.List.{List, [], ◌∷◌}
@@ -14,8 +15,6 @@ use borrow.Author.Tests.{lt-leb, le-leb, ne_eqb, eq-eqb, lt-ltb, ltb-true, ltb-f
 use Rattle.base_lists.specs.Lists.{run}
 use Rattle.base_lists.proofs.Scan.{run_le}
 use Rattle.base_bytes.specs.Bytes.{within}
-use Rattle.text_names.specs.declared.Tested.{Tested}
-use Rattle.text_names.specs.declared.Tested.TheVariants.{Whole, Stops}
 use Rattle.text_names.specs.Tested.{tested}
 use Rattle.text_names.specs.Computed.{is_size, tag_from, language_by, tag_passes}
 
@@ -41,7 +40,7 @@ size_some k h = go (ltb 0 k) refl
 
 module _ (f : ℕ → Bool) where
   -- the answer for what follows, where `at` bytes are passed and k of the present subtag are read
-  abbrev pub answer : List ℕ → ℕ → ℕ → Tested
+  abbrev pub answer : List ℕ → ℕ → ℕ → Result (Unit {0}) ℕ
   answer s k at = tested (tag_from f s k) (at + tag_passes f s k)
 
   -- what follows the run, where the subtag has k bytes
@@ -97,18 +96,18 @@ module _ (f : ℕ → Bool) where
   pass_none (a ∷ s) = refl
 
   module _ {n : ℕ} (s : List ℕ) (at : ℕ) (is : n ≡ 0 + run f s) where
-    pub short : n < 1 → Stops at ≡ answer s 0 at
+    pub short : n < 1 → Err at ≡ answer s 0 at
     short h =
         let z : run f s ≡ 0 = omega arith in
         sym (run-answer s at (omega arith) ∙ (rw (end_none (drop (run f s) s) (run f s) (size_false (run f s) (omega arith)), z, pass_none s, add-zero)))
 
-    pub long : 8 < n → Stops (at + 8) ≡ answer s 0 at
+    pub long : 8 < n → Err (at + 8) ≡ answer s 0 at
     long h =
         let z : tag_passes f s 0 ≡ 8 = rw zero-add at (pass_long s 0 (omega arith) (omega arith)) in
         rw (tag_run s 0, zero-add, end_none (drop (run f s) s) (run f s) (size_false_2 (run f s) (omega arith)), z)
 
     module _ (l : 1 ≤ n) (m : n ≤ 8) where
-      pub one : n ≡ length s → Whole ≡ answer s 0 at
+      pub one : n ≡ length s → Ok tt ≡ answer s 0 at
       unfolding tag_end
       one e = sym (run-answer s at (omega arith) ∙ (rw (drop_of_length-le s {i = run f s} (omega arith), size_true (run f s) (omega arith) (omega arith))))
 
@@ -118,7 +117,7 @@ module _ (f : ℕ → Bool) where
         unfolding tag_end pass_end
         behind = let z : run f s ≡ n = omega arith in run-answer s at (omega arith) ∙ (rw (z, drop-cons s n 0 e, size_true n l m, le-leb 1 n l, add-one n))
 
-        pub no_hyphen : (get_or s n 0 ≡ 45 → ⊥) → Stops (at + n) ≡ answer s 0 at
+        pub no_hyphen : (get_or s n 0 ≡ 45 → ⊥) → Err (at + n) ≡ answer s 0 at
         no_hyphen q = sym (behind ∙ (rw (ne_eqb (get_or s n 0) 45 q, add-zero)))
 
         -- the rest of the slice, as the code makes it
@@ -128,7 +127,7 @@ module _ (f : ℕ → Bool) where
             rw (take_all (length s - (n + 1)) (drop (n + 1) s) (simp length-drop (omega arith)), z) (sym (behind ∙ (rw (eq-eqb (get_or s n 0) 45 q))))
 
   -- ---- a byte at a time: where k bytes of the present subtag are read before i, and the answer is r
-  pub record Reads (s : List ℕ) (r : Tested) (i k : ℕ) : Type 0 where
+  pub record Reads (s : List ℕ) (r : Result (Unit {0}) ℕ) (i k : ℕ) : Type 0 where
     pub rest : answer (drop i s) k i ≡ r
     pub few : k ≤ 8
     pub within : i ≤ length s
@@ -140,10 +139,10 @@ module _ (f : ℕ → Bool) where
   pub nine : (s : List ℕ) (k : ℕ) → 8 < k → tag_from f s k ≡ false
   nine s k h = tag_run s k ∙ end_none (drop (run f s) s) (k + run f s) (size_false_2 (k + run f s) (omega arith))
 
-  module _ {s : List ℕ} {r : Tested} {i k : ℕ} (inv : Reads s r i k) where
-    pub reads_end : length s ≤ i → tested (ltb 0 k) i ≡ r
+  module _ {s : List ℕ} {r : Result (Unit {0}) ℕ} {i k : ℕ} (inv : Reads s r i k) where
+    pub reads_end : length s ≤ i → tested (ltb 0 k) (length s) ≡ r
     unfolding tag_from tag_passes
-    reads_end h = rw (size_some k inv.few) (rw (drop_of_length-le s {i = i} h, add-zero) at inv.rest)
+    reads_end h = let z : length s ≡ i = omega (arith, inv.within) in rw (z, size_some k inv.few) (rw (drop_of_length-le s {i = i} h, add-zero) at inv.rest)
 
     module _ (h : i < length s) where
       ahead : answer (get_or s i 0 ∷ drop (suc i) s) k i ≡ r
@@ -155,12 +154,12 @@ module _ (f : ℕ → Bool) where
           let p = rw (e, lt-ltb k 8 (omega (arith, inv.few, n)), add-suc) at ahead in
           record { rest = rw (add-one i, add-one k, suc-add) p; few = omega (arith, inv.few, n); within = omega arith }
 
-      pub reads_nine : f (get_or s i 0) ≡ true → k ≡ 8 → Stops i ≡ r
+      pub reads_nine : f (get_or s i 0) ≡ true → k ≡ 8 → Err i ≡ r
       unfolding tag_from tag_passes
       reads_nine e n = rw (e, n, nine (drop (suc i) s) 9 (omega arith), add-zero) at ahead
 
       module _ (q : f (get_or s i 0) ≡ false) where
-        pub reads_other : (get_or s i 0 ≡ 45 → ⊥) → Stops i ≡ r
+        pub reads_other : (get_or s i 0 ≡ 45 → ⊥) → Err i ≡ r
         unfolding tag_from tag_passes
         reads_other n = rw (q, ne_eqb (get_or s i 0) 45 n, neither (is_size k), neither (leb 1 k), add-zero) at ahead
           where
@@ -168,7 +167,7 @@ module _ (f : ℕ → Bool) where
             neither true = refl
             neither false = refl
 
-        pub reads_empty : k ≡ 0 → Stops i ≡ r
+        pub reads_empty : k ≡ 0 → Err i ≡ r
         unfolding tag_from tag_passes is_size within
         reads_empty z = rw (q, z, add-zero) at ahead
 
@@ -201,7 +200,7 @@ pass_le f (a ∷ s) k = go (f a) (ltb k 8) (leb 1 k && eqb a 45) (pass_le f s (s
     go false y false h l = zero-le
 
 -- what stands behind `:`: nothing, or a tag
-pub language_none : (f : ℕ → Bool) (s : List ℕ) → length s ≡ 0 → Whole ≡ tested (language_by f s) (tag_passes f s 0)
+pub language_none : (f : ℕ → Bool) (s : List ℕ) → length s ≡ 0 → Ok tt ≡ tested (language_by f s) (tag_passes f s 0)
 unfolding language_by
 language_none f [] h = refl
 language_none f (a ∷ s) h = absurd (omega arith)

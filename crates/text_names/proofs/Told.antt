@@ -1,5 +1,6 @@
 -- For callers: what an answer of a test says.
 -- Assumes nothing.
+use Rattle.std.specs.Prelude.{Err, Ok}
 use mathlib.Core.Path.{◌≡◌, refl}
 use mathlib.Core.Bool.{Bool, true, false, cond, ◌&&◌}
 use mathlib.Core.List.{List, [], ◌∷◌}
@@ -11,7 +12,6 @@ use lib.ListN.{length}
 use Rattle.base_lists.proofs.Scan.{both}
 use Rattle.base_lists.proofs.More.{contra}
 use Rattle.base_bytes.specs.Bytes.{within}
-use Rattle.text_names.specs.declared.Tested.TheVariants.{Whole, Stops}
 use Rattle.text_names.specs.Tested.{tested, says_whole}
 use Rattle.text_names.specs.Computed.{is_size, tag_from, language_by, tag_passes}
 use Rattle.text_names.proofs.Tag.{nine}
@@ -20,11 +20,11 @@ pub says : (ok : Bool) (n : ℕ) → says_whole (tested ok n) ≡ ok
 says true n = refl
 says false n = refl
 
-pub whole_is : (ok : Bool) (n : ℕ) → Whole ≡ tested ok n → ok ≡ true
+pub whole_is : (ok : Bool) (n : ℕ) → Ok tt ≡ tested ok n → ok ≡ true
 whole_is true n e = refl
 whole_is false n e = contra true refl (cc)
 
-pub stops_is : (ok : Bool) (n : ℕ) {k : ℕ} → Stops k ≡ tested ok n → (ok ≡ false) × (k ≡ n)
+pub stops_is : (ok : Bool) (n : ℕ) {k : ℕ} → Err k ≡ tested ok n → (ok ≡ false) × (k ≡ n)
 stops_is true n e = contra true refl (cc)
 stops_is false n e = (refl, cc)
 

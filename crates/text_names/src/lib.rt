@@ -7,65 +7,55 @@ ghost use Rattle.text_names.specs.Tested.{tested, says_whole, tested_paper};
 ghost use Rattle.text_names.specs.Names.{is_name, is_key, is_bare_name, name_place, key_place, bare_place};
 ghost use Rattle.text_names.specs.Computed.{tag_from, is_tag, language_by, is_language, tag_passes, tag_place};
 
-// The bytes are what was asked for, or can be continued to it up to that place and no further.
-#[derive(Clone, Copy)]
-pub enum Tested {
-    Whole,
-    Stops(usize),
-}
-
 // What a test comes to, with the place for where it fails.
-pub fn whole_or_stops(ok: bool, place: usize) -> Tested
+pub fn whole_or_stops(ok: bool, place: usize) -> Result<(), usize>
     ensures value { result ≡ tested ok place }
     ensures result_value { tested_paper result ≡ tested_paper (tested ok place) }
 {
     if ok {
-        return Tested::Whole;
+        return Ok(());
     }
-    Tested::Stops(place)
+    Err(place)
 }
 
 // The answer without the place.
-pub fn is_whole(t: Tested) -> bool
+pub fn is_whole(t: Result<(), usize>) -> bool
     ensures { result ≡ says_whole t }
 {
-    match t {
-        Tested::Whole => true,
-        Tested::Stops(_) => false,
-    }
+    matches!(t, Ok(()))
 }
 
 // A name, as it stands behind `#` or `.`.
-pub fn is_css_identifier(s: &[u8]) -> Tested
+pub fn is_css_identifier(s: &[u8]) -> Result<(), usize>
     ensures value { result ≡ tested (is_name s.now) (name_place s.now) }
     ensures result_value { tested_paper result ≡ tested_paper (tested (is_name s.now) (name_place s.now)) }
 {
     if s.len() == 0 {
-        return Tested::Stops(0);
+        return Err(0);
     }
     let e = base_letters::name_end(s, 0);
     whole_or_stops(e == s.len(), e)
 }
 
 // A key, as it stands before `=`.
-pub fn is_identifier(s: &[u8]) -> Tested
+pub fn is_identifier(s: &[u8]) -> Result<(), usize>
     ensures value { result ≡ tested (is_key s.now) (key_place s.now) }
     ensures result_value { tested_paper result ≡ tested_paper (tested (is_key s.now) (key_place s.now)) }
 {
     if s.len() == 0 {
-        return Tested::Stops(0);
+        return Err(0);
     }
     let e = base_letters::key_end(s, 0);
     whole_or_stops(e == s.len(), e)
 }
 
 // A bare name, with no value.
-pub fn is_boolean_attr_name(s: &[u8]) -> Tested
+pub fn is_boolean_attr_name(s: &[u8]) -> Result<(), usize>
     ensures value { result ≡ tested (is_bare_name s.now) (bare_place s.now) }
     ensures result_value { tested_paper result ≡ tested_paper (tested (is_bare_name s.now) (bare_place s.now)) }
 {
     if s.len() == 0 {
-        return Tested::Stops(0);
+        return Err(0);
     }
     let e = base_letters::bare_end(s, 0);
     whole_or_stops(e == s.len(), e)
@@ -73,28 +63,28 @@ pub fn is_boolean_attr_name(s: &[u8]) -> Tested
 
 // A tag, by recursion on the rest of the slice behind a subtag and its hyphen; `at` is the place behind what was passed before.
 // The table is lent, so that no level holds one of its own.
-fn tag_by(table: &[u64; 16], s: &[u8], at: usize) -> Tested
+fn tag_by(table: &[u64; 16], s: &[u8], at: usize) -> Result<(), usize>
     requires { at + length s.now ≤ 9223372036854775807 }
     ensures { result ≡ tested (tag_from (is_of table.now 3) s.now 0) (at + tag_passes (is_of table.now 3) s.now 0) }
 {
     let n = base_letters::run_end(table, base_letters::ALNUM, s, 0);
     if n < 1 {
-        return Tested::Stops(at);
+        return Err(at);
     }
     if 8 < n {
-        return Tested::Stops(at + 8);
+        return Err(at + 8);
     }
     if n == s.len() {
-        return Tested::Whole;
+        return Ok(());
     }
     if s[n] != b'-' {
-        return Tested::Stops(at + n);
+        return Err(at + n);
     }
     tag_by(table, &s[n + 1..], at + n + 1)
 }
 
 // A tag.
-pub fn is_tag(s: &[u8]) -> Tested
+pub fn is_tag(s: &[u8]) -> Result<(), usize>
     ensures value { result ≡ tested (is_tag s.now) (tag_place s.now) }
     ensures result_value { tested_paper result ≡ tested_paper (tested (is_tag s.now) (tag_place s.now)) }
 {
@@ -103,42 +93,35 @@ pub fn is_tag(s: &[u8]) -> Tested
 }
 
 // The same as `tag_by` in a loop, a byte at a time: for a long tag, since it takes no more stack for a longer one.
-fn long_tag_by(table: &[u64; 16], s: &[u8]) -> Tested
+fn long_tag_by(table: &[u64; 16], s: &[u8]) -> Result<(), usize>
     ensures { result ≡ tested (tag_from (is_of table.now 3) s.now 0) (tag_passes (is_of table.now 3) s.now 0) }
 {
     let mut k: usize = 0;
-    let mut i = 0;
-    while i < s.len() {
-        if base_letters::is_of(table, base_letters::ALNUM, s[i]) {
+    for (i, b) in s.iter().enumerate() {
+        if base_letters::is_of(table, base_letters::ALNUM, *b) {
             if k == 8 {
-                return Tested::Stops(i);
+                return Err(i);
             }
             k += 1;
-            i += 1;
-            continue;
+        } else if *b == b'-' && k != 0 {
+            k = 0;
+        } else {
+            return Err(i);
         }
-        if s[i] != b'-' {
-            return Tested::Stops(i);
-        }
-        if k == 0 {
-            return Tested::Stops(i);
-        }
-        k = 0;
-        i += 1;
     }
-    whole_or_stops(0 < k, i)
+    whole_or_stops(0 < k, s.len())
 }
 
 // The longest tag that is tested by recursion: its at most 256 subtags take 8 KB of stack as they are compiled. The longest text would take 1 MB.
 const SHORT: usize = 512;
 
 // What may stand behind `:`, by the letters and digits that a lent table tells.
-pub fn language_by(table: &[u64; 16], s: &[u8]) -> Tested
+pub fn language_by(table: &[u64; 16], s: &[u8]) -> Result<(), usize>
     ensures value { result ≡ tested (language_by (is_of table.now 3) s.now) (tag_passes (is_of table.now 3) s.now 0) }
     ensures result_value { tested_paper result ≡ tested_paper (tested (language_by (is_of table.now 3) s.now) (tag_passes (is_of table.now 3) s.now 0)) }
 {
     if s.len() == 0 {
-        return Tested::Whole;
+        return Ok(());
     }
     if s.len() <= SHORT {
         return tag_by(table, s, 0);
@@ -147,7 +130,7 @@ pub fn language_by(table: &[u64; 16], s: &[u8]) -> Tested
 }
 
 // What may stand behind `:`: nothing, or a tag.
-pub fn is_language_tag(s: &[u8]) -> Tested
+pub fn is_language_tag(s: &[u8]) -> Result<(), usize>
     ensures value { result ≡ tested (is_language s.now) (tag_place s.now) }
     ensures result_value { tested_paper result ≡ tested_paper (tested (is_language s.now) (tag_place s.now)) }
 {

@@ -1,5 +1,6 @@
 -- How a number's digits grow, and that they are read as that number.
 -- Assumes nothing.
+use Rattle.std.specs.Prelude.{Some}
 use mathlib.Core.Path.{◌≡◌, refl, sym, ◌∙◌, ap}
 use mathlib.Core.Bool.{Bool, true, false}
 use mathlib.Core.List.{List, [], ◌∷◌, ◌++◌, foldl, foldl-append}
@@ -15,7 +16,6 @@ use Rattle.text_digits.specs.Decimal.{places_in, places, decimal}
 use Rattle.text_digits.specs.Digits.{first_digit, grown, digits_step, digits_from, digits_of, read_out, number_in}
 use Rattle.text_digits.specs.declared.Digits as state
 use Rattle.text_digits.specs.declared.Digits.TheVariants.{NoDigit, Zero, Number}
-use Rattle.text_digits.specs.declared.Decimal.TheVariants.{Is}
 use Rattle.text_digits.proofs.Decimals.{fewest, fewest_is, more}
 use Rattle.text_digits.proofs.Steps.{bounded_in}
 
@@ -78,12 +78,12 @@ reads most (suc left) n h l = go (ltb n 10) refl (reads most left (n / 10))
         rw (decimal_more n f, foldl-append, ih (omega (arith, div-add-mod n 10)) (omega (arith, div-add-mod n 10)), state_of_some (n / 10) (omega (arith, div-add-mod n 10)), state_of_some n (omega arith))
         (grows most (n / 10) (n % 10) r (omega arith) ∙ ap Number m)
 
-number_state_of : (n : ℕ) → read_out (state_of n) ≡ Is n
+number_state_of : (n : ℕ) → read_out (state_of n) ≡ Some n
 number_state_of zero = refl
 number_state_of (suc n) = refl
 
 -- the digits that a number is written with are read as that number
-pub number_read : (most n : ℕ) → n ≤ most → number_in most (decimal n) ≡ Is n
+pub number_read : (most n : ℕ) → n ≤ most → number_in most (decimal n) ≡ Some n
 unfolding number_in
 number_read most n h = ap read_out (reads most n n (omega arith) h) ∙ number_state_of n
 

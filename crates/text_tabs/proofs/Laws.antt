@@ -1,4 +1,4 @@
--- Columns: bounds, texts in parts, what the greatest number leaves of them, and the two loops.
+-- Columns: bounds, texts in parts, what the greatest number leaves of them, and the walks over a text.
 -- Assumes nothing.
 use mathlib.Core.Path.{◌≡◌, refl, sym, ◌∙◌, ap}
 use mathlib.Core.Bool.{Bool, true, false, cond}
@@ -10,6 +10,7 @@ use borrow.Author.Tests.{le-leb, leb-true, leb-false}
 use lib.Dec.{eqb, leb}
 use lib.ListN.{length, get_or, take, drop, length-take, drop_of_length-le}
 use lib.Seq.{drop-cons}
+use Rattle.std.specs.List.{fold}
 use Rattle.base_lists.specs.Lists.{run}
 use Rattle.base_bytes.specs.Bytes.{is_indent, is_tail}
 use Rattle.text_tabs.specs.Columns.{tab_stop, column_after, columns_from, indent_from, indent_columns, most, capped}
@@ -101,23 +102,11 @@ capped_indent c s = rw (indent_front (capped c) s, indent_front c s) (capped_col
 pub indent_whole : (s : List ℕ) → 4 * length s ≤ most → capped (indent_columns s) ≡ indent_columns s
 indent_whole s h = capped_id (indent_columns s) (omega (arith, indent_le s))
 
--- ---- the loop of `columns`: from the column that was reached, the bytes from i on lead to the same column as the whole text
-pub record Counts (s : List ℕ) (r column i : ℕ) : Type 0 where
-  pub small : column ≤ most
-  pub rest : capped (columns_from column (drop i s)) ≡ r
-
-module _ {s : List ℕ} {r column i : ℕ} (inv : Counts s r column i) where
-  pub counts_go : {next : ℕ} → i < length s → next ≡ capped (column_after column (get_or s i 0)) → Counts s r next (i + 1)
-  unfolding columns_from
-  counts_go h e =
-      record {
-        small = rw e (capped_le (column_after column (get_or s i 0)));
-        rest = rw (e, add-one) (capped_columns (column_after column (get_or s i 0)) (drop (suc i) s) ∙ (rw (drop-cons s i 0 h) at inv.rest));
-      }
-
-  pub counts_end : length s ≤ i → column ≡ r
-  unfolding columns_from
-  counts_end h = sym (capped_id column inv.small) ∙ (rw (drop_of_length-le s h) at inv.rest)
+-- ---- `columns`: the numbers that are cut on the way lead to the column of the whole text, cut once
+pub columns_fold : (c : ℕ) (s : List ℕ) → c ≤ most → capped (columns_from c s) ≡ fold (λ n b. capped (column_after n b)) c s
+unfolding columns_from
+columns_fold c [] h = capped_id c h
+columns_fold c (b ∷ s) h = sym (capped_columns (column_after c b) s) ∙ columns_fold (capped (column_after c b)) s (capped_le (column_after c b))
 
 -- ---- the loop of `indent_columns`
 pub record Indents (s : List ℕ) (r column i : ℕ) : Type 0 where

@@ -34,13 +34,7 @@ fn tab_stop(c: usize) -> usize
 pub fn columns(c: usize, s: &[u8]) -> usize
     ensures { result ≡ capped (columns_from c s.now) }
 {
-    let mut at = c;
-    let mut i = 0;
-    while i < s.len() {
-        at = column_after(at, s[i]);
-        i += 1;
-    }
-    at
+    s.iter().fold(c, |at, b| column_after(at, *b))
 }
 
 // The column behind the spaces and tabs at the front.
@@ -48,13 +42,11 @@ pub fn indent_columns(s: &[u8]) -> usize
     ensures { result ≡ capped (indent_columns s.now) }
 {
     let mut column = 0;
-    let mut i = 0;
-    while i < s.len() {
-        if !base_bytes::is_indent(s[i]) {
+    for b in s {
+        if !base_bytes::is_indent(*b) {
             return column;
         }
-        column = column_after(column, s[i]);
-        i += 1;
+        column = column_after(column, *b);
     }
     column
 }

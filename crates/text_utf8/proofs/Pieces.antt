@@ -97,6 +97,10 @@ ascii_start s i h = record { onward = omega arith; inside = h; low = λ k a l. a
 pub ascii_of : {s : List ℕ} {i k e m : ℕ} → Lows s i e m → m ≡ 0 → i ≤ k → k ≤ e → e ≤ length s → Ascii s k e
 ascii_of p z o l h = record { onward = l; inside = h; low = λ j a b. p.low z j (omega arith) b }
 
+-- the same, by another name of the end
+pub ascii_to : {s : List ℕ} {i k e : ℕ} → Ascii s i k → e ≡ k → Ascii s i e
+ascii_to p e = rw e p
+
 pub ascii_then : {s : List ℕ} {i k e : ℕ} → Ascii s i k → Ascii s k e → Ascii s i e
 ascii_then {s} {i} {k} {e} p q = record { onward = omega (arith, p.onward, q.onward); inside = q.inside; low = λ j a l. at j a l (leb k j) refl }
   where

@@ -2,7 +2,7 @@
 // it reads standard input; else the files that its arguments name, one after the other and each under a heading, and for `-` standard input.
 #![tactic(auto)]
 
-use sheet_files::{Sheet, System};
+use sheet_files::System;
 
 fn main(rt: HostRuntime) {
     let mut text = [0u8; sheet_files::TEXT];
@@ -13,18 +13,16 @@ fn main(rt: HostRuntime) {
 
 fn list_all(rt: &impl System, text: &mut [u8], join: &mut [u8], out: &mut [u8]) {
     let count = sheet_files::count(rt);
-    let mut i = 0;
-    while i < count {
+    for i in 0..count {
         list(rt, i, text, join, out);
-        i += 1;
     }
 }
 
 // The listing of one sheet, where there is such a file.
 fn list(rt: &impl System, i: usize, text: &mut [u8], join: &mut [u8], out: &mut [u8]) {
     match sheet_files::read(rt, i, text) {
-        Sheet::Missing => {}
-        Sheet::Bytes(n) => write_listing(rt, set_table::bytes_of(text, 0, n), join, out),
+        None => {}
+        Some(n) => write_listing(rt, set_table::bytes_of(text, 0, n), join, out),
     }
 }
 

@@ -18,8 +18,8 @@ fn unescapes<'a>(raw: &'a [u8], plain: &'a [u8]) -> bool {
     }
     let mut buf = [0xFFu8; 80];
     match text_escapes::write_unescaped(&mut buf, 0, raw) {
-        text_escapes::Written::Full => false,
-        text_escapes::Written::To(n) => begins(&buf, n, plain),
+        None => false,
+        Some(n) => begins(&buf, n, plain),
     }
 }
 
@@ -28,7 +28,7 @@ fn begins<'a>(buf: &'a [u8], n: usize, plain: &'a [u8]) -> bool {
     if buf.len() < n {
         return false;
     }
-    base_lists::same_bytes(&buf[0..n], plain)
+    &buf[..n] == plain
 }
 
 // Example 12: any ASCII punctuation character may be backslash-escaped. Example 13: before other characters the backslash
@@ -117,10 +117,10 @@ fn room_for(rt: &impl Print, t: Tally) -> Tally {
     n
 }
 
-fn fits(w: text_escapes::Written) -> bool {
+fn fits(w: Option<usize>) -> bool {
     match w {
-        text_escapes::Written::Full => false,
-        text_escapes::Written::To(_) => true,
+        None => false,
+        Some(_) => true,
     }
 }
 

@@ -1,6 +1,5 @@
 // Document 01 and our readings of it: names, tags, classes of bytes, trimming and lines.
 use crate::{Tally, held};
-use text_names::Tested;
 
 pub(crate) fn run(rt: &impl Print, t: Tally) -> Tally {
     let named = names_and_keys(rt, t);
@@ -16,15 +15,15 @@ pub(crate) fn run(rt: &impl Print, t: Tally) -> Tally {
 }
 
 // The bytes are what was asked for.
-fn whole(rt: &impl Print, t: Tally, tested: Tested) -> Tally {
+fn whole(rt: &impl Print, t: Tally, tested: Result<(), usize>) -> Tally {
     held(rt, t, text_names::is_whole(tested))
 }
 
 // The bytes are none, and can be continued to one up to the place.
-fn stops(rt: &impl Print, t: Tally, tested: Tested, place: usize) -> Tally {
+fn stops(rt: &impl Print, t: Tally, tested: Result<(), usize>, place: usize) -> Tally {
     match tested {
-        Tested::Whole => held(rt, t, false),
-        Tested::Stops(n) => held(rt, t, n == place),
+        Ok(()) => held(rt, t, false),
+        Err(n) => held(rt, t, n == place),
     }
 }
 
@@ -152,23 +151,17 @@ fn blank_lines(rt: &impl Print, t: Tally) -> Tally {
 // Whether the line of that number has the bytes from `from` up to `to`.
 fn line_is(s: &[u8], number: usize, from: usize, to: usize) -> bool {
     match text_lines::line_of(s, number) {
-        text_lines::Line::Missing => false,
-        text_lines::Line::At(r) => same_part(r, from, to),
+        None => false,
+        Some(r) => same_part(r, from, to),
     }
 }
 
 fn same_part(r: text_lines::Range, from: usize, to: usize) -> bool {
-    if r.from != from {
-        return false;
-    }
-    r.to == to
+    r.from == from && r.to == to
 }
 
 fn is_missing(s: &[u8], number: usize) -> bool {
-    match text_lines::line_of(s, number) {
-        text_lines::Line::Missing => true,
-        text_lines::Line::At(_) => false,
-    }
+    text_lines::line_of(s, number).is_none()
 }
 
 // The five lines of document 01's sheet.

@@ -28,18 +28,8 @@ pub(crate) fn held(rt: &impl Print, t: Tally, ok: bool) -> Tally {
 // One that fails is told by its number among all.
 fn failed(rt: &impl Print, t: Tally) -> Tally {
     let fail = next(t.fail);
-    say(rt, "fails: ");
-    say_number(rt, t.hold.wrapping_add(fail));
-    say(rt, "\n");
+    let _ = println!(rt; "fails: {}", t.hold.wrapping_add(fail));
     Tally { hold: t.hold, fail }
-}
-
-fn say(rt: &impl Print, words: &str) {
-    let _ = rt.print(words);
-}
-
-fn say_number(rt: &impl Print, n: u64) {
-    let _ = rt.print(n);
 }
 
 fn next(n: u64) -> u64 {
@@ -53,8 +43,5 @@ fn main(rt: HostRuntime) {
     let named = lines_and_names::run(&rt, marked);
     let tagged = rfc5646::run(&rt, named);
     let t = refused::run(&rt, tagged);
-    say_number(&rt, t.hold);
-    say(&rt, " examples hold, ");
-    say_number(&rt, t.fail);
-    say(&rt, " fail\n");
+    let _ = println!(rt; "{} examples hold, {} fail", t.hold, t.fail);
 }

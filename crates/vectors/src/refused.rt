@@ -59,8 +59,8 @@ fn numbers_of_requests(rt: &impl Print, t: Tally) -> Tally {
 // Whether a text is answered with the number, 0 where it passes.
 fn answers(s: &[u8], number: u8) -> bool {
     match text_checks::check_text(s) {
-        base_refusals::Outcome::Passed => number == 0,
-        base_refusals::Outcome::Refused(r) => base_refusals::number(r) == number,
+        Ok(()) => number == 0,
+        Err(r) => base_refusals::number(r) == number,
     }
 }
 

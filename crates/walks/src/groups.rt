@@ -1,7 +1,7 @@
 // Three sets over two texts merged in both groupings, by value and into a set that is lent; the limit is met in no step, in the second or in the first.
 use crate::merges::{say_set, tell};
 use crate::{say, say_refusal};
-use base_refusals::Outcome;
+use base_refusals::Refusal;
 use set_table::{Attrs, Filled};
 
 // A set of the first text, one of the second, and one of both.
@@ -97,24 +97,30 @@ fn grouped<'a>(rt: &impl Print, first: &'a [u8], second: &'a [u8], a: Attrs, b: 
 }
 
 // What became of the first step, and of the second where the first was taken.
-fn say_steps<'a>(rt: &impl Print, first: &'a [u8], second: &'a [u8], step: Outcome, then: Filled) {
+fn say_steps<'a>(
+    rt: &impl Print,
+    first: &'a [u8],
+    second: &'a [u8],
+    step: Result<(), Refusal>,
+    then: Filled,
+) {
     match step {
-        Outcome::Refused(r) => {
+        Err(r) => {
             say_refusal(rt, r);
             say(rt, b" in the first step\n");
         }
-        Outcome::Passed => say_second(rt, first, second, then),
+        Ok(()) => say_second(rt, first, second, then),
     }
 }
 
 fn say_second<'a>(rt: &impl Print, first: &'a [u8], second: &'a [u8], then: Filled) {
     let outcome = then.outcome;
     match outcome {
-        Outcome::Refused(r) => {
+        Err(r) => {
             say_refusal(rt, r);
             say(rt, b" in the second step\n");
         }
-        Outcome::Passed => {
+        Ok(()) => {
             say(rt, b"merged\n");
             say_set(rt, first, second, then.set);
         }

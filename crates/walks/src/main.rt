@@ -11,13 +11,8 @@ pub(crate) fn say(rt: &impl Print, words: &[u8]) {
     let _ = rt.write_all(words);
 }
 
-pub(crate) fn say_number(rt: &impl Print, n: usize) {
-    let _ = rt.print(n);
-}
-
 pub(crate) fn say_refusal(rt: &impl Print, r: Refusal) {
-    say(rt, b"refused ");
-    say_number(rt, base_refusals::number(r) as usize);
+    let _ = print!(rt; "refused {}", base_refusals::number(r));
 }
 
 fn main(rt: HostRuntime) {

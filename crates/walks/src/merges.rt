@@ -1,9 +1,8 @@
 // Sets merged into one that is lent, where it stands; a refusal leaves it as it was.
-use crate::{groups, say, say_number, say_refusal};
-use base_refusals::Outcome;
+use crate::{groups, say, say_refusal};
+use base_refusals::Refusal;
 use set_lent::Both;
 use set_table::{Attrs, Origin, Text, Value};
-use set_writer::Wrote;
 
 // Three blocks of a text, by their places: the middle one is lent, the first one leads it, and the last one comes in behind.
 pub(crate) fn run(rt: &impl Print) {
@@ -111,20 +110,14 @@ fn broken(rt: &impl Print, text: &[u8]) {
     let both = set_lent::merge_both(text, b"", bad, target, target);
     tell(rt, text, b"", both);
     let set = both.set;
-    say(rt, b"  one class too many still: ");
-    say_number(rt, set.nclass as usize);
-    say(rt, b"\n");
+    let _ = println!(rt; "  one class too many still: {}", set.nclass);
 }
 
 fn say_row(rt: &impl Print, value: Value) {
     let text = value.text;
     match text {
         Text::Plain(_, from, to) => {
-            say(rt, b"  the last row still goes from ");
-            say_number(rt, from as usize);
-            say(rt, b" to ");
-            say_number(rt, to as usize);
-            say(rt, b"\n");
+            let _ = println!(rt; "  the last row still goes from {from} to {to}");
         }
         Text::Quoted(_, _, _) => say(rt, b"  ANOTHER ROW\n"),
         Text::Empty => say(rt, b"  ANOTHER ROW\n"),
@@ -143,10 +136,10 @@ pub(crate) fn tell<'a>(rt: &impl Print, first: &'a [u8], second: &'a [u8], both:
     say_set(rt, first, second, set);
 }
 
-fn say_outcome(rt: &impl Print, outcome: Outcome) {
+fn say_outcome(rt: &impl Print, outcome: Result<(), Refusal>) {
     match outcome {
-        Outcome::Refused(r) => say_refusal(rt, r),
-        Outcome::Passed => say(rt, b"merged"),
+        Err(r) => say_refusal(rt, r),
+        Ok(()) => say(rt, b"merged"),
     }
 }
 
@@ -156,8 +149,8 @@ pub(crate) fn say_set<'a>(rt: &impl Print, first: &'a [u8], second: &'a [u8], se
     let wrote = set_writer::write_set(first, second, set, &mut out);
     say(rt, b"  ");
     match wrote {
-        Wrote::Refused(r) => say_refusal(rt, r),
-        Wrote::Bytes(n) => say(rt, set_table::bytes_of(&out, 0, n)),
+        Err(r) => say_refusal(rt, r),
+        Ok(n) => say(rt, set_table::bytes_of(&out, 0, n)),
     }
     say(rt, b"\n");
 }

@@ -1,7 +1,6 @@
 // The tokens of payloads, step by step.
-use crate::{say, say_number};
+use crate::say;
 use base_bytes::Mode;
-use block_next_token::{Ahead, Count};
 use block_tokens::Token;
 
 pub(crate) fn run(rt: &impl Print) {
@@ -30,34 +29,29 @@ fn tell(rt: &impl Print, text: &[u8], mode: Mode) {
 // A walker that is set down where the last step left it, until it goes no further.
 fn walk(rt: &impl Print, text: &[u8], mode: Mode) {
     let mut i: usize = 0;
+    // A loop: a step takes in as many bytes as its token has, so no range or iterator gives the places.
     'steps: loop {
         let step = block_next_token::step_from(text, i, mode);
-        let ahead = step.ahead;
-        say_step(rt, text, i, ahead);
-        match ahead {
-            Ahead::End => return,
-            Ahead::Found(token) => match token {
+        say_step(rt, text, i, step.ahead);
+        match step.ahead {
+            None => return,
+            Some(token) => match token {
                 Token::Bad(_) => return,
-                _ => {
-                    i = step.at;
-                    continue 'steps;
-                }
+                _ => i = step.at,
             },
         }
     }
 }
 
-fn say_step(rt: &impl Print, text: &[u8], at: usize, ahead: Ahead) {
-    say(rt, b"  at ");
-    say_number(rt, at);
-    say(rt, b":");
+fn say_step(rt: &impl Print, text: &[u8], at: usize, ahead: Option<Token>) {
+    let _ = print!(rt; "  at {at}:");
     say_ahead(rt, text, ahead);
 }
 
-fn say_ahead(rt: &impl Print, text: &[u8], ahead: Ahead) {
+fn say_ahead(rt: &impl Print, text: &[u8], ahead: Option<Token>) {
     match ahead {
-        Ahead::End => say(rt, b" end\n"),
-        Ahead::Found(token) => say_token(rt, text, token),
+        None => say(rt, b" end\n"),
+        Some(token) => say_token(rt, text, token),
     }
 }
 
@@ -76,8 +70,7 @@ fn say_token(rt: &impl Print, text: &[u8], token: Token) {
 
 // The bytes stop being a token at the place.
 fn say_bad(rt: &impl Print, place: usize) {
-    say(rt, b" no token, wrong at ");
-    say_number(rt, place);
+    let _ = print!(rt; " no token, wrong at {place}");
 }
 
 fn say_part<'a>(rt: &impl Print, kind: &'a [u8], text: &'a [u8], from: usize, to: usize) {
@@ -105,13 +98,11 @@ fn say_key<'a>(
     say(rt, b"`");
 }
 
-fn say_count(rt: &impl Print, count: Count) {
+fn say_count(rt: &impl Print, count: Option<usize>) {
     match count {
-        Count::Bad => say(rt, b"  no count\n"),
-        Count::Tokens(n) => {
-            say(rt, b"  tokens: ");
-            say_number(rt, n);
-            say(rt, b"\n");
+        None => say(rt, b"  no count\n"),
+        Some(n) => {
+            let _ = println!(rt; "  tokens: {n}");
         }
     }
 }

@@ -2,7 +2,6 @@ use mathlib.Core.Path.{refl, sym}
 use mathlib.Core.Bool.{true, false, or-false}
 use mathlib.Core.List.{[], ◌∷◌}
 use native.Mathlib.Omega.{arith}
-use borrow.Author.Rules.{rules}
 use Rattle.base_lists.specs.Lists.{is_in}
 use Rattle.base_lists.proofs.Steady.{met, missed}
 use Rattle.base_bytes.specs.Bytes.{is_blank}

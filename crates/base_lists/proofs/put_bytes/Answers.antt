@@ -1,23 +1,10 @@
-use Prim.Native.Nat.{◌-◌}
-use lib.ListN.{length}
+use mathlib.Core.Path.{sym}
 use native.Mathlib.Omega.{arith}
-use Rattle.base_lists.proofs.Sets as laws
+use Rattle.base_lists.proofs.Sets.{put_part, sets_out}
 use Rattle.base_lists.proofs.put_bytes.Goals as goal
 
-pub loop-i-init : goal.loop-i-init
-loop-i-init c = laws.puts-start _ _ _
+pub returns-then-at-out : goal.returns-then-at-out
+returns-then-at-out c = put_part c.args.out.now c.args.at _ _ c.args.s.now _ (omega arith) c.min-n.ensures (omega arith) c.copy_from_slice.ensures.after
 
-pub shape_of-out-then-out-k : goal.shape_of-out-then-out-k
-shape_of-out-then-out-k c = c.loop-i.invariant.long
-
-pub returns-then-out-k : goal.returns-then-out-k
-returns-then-out-k c = laws.puts_full c.loop-i.invariant (omega (arith, c.if-out-k.true))
-
-pub loop-i-preserved : goal.loop-i-preserved
-loop-i-preserved c = laws.puts_go c.loop-i.invariant (omega (arith, c.loop-i-test.true))
-
-pub shape_of-out : goal.shape_of-out
-shape_of-out c = c.loop-i.invariant.long
-
-pub returns : goal.returns
-returns c = laws.puts_end c.loop-i.invariant (omega (arith, c.loop-i-test.false))
+pub returns-else-at-out : goal.returns-else-at-out
+returns-else-at-out c = sym (sets_out c.args.out.now c.args.at c.args.s.now c.if-at-out.false)

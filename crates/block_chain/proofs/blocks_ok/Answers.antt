@@ -14,16 +14,16 @@ pub block_close-requires : goal.block_close-requires
 block_close-requires c = omega (arith, c.if-s-i.false)
 
 pub overflow_add-i : goal.overflow_add-i
-overflow_add-i c = omega (arith, good.ahead c.blocks-2.invariant c.block_close.ensures c.in-At.is)
+overflow_add-i c = omega (arith, good.ahead c.blocks-2.invariant c.block_close.ensures c.in-Some.is)
 
 pub blocks-2-smaller : goal.blocks-2-smaller
-blocks-2-smaller c = omega (arith, good.ahead c.blocks-2.invariant c.block_close.ensures c.in-At.is)
+blocks-2-smaller c = omega (arith, good.ahead c.blocks-2.invariant c.block_close.ensures c.in-Some.is)
 
 pub blocks-2-preserved : goal.blocks-2-preserved
-blocks-2-preserved c = good.go c.blocks-2.invariant c.block_close.ensures c.in-At.is
+blocks-2-preserved c = good.go c.blocks-2.invariant c.block_close.ensures c.in-Some.is
 
 pub returns-then-s-i : goal.returns-then-s-i
 returns-then-s-i c = good.end c.blocks-2.invariant (omega (arith, c.if-s-i.true))
 
-pub returns-in-Nothing : goal.returns-in-Nothing
-returns-in-Nothing c = good.stop c.blocks-2.invariant c.block_close.ensures c.in-Nothing.is
+pub returns-in-None : goal.returns-in-None
+returns-in-None c = good.stop c.blocks-2.invariant c.block_close.ensures c.in-None.is

@@ -41,15 +41,15 @@ bounds-s-i-in-34 c = omega (arith, (laws.here c.bytes.invariant c.goes_on.ensure
 pub quote_close-requires : goal.quote_close-requires
 quote_close-requires c = laws.quoting c.in-34.is
 
-pub overflow_add-i-in-At : goal.overflow_add-i-in-At
-overflow_add-i-in-At c = omega (arith, c.quote_close.ensures.within _ c.in-At.is)
+pub overflow_add-i-in-Some : goal.overflow_add-i-in-Some
+overflow_add-i-in-Some c = omega (arith, c.quote_close.ensures.within _ c.in-Some.is)
 
-pub bytes-smaller-in-At : goal.bytes-smaller-in-At
-bytes-smaller-in-At c = omega (arith, c.quote_close.ensures.within _ c.in-At.is)
+pub bytes-smaller-in-Some : goal.bytes-smaller-in-Some
+bytes-smaller-in-Some c = omega (arith, c.quote_close.ensures.within _ c.in-Some.is)
 
-pub bytes-preserved-in-At : goal.bytes-preserved-in-At
-bytes-preserved-in-At c =
-    laws.passed c.bytes.invariant (laws.here c.bytes.invariant c.goes_on.ensures (ap not c.if-not-goes_on.false)) c.in-34.is c.quote_close.ensures c.in-At.is
+pub bytes-preserved-in-Some : goal.bytes-preserved-in-Some
+bytes-preserved-in-Some c =
+    laws.passed c.bytes.invariant (laws.here c.bytes.invariant c.goes_on.ensures (ap not c.if-not-goes_on.false)) c.in-34.is c.quote_close.ensures c.in-Some.is
 
 pub overflow_add-i-in_default : goal.overflow_add-i-in_default
 overflow_add-i-in_default c = omega (arith, (laws.here c.bytes.invariant c.goes_on.ensures (ap not c.if-not-goes_on.false)).there)
@@ -71,6 +71,6 @@ pub returns-then-not-goes_on-2 : goal.returns-then-not-goes_on-2
 returns-then-not-goes_on-2 c =
     said close_paper refl (laws.cut c.bytes.invariant (laws.here c.bytes.invariant c.goes_on.ensures (ap not c.if-not-goes_on.false)) c.in-92.is (sym c.goes_on-in-92.ensures ∙ c.if-not-goes_on-2.true))
 
-pub returns-in-Nothing : goal.returns-in-Nothing
-returns-in-Nothing c =
-    said close_paper refl (laws.unshut c.bytes.invariant (laws.here c.bytes.invariant c.goes_on.ensures (ap not c.if-not-goes_on.false)) c.in-34.is c.quote_close.ensures c.in-Nothing.is)
+pub returns-in-None : goal.returns-in-None
+returns-in-None c =
+    said close_paper refl (laws.unshut c.bytes.invariant (laws.here c.bytes.invariant c.goes_on.ensures (ap not c.if-not-goes_on.false)) c.in-34.is c.quote_close.ensures c.in-None.is)

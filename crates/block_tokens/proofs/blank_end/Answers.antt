@@ -1,12 +1,7 @@
 use mathlib.Core.Path.{sym, ◌∙◌}
-use Prim.Native.Nat.{◌+◌, ◌-◌}
 use native.Mathlib.Omega.{arith}
-use borrow.Author.Rules.{rules}
-use borrow.Author.Tests.{not-true, not-false}
-use lib.ListN.{length, drop}
-use Rattle.base_lists.specs.Lists.{run}
-use Rattle.base_bytes.specs.Bytes.{is_blank}
 use Rattle.base_lists.proofs.Runs as runs
+use Rattle.block_tokens.proofs.Runs.{end_max}
 use Rattle.block_tokens.proofs.blank_end.Goals as goal
 
 pub loop-a-init : goal.loop-a-init
@@ -19,4 +14,4 @@ pub loop-a-preserved : goal.loop-a-preserved
 loop-a-preserved c = runs.go c.loop-a.invariant (omega arith) (sym c.is_blank.ensures ∙ c.if-not-is_blank.false)
 
 pub returns : goal.returns
-returns c = runs.end c.loop-a.invariant (omega arith)
+returns c = c.max.ensures ∙ end_max c.loop-a.invariant (omega arith) c.loop-a.auto.a-end

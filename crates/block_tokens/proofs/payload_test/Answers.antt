@@ -20,17 +20,17 @@ tokens-init c = payload.start _ _
 pub tokens-smaller : goal.tokens-smaller
 unfolding class_of is_letter is_digit within
 tokens-smaller c =
-    let g = payload.go c.tokens.invariant c.blank_end-a.ensures (sym c.in-Next.is ∙ c.behind_token.ensures ∙ ap behind_of (lent.told rule.tells _ _ _ c.token_by.ensures.value)) in omega (arith, g.0.within, g.1)
+    let g = payload.go c.tokens.invariant c.blank_end-a.ensures (sym c.in-Ok.is ∙ c.behind_token.ensures ∙ ap behind_of (lent.told rule.tells _ _ _ c.token_by.ensures.value)) in omega (arith, g.0.within, g.1)
 
 pub tokens-preserved : goal.tokens-preserved
 unfolding class_of is_letter is_digit within
 tokens-preserved c =
-    (payload.go c.tokens.invariant c.blank_end-a.ensures (sym c.in-Next.is ∙ c.behind_token.ensures ∙ ap behind_of (lent.told rule.tells _ _ _ c.token_by.ensures.value))).0
+    (payload.go c.tokens.invariant c.blank_end-a.ensures (sym c.in-Ok.is ∙ c.behind_token.ensures ∙ ap behind_of (lent.told rule.tells _ _ _ c.token_by.ensures.value))).0
 
 pub returns-then-a-s : goal.returns-then-a-s
 returns-then-a-s c = said tested_paper refl (c.whole_or_stops.ensures.value ∙ payload.end c.tokens.invariant c.blank_end-a.ensures c.if-a-s.true)
 
-pub returns-in-Wrong : goal.returns-in-Wrong
+pub returns-in-Err : goal.returns-in-Err
 unfolding class_of is_letter is_digit within
-returns-in-Wrong c =
-    said tested_paper refl (payload.stop c.tokens.invariant c.blank_end-a.ensures c.if-a-s.false (sym c.in-Wrong.is ∙ c.behind_token.ensures ∙ ap behind_of (lent.told rule.tells _ _ _ c.token_by.ensures.value)))
+returns-in-Err c =
+    said tested_paper refl (payload.stop c.tokens.invariant c.blank_end-a.ensures c.if-a-s.false (sym c.in-Err.is ∙ c.behind_token.ensures ∙ ap behind_of (lent.told rule.tells _ _ _ c.token_by.ensures.value)))

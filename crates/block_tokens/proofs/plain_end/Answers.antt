@@ -1,12 +1,7 @@
 use mathlib.Core.Path.{sym, ◌∙◌}
-use Prim.Native.Nat.{◌+◌, ◌-◌}
 use native.Mathlib.Omega.{arith}
-use borrow.Author.Rules.{rules}
-use borrow.Author.Tests.{not-true, not-false}
-use lib.ListN.{length, drop}
-use Rattle.base_lists.specs.Lists.{run}
-use Rattle.base_bytes.specs.Bytes.{is_plain}
 use Rattle.base_lists.proofs.Runs as runs
+use Rattle.block_tokens.proofs.Runs.{end_max}
 use Rattle.block_tokens.proofs.plain_end.Goals as goal
 
 pub loop-k-init : goal.loop-k-init
@@ -19,4 +14,4 @@ pub loop-k-preserved : goal.loop-k-preserved
 loop-k-preserved c = runs.go c.loop-k.invariant (omega arith) (sym c.is_value_byte.ensures ∙ c.if-not-is_value_byte.false)
 
 pub returns : goal.returns
-returns c = runs.end c.loop-k.invariant (omega arith)
+returns c = c.max.ensures ∙ end_max c.loop-k.invariant (omega arith) c.loop-k.auto.k-end

@@ -9,19 +9,19 @@ use Rattle.block_tokens.proofs.quoted_token.Goals as goal
 pub overflow_add-e : goal.overflow_add-e
 overflow_add-e c =
     let a = c.args in
-    omega (arith, (quotes.closed _ a.s.now (a.k + 2) (sym c.in-At.is ∙ c.quote_end.ensures) (omega (arith, c.requires))).within)
+    omega (arith, (quotes.closed _ a.s.now (a.k + 2) (sym c.in-Some.is ∙ c.quote_end.ensures) (omega (arith, c.requires))).within)
 
-pub overflow_add-e-in-At : goal.overflow_add-e-in-At
-overflow_add-e-in-At c =
+pub overflow_add-e-in-Some : goal.overflow_add-e-in-Some
+overflow_add-e-in-Some c =
     let a = c.args in
-    omega (arith, (quotes.closed _ a.s.now (a.k + 2) (sym c.in-At.is ∙ c.quote_end.ensures) (omega (arith, c.requires))).within)
+    omega (arith, (quotes.closed _ a.s.now (a.k + 2) (sym c.in-Some.is ∙ c.quote_end.ensures) (omega (arith, c.requires))).within)
 
-pub returns-in-Nothing : goal.returns-in-Nothing
-returns-in-Nothing c =
+pub returns-in-None : goal.returns-in-None
+returns-in-None c =
     let a = c.args in
-    words.quoted_none a.mode a.i a.k a.s.now _ (omega (arith, c.requires)) (sym c.in-Nothing.is ∙ c.quote_end.ensures)
+    words.quoted_none a.mode a.i a.k a.s.now _ (omega (arith, c.requires)) (sym c.in-None.is ∙ c.quote_end.ensures)
 
-pub returns-in-At : goal.returns-in-At
-returns-in-At c =
+pub returns-in-Some : goal.returns-in-Some
+returns-in-Some c =
     let a = c.args in
-    words.quoted_some a.mode a.i a.k a.s.now _ (omega (arith, c.requires)) (omega (arith, c.requires)) (quotes.closed _ a.s.now (a.k + 2) (sym c.in-At.is ∙ c.quote_end.ensures) (omega (arith, c.requires))) c.finish.ensures
+    words.quoted_some a.mode a.i a.k a.s.now _ (omega (arith, c.requires)) (omega (arith, c.requires)) (quotes.closed _ a.s.now (a.k + 2) (sym c.in-Some.is ∙ c.quote_end.ensures) (omega (arith, c.requires))) c.finish.ensures

@@ -2,9 +2,9 @@ use Rattle.door_columns.specs.Said.{table_nos}
 use borrow.Author.Rules.{rules}
 use Rattle.door_columns.proofs.lay_unless.Goals as goal
 
-pub returns-in-Refused : goal.returns-in-Refused
-returns-in-Refused c = rw c.in-Refused.is
+pub returns-in-Err : goal.returns-in-Err
+returns-in-Err c = rw c.in-Err.is
 
-pub returns-in-Passed : goal.returns-in-Passed
+pub returns-in-Ok : goal.returns-in-Ok
 unfolding table_nos
-returns-in-Passed c = rw c.in-Passed.is c.lay_columns.ensures
+returns-in-Ok c = rw c.in-Ok.is c.lay_columns.ensures

@@ -1,12 +1,10 @@
-use Rattle.read_brace.proofs.Places as places
+use mathlib.Core.Path.{sym}
+use borrow.Author.Tests.{ne_eqb}
+use denote.Enum.Bare.{same_false}
+use Rattle.base_refusals.specs.contracts.Refusal.{the_type}
+use Rattle.base_refusals.proofs.Numbers.{number_own}
 use borrow.Author.Rules.{rules}
 use Rattle.read_brace.proofs.answer_of.Goals as goal
 
-pub returns-then-number : goal.returns-then-number
-returns-then-number c = places.answer_five _ _ c.in-Refused.is c.number.ensures c.number-in-Refused.ensures c.if-number.true
-
-pub returns-in-Passed : goal.returns-in-Passed
-returns-in-Passed c = rw c.in-Passed.is
-
-pub returns-else-number : goal.returns-else-number
-returns-else-number c = places.answer_other _ _ c.in-Refused.is c.number.ensures c.number-in-Refused.ensures c.if-number.false
+pub returns-else-eq : goal.returns-else-eq
+returns-else-eq c = rw (c.in-Err.is, ne_eqb _ _ (λ z. same_false the_type _ _ (sym c.if-eq.ensures) (number_own _ _ z)))

@@ -19,14 +19,14 @@ overflow_add-place c = omega (arith, laws.opens_in c.args.text.now c.args.place 
 
 pub range_to-requires : goal.range_to-requires
 range_to-requires c =
-    ((laws.close_in c.args.text.now c.args.place _ c.find_close.ensures.value c.in-At.is).0, (laws.close_in c.args.text.now c.args.place _ c.find_close.ensures.value c.in-At.is).1.0)
+    ((laws.close_in c.args.text.now c.args.place _ c.find_close.ensures.value c.in-Some.is).0, (laws.close_in c.args.text.now c.args.place _ c.find_close.ensures.value c.in-Some.is).1.0)
 
-pub returns-in-Nothing : goal.returns-in-Nothing
+pub returns-in-None : goal.returns-in-None
 unfolding payload_at
-returns-in-Nothing c =
-    laws.at_close empty_front empty_front (part_to c.args.text.now c.args.place) _ _ c.if-text-gt-MAX_TEXT.false (sym c.opens_at.ensures ∙ c.if-not-opens_at.false) c.find_close.ensures.value c.in-Nothing.is refl
+returns-in-None c =
+    laws.at_close empty_front empty_front (part_to c.args.text.now c.args.place) _ _ c.if-text-gt-MAX_TEXT.false (sym c.opens_at.ensures ∙ c.if-not-opens_at.false) c.find_close.ensures.value c.in-None.is refl
 
-pub returns-in-At : goal.returns-in-At
+pub returns-in-Some : goal.returns-in-Some
 unfolding payload_at
-returns-in-At c =
-    laws.at_close empty_front empty_front (part_to c.args.text.now c.args.place) _ _ c.if-text-gt-MAX_TEXT.false (sym c.opens_at.ensures ∙ c.if-not-opens_at.false) c.find_close.ensures.value c.in-At.is c.range_to.ensures
+returns-in-Some c =
+    laws.at_close empty_front empty_front (part_to c.args.text.now c.args.place) _ _ c.if-text-gt-MAX_TEXT.false (sym c.opens_at.ensures ∙ c.if-not-opens_at.false) c.find_close.ensures.value c.in-Some.is c.range_to.ensures

@@ -15,16 +15,16 @@ returns-then-not-says_place c =
     let a = c.args in
     places.not_said a.outcome (payload_place a.mode (slice a.from a.end a.text.now)) c.says_place.ensures (ap not c.if-not-says_place.true)
 
-pub returns-in-Whole : goal.returns-in-Whole
-returns-in-Whole c =
+pub returns-in-Ok : goal.returns-in-Ok
+returns-in-Ok c =
     let a = c.args in
     places.never_whole a.mode (one a.text.now) a.from (slice a.from a.end a.text.now) c.requires.1.1
     (c.payload_test.ensures.value ∙ ap (payload_tested a.mode) (sym (slice_part a.from a.end a.text.now)))
-    (sym c.says_place.ensures ∙ c.if-not-says_place.false) c.in-Whole.is
+    (sym c.says_place.ensures ∙ c.if-not-says_place.false) c.in-Ok.is
 
-pub returns-in-Stops : goal.returns-in-Stops
-returns-in-Stops c =
+pub returns-in-Err : goal.returns-in-Err
+returns-in-Err c =
     let a = c.args in
     places.stops_at_lem a.mode (one a.text.now) a.from (slice a.from a.end a.text.now) c.requires.1.1
     (c.payload_test.ensures.value ∙ ap (payload_tested a.mode) (sym (slice_part a.from a.end a.text.now)))
-    (sym c.says_place.ensures ∙ c.if-not-says_place.false) c.in-Stops.is
+    (sym c.says_place.ensures ∙ c.if-not-says_place.false) c.in-Err.is

@@ -24,14 +24,14 @@ overflow_add-place c = omega (arith, laws.opens_in c.args.text.now c.args.place 
 
 pub read_payload-requires : goal.read_payload-requires
 read_payload-requires c =
-    (c.if-text-gt-MAX_TEXT.false, laws.close_in c.args.text.now c.args.place _ c.find_close.ensures.value c.in-At.is)
+    (c.if-text-gt-MAX_TEXT.false, laws.close_in c.args.text.now c.args.place _ c.find_close.ensures.value c.in-Some.is)
 
-pub returns-in-Nothing : goal.returns-in-Nothing
+pub returns-in-None : goal.returns-in-None
 unfolding read_attrs_at
-returns-in-Nothing c =
-    said (brace_no _ _ _) (brace_place _ _ _) (laws.at_close (refusing_read TextTooLong) (refusing_read NothingThere) (read_to c.args.mode c.args.text.now c.args.place) _ _ c.if-text-gt-MAX_TEXT.false (sym c.opens_at.ensures ∙ c.if-not-opens_at.false) c.find_close.ensures.value c.in-Nothing.is c.refused-in-Nothing.ensures)
+returns-in-None c =
+    said (brace_no _ _ _) (brace_place _ _ _) (laws.at_close (refusing_read TextTooLong) (refusing_read NothingThere) (read_to c.args.mode c.args.text.now c.args.place) _ _ c.if-text-gt-MAX_TEXT.false (sym c.opens_at.ensures ∙ c.if-not-opens_at.false) c.find_close.ensures.value c.in-None.is c.refused-in-None.ensures)
 
-pub returns-in-At : goal.returns-in-At
+pub returns-in-Some : goal.returns-in-Some
 unfolding read_attrs_at
-returns-in-At c =
-    said (brace_no _ _ _) (brace_place _ _ _) (laws.at_close (refusing_read TextTooLong) (refusing_read NothingThere) (read_to c.args.mode c.args.text.now c.args.place) _ _ c.if-text-gt-MAX_TEXT.false (sym c.opens_at.ensures ∙ c.if-not-opens_at.false) c.find_close.ensures.value c.in-At.is c.read_payload.ensures)
+returns-in-Some c =
+    said (brace_no _ _ _) (brace_place _ _ _) (laws.at_close (refusing_read TextTooLong) (refusing_read NothingThere) (read_to c.args.mode c.args.text.now c.args.place) _ _ c.if-text-gt-MAX_TEXT.false (sym c.opens_at.ensures ∙ c.if-not-opens_at.false) c.find_close.ensures.value c.in-Some.is c.read_payload.ensures)

@@ -5,8 +5,8 @@ use Rattle.read_by_line.proofs.LineNumbers.{line_no}
 use borrow.Author.Rules.{rules}
 use Rattle.read_by_line.proofs.parse_standalone_attrs.Goals as goal
 
-pub returns-in-Refused : goal.returns-in-Refused
-returns-in-Refused c = said (line_no _ _) (laws.alone_none _ _ (sym c.line_start.ensures.value ∙ c.in-Refused.is) c.refusing.ensures.value)
+pub returns-in-Err : goal.returns-in-Err
+returns-in-Err c = said (line_no _ _) (laws.alone_none _ _ (sym c.line_start.ensures.value ∙ c.in-Err.is) c.refusing.ensures.value)
 
-pub returns-in-At : goal.returns-in-At
-returns-in-At c = said (line_no _ _) (laws.alone_at _ _ (sym c.line_start.ensures.value ∙ c.in-At.is) c.read_line.ensures)
+pub returns-in-Ok : goal.returns-in-Ok
+returns-in-Ok c = said (line_no _ _) (laws.alone_at _ _ (sym c.line_start.ensures.value ∙ c.in-Ok.is) c.read_line.ensures)

@@ -6,9 +6,9 @@ use Rattle.read_by_line.proofs.LineNumbers.{block_no}
 use borrow.Author.Rules.{rules}
 use Rattle.read_by_line.proofs.parse_standalone_attrs_block.Goals as goal
 
-pub returns-in-Refused : goal.returns-in-Refused
-returns-in-Refused c = let e = sym c.line_start.ensures.value ∙ c.in-Refused.is in said (block_no _ _ _) (laws.read_none _ _ e _ (block_none _ _ _ _ e) c.no_block.ensures.value)
+pub returns-in-Err : goal.returns-in-Err
+returns-in-Err c = let e = sym c.line_start.ensures.value ∙ c.in-Err.is in said (block_no _ _ _) (laws.read_none _ _ e _ (block_none _ _ _ _ e) c.no_block.ensures.value)
 
-pub returns-in-At : goal.returns-in-At
-returns-in-At c =
-    let e = sym c.line_start.ensures.value ∙ c.in-At.is in said (block_no _ _ _) (laws.read_at _ _ e _ (block_at _ _ _ _ e) c.read_at.ensures.value c.read_at.ensures.join_after)
+pub returns-in-Ok : goal.returns-in-Ok
+returns-in-Ok c =
+    let e = sym c.line_start.ensures.value ∙ c.in-Ok.is in said (block_no _ _ _) (laws.read_at _ _ e _ (block_at _ _ _ _ e) c.read_at.ensures.value c.read_at.ensures.join_after)

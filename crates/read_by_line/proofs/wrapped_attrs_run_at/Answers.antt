@@ -6,9 +6,9 @@ use Rattle.read_by_line.proofs.LineNumbers.{wrapped_no}
 use borrow.Author.Rules.{rules}
 use Rattle.read_by_line.proofs.wrapped_attrs_run_at.Goals as goal
 
-pub returns-in-Refused : goal.returns-in-Refused
-returns-in-Refused c = let e = sym c.line_start.ensures.value ∙ c.in-Refused.is in said (wrapped_no _ _ _ _) (laws.read_none _ _ e _ (wraps_none _ _ _ _ e) c.no_block.ensures.value)
+pub returns-in-Err : goal.returns-in-Err
+returns-in-Err c = let e = sym c.line_start.ensures.value ∙ c.in-Err.is in said (wrapped_no _ _ _ _) (laws.read_none _ _ e _ (wraps_none _ _ _ _ e) c.no_block.ensures.value)
 
-pub returns-in-At : goal.returns-in-At
-returns-in-At c =
-    let e = sym c.line_start.ensures.value ∙ c.in-At.is in said (wrapped_no _ _ _ _) (laws.read_at _ _ e _ (wraps_at _ _ _ _ e) c.wrapped_at.ensures.value c.wrapped_at.ensures.join_after)
+pub returns-in-Ok : goal.returns-in-Ok
+returns-in-Ok c =
+    let e = sym c.line_start.ensures.value ∙ c.in-Ok.is in said (wrapped_no _ _ _ _) (laws.read_at _ _ e _ (wraps_at _ _ _ _ e) c.wrapped_at.ensures.value c.wrapped_at.ensures.join_after)

@@ -42,14 +42,14 @@ pub quote_end-requires : goal.quote_end-requires
 quote_end-requires c = laws.quoting c.in-34.is
 
 pub overflow_add-e : goal.overflow_add-e
-overflow_add-e c = omega (arith, c.quote_end.ensures.shuts.within _ c.in-At.is)
+overflow_add-e c = omega (arith, c.quote_end.ensures.shuts.within _ c.in-Some.is)
 
-pub bytes-smaller-in-At : goal.bytes-smaller-in-At
-bytes-smaller-in-At c = omega (arith, c.quote_end.ensures.shuts.within _ c.in-At.is, c.calm_end-i.ensures.0)
+pub bytes-smaller-in-Some : goal.bytes-smaller-in-Some
+bytes-smaller-in-Some c = omega (arith, c.quote_end.ensures.shuts.within _ c.in-Some.is, c.calm_end-i.ensures.0)
 
-pub bytes-preserved-in-At : goal.bytes-preserved-in-At
-bytes-preserved-in-At c =
-    calm.stretch (laws.passed c.bytes.invariant (laws.here c.bytes.invariant c.goes_on.ensures (ap not c.if-not-goes_on.false)) c.in-34.is c.quote_end.ensures.shuts c.in-At.is) c.calm_end-i.ensures.1
+pub bytes-preserved-in-Some : goal.bytes-preserved-in-Some
+bytes-preserved-in-Some c =
+    calm.stretch (laws.passed c.bytes.invariant (laws.here c.bytes.invariant c.goes_on.ensures (ap not c.if-not-goes_on.false)) c.in-34.is c.quote_end.ensures.shuts c.in-Some.is) c.calm_end-i.ensures.1
 
 pub overflow_add-i-in_default : goal.overflow_add-i-in_default
 overflow_add-i-in_default c = omega (arith, (laws.here c.bytes.invariant c.goes_on.ensures (ap not c.if-not-goes_on.false)).there)
@@ -71,6 +71,6 @@ pub returns-then-not-goes_on-2 : goal.returns-then-not-goes_on-2
 returns-then-not-goes_on-2 c =
     laws.cut c.bytes.invariant (laws.here c.bytes.invariant c.goes_on.ensures (ap not c.if-not-goes_on.false)) c.in-92.is (sym c.goes_on-in-92.ensures ∙ c.if-not-goes_on-2.true)
 
-pub returns-in-Nothing : goal.returns-in-Nothing
-returns-in-Nothing c =
-    laws.unshut c.bytes.invariant (laws.here c.bytes.invariant c.goes_on.ensures (ap not c.if-not-goes_on.false)) c.in-34.is c.quote_end.ensures.shuts c.in-Nothing.is
+pub returns-in-None : goal.returns-in-None
+returns-in-None c =
+    laws.unshut c.bytes.invariant (laws.here c.bytes.invariant c.goes_on.ensures (ap not c.if-not-goes_on.false)) c.in-34.is c.quote_end.ensures.shuts c.in-None.is

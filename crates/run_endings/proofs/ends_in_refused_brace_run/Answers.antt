@@ -6,14 +6,14 @@ use borrow.Author.Rules.{rules}
 use Rattle.run_endings.proofs.ends_in_refused_brace_run.Goals as goal
 
 pub ends_in-requires : goal.ends_in-requires
-ends_in-requires c = passes_short c.args.text.now (c.check_text.ensures.value) c.in-Passed.is
+ends_in-requires c = passes_short c.args.text.now (c.check_text.ensures.value) c.in-Ok.is
 
-pub returns-in-Refused : goal.returns-in-Refused
+pub returns-in-Err : goal.returns-in-Err
 unfolding ends_in
-returns-in-Refused c =
-    said-ends c.args.join.now c.args.text.now (rw (sym c.check_text.ensures.value ∙ c.in-Refused.is) (c.ended.ensures, refl))
+returns-in-Err c =
+    said-ends c.args.join.now c.args.text.now (rw (sym c.check_text.ensures.value ∙ c.in-Err.is) (c.ended.ensures, refl))
 
-pub returns-in-Passed : goal.returns-in-Passed
+pub returns-in-Ok : goal.returns-in-Ok
 unfolding ends_in
-returns-in-Passed c =
-    said-ends c.args.join.now c.args.text.now (rw (sym c.check_text.ensures.value ∙ c.in-Passed.is) (c.ends_in.ensures.value, c.ends_in.ensures.join_after))
+returns-in-Ok c =
+    said-ends c.args.join.now c.args.text.now (rw (sym c.check_text.ensures.value ∙ c.in-Ok.is) (c.ends_in.ensures.value, c.ends_in.ensures.join_after))

@@ -1,21 +1,11 @@
-use native.Mathlib.Omega.{arith}
+use Rattle.std.proofs.Common.{◌≡◌, ◌+◌, ◌-◌, take, rules, MatchOption}
+use Rattle.std.proofs.iter.runs.Made.{chains}
+use Rattle.run_scanners.proofs.Quick.{IsLast}
 use Rattle.run_endings.proofs.Upwards as laws
 use Rattle.run_endings.proofs.line_start.Goals as goal
 
-pub overflow_sub-i : goal.overflow_sub-i
-overflow_sub-i c = omega (arith, c.requires.0)
-
-pub loop-i-init : goal.loop-i-init
-loop-i-init c = laws.climb_start _ _ (c.requires.0) (c.requires.1.0) (c.requires.1.1)
-
-pub bounds-text-i : goal.bounds-text-i
-bounds-text-i c = omega (arith, c.loop-i.invariant.below, c.loop-i.invariant.within)
-
-pub returns-then-text-i-eq10 : goal.returns-then-text-i-eq10
-returns-then-text-i-eq10 c = laws.climb_stop (c.loop-i.invariant) (c.if-text-i-eq10.true)
-
-pub loop-i-preserved : goal.loop-i-preserved
-loop-i-preserved c = laws.climb_go (c.loop-i.invariant) (c.loop-i-test.true) (c.if-text-i-eq10.false)
-
 pub returns : goal.returns
-returns c = laws.climb_end (c.loop-i.invariant) (c.loop-i-test.false)
+returns c =
+    let e : IsLast 10 (take (c.args.at - 1) c.args.text.now) c.rposition.result = search (rules, chains) in
+    let q : MatchOption c.rposition.result (c.map_or.result ≡ 0) (λ i. c.map_or.result ≡ i + 1) = search (rules, chains) in
+    laws.climb_found (laws.climb_start _ _ c.requires.0 c.requires.1.0 c.requires.1.1) _ e q

@@ -6,10 +6,10 @@ use Rattle.run_joins.proofs.goes_on.Goals as goal
 pub returns-then-indent_from-st : goal.returns-then-indent_from-st
 returns-then-indent_from-st c = laws.goes_low c.args.st c.args.pad c.args.line.now (omega arith) c.indent_from.ensures c.if-indent_from-st.true
 
-pub returns-in-Out : goal.returns-in-Out
-returns-in-Out c =
-    laws.goes_out c.args.st c.args.pad c.args.line.now (omega arith) c.indent_from.ensures c.if-indent_from-st.false c.in-Out.is c.requires c.continues_run.ensures
+pub returns-in-None : goal.returns-in-None
+returns-in-None c =
+    laws.goes_out c.args.st c.args.pad c.args.line.now (omega arith) c.indent_from.ensures c.if-indent_from-st.false c.in-None.is c.requires c.continues_run.ensures
 
-pub returns-in-In : goal.returns-in-In
-returns-in-In c =
-    laws.goes_quoted c.args.st c.args.pad c.args.line.now (omega arith) c.indent_from.ensures c.if-indent_from-st.false c.in-In.is
+pub returns-in-Some : goal.returns-in-Some
+returns-in-Some c =
+    laws.goes_quoted c.args.st c.args.pad c.args.line.now (omega arith) c.indent_from.ensures c.if-indent_from-st.false c.in-Some.is

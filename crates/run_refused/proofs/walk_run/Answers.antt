@@ -1,10 +1,7 @@
-use borrow.Author.Rules.{rules}
 use mathlib.Core.Path.{sym, ◌∙◌, ap}
-use Prim.Native.Nat.{◌+◌, ◌-◌}
+use Prim.Native.Nat.{◌+◌}
 use native.Mathlib.Omega.{arith}
 use borrow.Author.Tests.{not-true, not-false}
-use lib.ListN.{length}
-use Rattle.run_refused.specs.Inner.{walk_at, shown_walk}
 use Rattle.run_refused.proofs.Walking as laws
 use Rattle.run_refused.proofs.walk_run.Goals as goal
 
@@ -45,8 +42,8 @@ slice_bounds-trim_ascii_start-start c = omega (arith, laws.line_in _ _ c.if-text
 pub slice_bounds-trim_ascii_start-end : goal.slice_bounds-trim_ascii_start-end
 slice_bounds-trim_ascii_start-end c = omega (arith, laws.line_in _ _ c.if-text-at.false c.line_from-l.ensures)
 
-pub overflow_add-i : goal.overflow_add-i
-overflow_add-i c =
+pub overflow_add-from : goal.overflow_add-from
+overflow_add-from c =
     omega (arith, laws.rest_in _ _ c.if-text-at.false c.line_from-l.ensures (ap (λ z. c.lines.at + z) c.trim_ascii_start.ensures), laws.line_in _ _ c.if-text-at.false c.line_from-l.ensures)
 
 pub loop-i-init : goal.loop-i-init
@@ -61,10 +58,6 @@ bounds-text-i-in-loop-i c = omega (arith, c.loop-i.invariant.within)
 
 pub spot_after-spot-requires : goal.spot_after-spot-requires
 spot_after-spot-requires c = omega (arith, c.loop-i.invariant.column)
-
-pub overflow_add-i-in-loop-i : goal.overflow_add-i-in-loop-i
-overflow_add-i-in-loop-i c =
-    omega (arith, c.loop-i.invariant.within, c.requires.0)
 
 pub loop-i-preserved : goal.loop-i-preserved
 loop-i-preserved c =

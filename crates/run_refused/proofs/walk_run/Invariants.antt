@@ -1,8 +1,4 @@
-use borrow.Author.Rules.{rules}
-use mathlib.Core.Path.{sym, ◌∙◌, ap}
-use Prim.Native.Nat.{◌+◌, ◌-◌}
-use native.Mathlib.Omega.{arith}
-use borrow.Author.Tests.{not-true, not-false}
+use Prim.Native.Nat.{◌-◌}
 use lib.ListN.{length}
 use Rattle.run_refused.specs.Inner.{walk_at, shown_walk}
 use Rattle.run_refused.proofs.Walking as laws
@@ -10,9 +6,6 @@ use Rattle.run_refused.proofs.walk_run.Given as goal
 
 abbrev pub invariant-loop-i : goal.invariant-loop-i
 invariant-loop-i l = laws.Inner l.text (shown_walk (walk_at l.opener l.text l.start)) l.opener l.n l.l.to l.l.next l.shallow l.spot l.i
-
-abbrev pub decreases-loop-i : goal.decreases-loop-i
-decreases-loop-i l = l.l.to - l.i
 
 abbrev pub invariant-lines : goal.invariant-lines
 invariant-lines l = laws.Outer l.text (shown_walk (walk_at l.opener l.text l.start)) l.opener l.n l.at l.brace l.shallow

@@ -1,5 +1,5 @@
 use borrow.Author.Rules.{rules}
 use Rattle.run_scanners.proofs.is_bare.Goals as goal
 
-pub returns-in-Out : goal.returns-in-Out
-returns-in-Out c = simp (c.if-st.false, c.in-Out.is)
+pub returns-in-None : goal.returns-in-None
+returns-in-None c = simp (c.if-st.false, c.in-None.is)

@@ -1,9 +1,9 @@
+use Rattle.std.specs.Prelude.{Some}
 use mathlib.Core.Path.{refl, sym, ◌∙◌, ap}
 use native.Mathlib.Omega.{arith}
 use borrow.Author.Rules.{rules}
 use lib.Seq.{length-take-le}
 use Rattle.base_refusals.proofs.Said.{said}
-use Rattle.block_grammar.specs.declared.Place.TheVariants.{At}
 use Rattle.run_scanners.specs.Scanners.{capped_at, column_paper}
 use Rattle.run_scanners.proofs.Quick as laws
 use Rattle.run_scanners.proofs.last_open_brace_column.Goals as goal
@@ -16,7 +16,7 @@ slice_bounds-front-length c = sym (length-take-le _ _ (omega (arith, c.behind_br
 
 pub returns-then-stays_out : goal.returns-then-stays_out
 returns-then-stays_out c =
-    said column_paper refl (ap (λ n. At n) c.columns.ensures ∙ ap capped_at (laws.last_brace c.behind_brace-e.ensures _ _ (omega arith) (sym c.stays_out.ensures ∙ c.if-stays_out.true)))
+    said column_paper refl (ap (λ n. Some n) c.columns.ensures ∙ ap capped_at (laws.last_brace c.behind_brace-e.ensures _ _ (omega arith) (sym c.stays_out.ensures ∙ c.if-stays_out.true)))
 
 pub returns : goal.returns
 returns c = said column_paper refl c.seek_brace.ensures

@@ -1,18 +1,15 @@
 use mathlib.Core.Path.{refl}
-use Prim.Native.Nat.{◌-◌}
 use native.Mathlib.Omega.{arith}
-use borrow.Author.Rules.{rules}
-use lib.ListN.{length}
 use Rattle.run_scanners.specs.Scanners.{open_quote_at_end}
 use Rattle.run_scanners.proofs.Laws as laws
 use Rattle.run_scanners.proofs.scan_quotes.Goals as goal
 
-pub loop-i-init : goal.loop-i-init
+pub loop-b-init : goal.loop-b-init
 unfolding open_quote_at_end
-loop-i-init c = record { rest = refl }
+loop-b-init c = record { rest = refl }
 
-pub loop-i-preserved : goal.loop-i-preserved
-loop-i-preserved c = laws.opens_go c.loop-i.invariant (omega arith) c.pass-st.ensures.value
+pub loop-b-preserved : goal.loop-b-preserved
+loop-b-preserved c = laws.opens_go c.loop-b.invariant (omega arith) c.pass-st.ensures.value
 
 pub returns : goal.returns
-returns c = laws.opens_end c.loop-i.invariant (omega arith)
+returns c = laws.opens_end c.loop-b.invariant (omega arith)

@@ -1,5 +1,5 @@
 use borrow.Author.Rules.{rules}
 use Rattle.run_scanners.proofs.stays_out.Goals as goal
 
-pub returns-in-Out : goal.returns-in-Out
-returns-in-Out c = rw c.in-Out.is c.lacks_quotes.ensures
+pub returns-in-None : goal.returns-in-None
+returns-in-None c = rw c.in-None.is c.lacks_quotes.ensures

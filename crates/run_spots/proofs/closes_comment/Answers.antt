@@ -1,19 +1,15 @@
-use mathlib.Core.Path.{refl, sym, ◌∙◌}
-use Prim.Native.Nat.{◌-◌}
+use mathlib.Core.Path.{◌∙◌}
 use native.Mathlib.Omega.{arith}
-use lib.ListN.{length}
-use Rattle.run_spots.specs.Spots.{closes_comment}
+use borrow.Author.Rules.{rules}
+use borrow.Author.Tests.{tests}
+use lib.ListN.{length, drop}
+use Rattle.std.proofs.lemmas.Iterator.{YieldsList-from_range}
+use Rattle.std.proofs.lemmas.Iterator.Search.{any_from_yields_List}
+use Rattle.base_lists.specs.Lists.{begins_pair}
 use Rattle.run_spots.proofs.Leaves as laws
 use Rattle.run_spots.proofs.closes_comment.Goals as goal
 
-pub loop-i-init : goal.loop-i-init
-loop-i-init c = record { rest = refl }
-
-pub returns-then-pair_at : goal.returns-then-pair_at
-returns-then-pair_at c = laws.closes_stop (c.loop-i.invariant) (c.loop-i-test.true) (sym (c.if-pair_at.true) ∙ (c.pair_at.ensures))
-
-pub loop-i-preserved : goal.loop-i-preserved
-loop-i-preserved c = laws.closes_go (c.loop-i.invariant) (c.loop-i-test.true) (sym (c.if-pair_at.false) ∙ (c.pair_at.ensures))
-
 pub returns : goal.returns
-returns c = laws.closes_end (c.loop-i.invariant) (c.loop-i-test.false)
+returns c =
+    any_from_yields_List (λ i. begins_pair 37 125 (drop i c.args.s.now)) _ _ _ c.any.ensures.ran (YieldsList-from_range 0 (length c.args.s.now) (length c.args.s.now) (cc) (omega arith)) (λ x b q k. search (rules, tests))
+    ∙ laws.closes_any c.args.s.now (length c.args.s.now) 0 (omega arith)

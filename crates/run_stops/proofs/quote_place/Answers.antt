@@ -10,11 +10,11 @@ use Rattle.text_lines.proofs.line_from.Reads as line-from-reads
 use Rattle.run_stops.proofs.quote_place.Goals as goal
 
 -- src/lib.rt:185:1
-pub returns-in-Nothing : goal.returns-in-Nothing
+pub returns-in-None : goal.returns-in-None
 unfolding quote_place
-returns-in-Nothing c = rw (← c.line_from-l.ensures, ← c.front.ensures, ← c.quote_left.ensures.value, c.in-Nothing.is)
+returns-in-None c = rw (← c.line_from-l.ensures, ← c.front.ensures, ← c.quote_left.ensures.value, c.in-None.is)
 
 -- src/lib.rt:185:1
-pub returns-in-At : goal.returns-in-At
+pub returns-in-Some : goal.returns-in-Some
 unfolding quote_place
-returns-in-At c = rw (← c.line_from-l.ensures, ← c.front.ensures, ← c.quote_left.ensures.value, c.in-At.is)
+returns-in-Some c = rw (← c.line_from-l.ensures, ← c.front.ensures, ← c.quote_left.ensures.value, c.in-Some.is)

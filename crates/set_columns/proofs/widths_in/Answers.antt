@@ -4,10 +4,10 @@ use Rattle.set_columns.specs.Columns.{found_widths}
 use borrow.Author.Rules.{rules}
 use Rattle.set_columns.proofs.widths_in.Goals as goal
 
-pub returns-in-Missing : goal.returns-in-Missing
+pub returns-in-None : goal.returns-in-None
 unfolding found_widths laid_on
-returns-in-Missing c = rw c.in-Missing.is
+returns-in-None c = rw c.in-None.is
 
-pub returns-in-Given : goal.returns-in-Given
+pub returns-in-Some : goal.returns-in-Some
 unfolding found_widths
-returns-in-Given c = rw c.in-Given.is c.widths_of.ensures
+returns-in-Some c = rw c.in-Some.is c.widths_of.ensures

@@ -1,10 +1,10 @@
 use Rattle.set_columns_lent.specs.Lent.{table_end}
 use Rattle.set_columns_lent.proofs.table_end.Goals as goal
 
-pub returns-in-Refused : goal.returns-in-Refused
+pub returns-in-Err : goal.returns-in-Err
 unfolding table_end
-returns-in-Refused c = rw c.in-Refused.is
+returns-in-Err c = rw c.in-Err.is
 
-pub returns-in-Passed : goal.returns-in-Passed
+pub returns-in-Ok : goal.returns-in-Ok
 unfolding table_end
-returns-in-Passed c = rw c.in-Passed.is
+returns-in-Ok c = rw c.in-Ok.is

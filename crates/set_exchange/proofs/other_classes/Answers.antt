@@ -1,19 +1,15 @@
 use native.Mathlib.Omega.{arith}
-use Prim.Native.Nat.{◌-◌}
 use borrow.Author.Rules.{rules}
-use Rattle.set_table.specs.Types.{max_classes, zero_value}
+use Rattle.set_table.specs.Types.{zero_value}
 use Rattle.set_exchange.specs.Exchange.{other_value}
 use Rattle.set_exchange.proofs.Loops as loops
 use Rattle.set_exchange.proofs.other_classes.Goals as goal
 
-pub loop-i-init : goal.loop-i-init
-loop-i-init c = loops.start _ _ _
+pub loop-v-init : goal.loop-v-init
+loop-v-init c = loops.start _ _
 
-pub returns-then-n-i : goal.returns-then-n-i
-returns-then-n-i c = loops.stop c.loop-i.invariant c.if-n-i.true
-
-pub loop-i-preserved : goal.loop-i-preserved
-loop-i-preserved c = rw c.other_value.ensures (loops.go c.loop-i.invariant zero_value (omega arith) (omega (arith, c.if-n-i.false)))
+pub loop-v-preserved : goal.loop-v-preserved
+loop-v-preserved c = rw c.other_value.ensures (loops.go c.loop-v.invariant zero_value (omega arith))
 
 pub returns : goal.returns
-returns c = loops.end c.loop-i.invariant (omega arith)
+returns c = loops.end _ _ _ (omega arith) c.loop-v.invariant (omega arith)

@@ -9,15 +9,15 @@ returns-then-w-i-ne123 c = chains.no_brace _ _ _ (omega (arith, c.if-w-i.false))
 
 pub slice_bounds-blank_end-end : goal.slice_bounds-blank_end-end
 slice_bounds-blank_end-end c =
-    sym (chains.closed c.args.mode _ _ (omega (arith, c.if-w-i.false)) c.if-w-i-ne123.false c.find_close.ensures.value c.in-At.is)
+    sym (chains.closed c.args.mode _ _ (omega (arith, c.if-w-i.false)) c.if-w-i-ne123.false c.find_close.ensures.value c.in-Some.is)
 
 pub returns-then-e-blank_end : goal.returns-then-e-blank_end
 returns-then-e-blank_end c =
-    chains.no_token _ _ _ (omega (arith, c.if-w-i.false)) c.if-w-i-ne123.false c.find_close.ensures.value c.in-At.is c.blank_end.ensures (omega (arith, c.if-e-blank_end.true))
+    chains.no_token _ _ _ (omega (arith, c.if-w-i.false)) c.if-w-i-ne123.false c.find_close.ensures.value c.in-Some.is c.blank_end.ensures (omega (arith, c.if-e-blank_end.true))
 
-pub returns-in-Nothing : goal.returns-in-Nothing
-returns-in-Nothing c = chains.no_close _ _ _ (omega (arith, c.if-w-i.false)) c.if-w-i-ne123.false c.find_close.ensures.value c.in-Nothing.is
+pub returns-in-None : goal.returns-in-None
+returns-in-None c = chains.no_close _ _ _ (omega (arith, c.if-w-i.false)) c.if-w-i-ne123.false c.find_close.ensures.value c.in-None.is
 
 pub returns-else-e-blank_end : goal.returns-else-e-blank_end
 returns-else-e-blank_end c =
-    chains.token _ _ _ (omega (arith, c.if-w-i.false)) c.if-w-i-ne123.false c.find_close.ensures.value c.in-At.is c.blank_end.ensures (omega (arith, c.if-e-blank_end.false))
+    chains.token _ _ _ (omega (arith, c.if-w-i.false)) c.if-w-i-ne123.false c.find_close.ensures.value c.in-Some.is c.blank_end.ensures (omega (arith, c.if-e-blank_end.false))

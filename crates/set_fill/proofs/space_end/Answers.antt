@@ -1,22 +1,24 @@
-use mathlib.Core.Path.{sym, ◌∙◌}
-use Prim.Native.Nat.{◌+◌, ◌-◌}
-use native.Mathlib.Omega.{arith}
-use borrow.Author.Rules.{rules}
-use borrow.Author.Tests.{not-true, not-false}
-use lib.ListN.{length, drop}
+use mathlib.Core.Path.{◌≡◌, ◌∙◌, ap}
+use mathlib.Core.Bool.{not}
+use Prim.Native.Nat.{◌+◌}
+use Rattle.std.proofs.Common.{rules, tests}
+use Rattle.std.proofs.lemmas.Iterator.{YieldsList-from_slice}
+use Rattle.std.proofs.lemmas.Iterator.Adapters.{YieldsList-from_skip}
+use Rattle.std.proofs.lemmas.Iterator.Consumers.{YieldsList-at, count_from_yields_List}
+use Rattle.std.proofs.lemmas.Iterator.Search.{YieldsList-from_take_while}
+use Rattle.std.proofs.lemmas.List.Folds.{length-prefix_len}
+use lib.ListN.{drop}
 use Rattle.base_lists.specs.Lists.{run}
 use Rattle.base_bytes.specs.Bytes.{is_space}
-use Rattle.base_lists.proofs.Runs as runs
+use Rattle.set_fill.proofs.Fronts.{prefix_run}
 use Rattle.set_fill.proofs.space_end.Goals as goal
 
-pub loop-i-init : goal.loop-i-init
-loop-i-init c = runs.start _ _ _
-
-pub returns-then-not-is_space : goal.returns-then-not-is_space
-returns-then-not-is_space c = runs.stop c.loop-i.invariant (omega arith) (sym c.is_space.ensures ∙ c.if-not-is_space.true)
-
-pub loop-i-preserved : goal.loop-i-preserved
-loop-i-preserved c = runs.go c.loop-i.invariant (omega arith) (sym c.is_space.ensures ∙ c.if-not-is_space.false)
-
 pub returns : goal.returns
-returns c = runs.end c.loop-i.invariant (omega arith)
+returns c =
+    let at = c.args.at in
+    let s = c.args.s.now in
+    let behind = YieldsList-from_skip at (YieldsList-at c.skip.ensures.source (YieldsList-from_slice s (cc))) c.skip.ensures.count in
+    let e : c.count.result ≡ run is_space (drop at s) =
+    count_from_yields_List _ _ c.count.ensures.ran (YieldsList-from_take_while _ is_space (YieldsList-at c.take_while.ensures.source behind) c.take_while.ensures.closure c.take_while.ensures.done (λ x b q k. search (rules, tests)))
+    ∙ length-prefix_len is_space (drop at s) ∙ prefix_run is_space (drop at s) in
+    ap (λ n. at + n) e

@@ -19,12 +19,6 @@ bounds-set-p c = let inv = c.loop-p.invariant in omega (arith, inv.at.within, in
 pub overflow_add-n : goal.overflow_add-n
 overflow_add-n c = let inv = c.loop-p.invariant in omega (arith, inv.few, laws.counts_room inv, c.slot_count-n.ensures)
 
-pub overflow_add-p : goal.overflow_add-p
-overflow_add-p c = let inv = c.loop-p.invariant in omega (arith, laws.counts_room inv)
-
-pub loop-p-smaller : goal.loop-p-smaller
-loop-p-smaller c = omega (arith, c.loop-p-test.true)
-
 pub loop-p-preserved : goal.loop-p-preserved
 loop-p-preserved c = laws.counts_go c.loop-p.invariant (omega (arith, c.loop-p-test.true)) c.slot_count-n.ensures.0 c.slot_count-n.ensures.1
 

@@ -9,6 +9,3 @@ use Rattle.set_items.proofs.count_in.Given as goal
 
 abbrev pub invariant-loop-p : goal.invariant-loop-p
 invariant-loop-p l = laws.Counts l.set l.slots l.n l.p
-
-abbrev pub decreases-loop-p : goal.decreases-loop-p
-decreases-loop-p l = l.slots - l.p

@@ -19,12 +19,6 @@ bounds-set-p c = let inv = c.loop-p.invariant in omega (arith, inv.at.within, in
 pub returns-then-left-many : goal.returns-then-left-many
 returns-then-left-many c = laws.seeks_stop c.loop-p.invariant (omega (arith, c.loop-p-test.true)) c.slot_count-many.ensures.0 (omega (arith, c.if-left-many.true)) c.slot_item.ensures
 
-pub overflow_add-p : goal.overflow_add-p
-overflow_add-p c = let inv = c.loop-p.invariant in omega (arith, inv.at.within, inv.at.many)
-
-pub loop-p-smaller : goal.loop-p-smaller
-loop-p-smaller c = omega (arith, c.loop-p-test.true)
-
 pub loop-p-preserved : goal.loop-p-preserved
 loop-p-preserved c = laws.seeks_go c.loop-p.invariant (omega (arith, c.loop-p-test.true)) c.slot_count-many.ensures.0 (omega (arith, c.if-left-many.false))
 

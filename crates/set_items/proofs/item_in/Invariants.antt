@@ -9,6 +9,3 @@ use Rattle.set_items.proofs.item_in.Given as goal
 
 abbrev pub invariant-loop-p : goal.invariant-loop-p
 invariant-loop-p l = laws.Seeks l.set l.slots l.n l.left l.p
-
-abbrev pub decreases-loop-p : goal.decreases-loop-p
-decreases-loop-p l = l.slots - l.p

@@ -20,12 +20,6 @@ bounds-set-p c = let inv = c.loop-p.invariant in omega (arith, inv.at.within, in
 pub returns-then-slot_named : goal.returns-then-slot_named
 returns-then-slot_named c = laws.tests_stop c.loop-p.invariant (omega (arith, c.loop-p-test.true)) (sym c.slot_named.ensures ∙ c.if-slot_named.true)
 
-pub overflow_add-p : goal.overflow_add-p
-overflow_add-p c = let inv = c.loop-p.invariant in omega (arith, inv.at.within, inv.at.many)
-
-pub loop-p-smaller : goal.loop-p-smaller
-loop-p-smaller c = omega (arith, c.loop-p-test.true)
-
 pub loop-p-preserved : goal.loop-p-preserved
 loop-p-preserved c = laws.tests_go c.loop-p.invariant (omega (arith, c.loop-p-test.true)) (sym c.slot_named.ensures ∙ c.if-slot_named.false)
 

@@ -10,6 +10,3 @@ use Rattle.set_items.proofs.slot_of.Given as goal
 
 abbrev pub invariant-loop-p : goal.invariant-loop-p
 invariant-loop-p l = laws.Tests (slot_named (two l.first l.second) l.set l.name) l.set l.slots l.p
-
-abbrev pub decreases-loop-p : goal.decreases-loop-p
-decreases-loop-p l = l.slots - l.p

@@ -1,30 +1,32 @@
 use mathlib.Core.Path.{sym, ◌∙◌}
-use mathlib.Core.List.{map}
-use Prim.Native.Nat.{◌-◌}
-use lib.ListN.{take}
+use Prim.Native.Nat.{◌<◌}
 use native.Mathlib.Omega.{arith}
-use borrow.Author.Rules.{rules}
-use Rattle.set_table.specs.Types.{two, max_slots, zero_slot}
-use Rattle.set_table.specs.Rows.{slot_in}
-use Rattle.set_keyed.specs.Keyed.{slot_found, key_in}
-use Rattle.set_keyed.specs.declared.Keyed.TheVariants.{Missing}
+use lib.ListN.{take, length-take}
+use lib.Seq.{get_or-take}
+use Rattle.set_table.specs.Types.{zero_slot}
+use Rattle.set_keyed.specs.Keyed.{key_in}
 use Rattle.set_keyed.proofs.Slots as laws
 use Rattle.set_keyed.proofs.found_in.Goals as goal
 
-pub loop-k-init : goal.loop-k-init
-loop-k-init c = laws.seeks_start _ _ _ c.well_formed.1.1.1.1.1.0.1.0.1
+pub loop-p-init : goal.loop-p-init
+loop-p-init c = laws.seeks_start _ _ _ c.well_formed.1.1.1.1.1.0.1.0.1
 
-pub returns-then-n-k : goal.returns-then-n-k
+pub returns-in-Some : goal.returns-in-Some
 unfolding key_in
-returns-then-n-k c = rw laws.first_map (laws.seeks_end c.loop-k.invariant (omega arith))
+returns-in-Some c =
+    let m = c.min.result in
+    let h : c.loop-p.p-index < m = omega (arith, length-take m c.args.order) in
+    let e = rw (get_or-take m c.args.order c.loop-p.p-index zero_slot h) at (sym c.slot_found.ensures ∙ c.in-Some.is) in
+    rw laws.first_map (laws.seeks_stop c.loop-p.invariant zero_slot (omega (arith, h, c.min.ensures)) (omega (arith, h, c.min.ensures)) e)
 
-pub returns-in-Given : goal.returns-in-Given
-unfolding key_in
-returns-in-Given c = rw laws.first_map (laws.seeks_stop (c.loop-k.invariant) zero_slot (omega arith) (omega arith) (sym (c.slot_found-f.ensures) ∙ c.in-Given.is))
-
-pub loop-k-preserved : goal.loop-k-preserved
-loop-k-preserved c = laws.seeks_go (c.loop-k.invariant) zero_slot (omega arith) (omega arith) (sym c.in_default.is ∙ c.slot_found-f.ensures)
+pub loop-p-preserved : goal.loop-p-preserved
+loop-p-preserved c =
+    let m = c.min.result in
+    let h : c.loop-p.p-index < m = omega (arith, length-take m c.args.order) in
+    let e = rw (get_or-take m c.args.order c.loop-p.p-index zero_slot h) at (sym c.in_default.is ∙ c.slot_found.ensures) in
+    laws.seeks_go c.loop-p.invariant zero_slot (omega (arith, h, c.min.ensures)) (omega (arith, h, c.min.ensures)) e
 
 pub returns : goal.returns
 unfolding key_in
-returns c = rw laws.first_map (laws.seeks_out c.loop-k.invariant (omega arith))
+returns c =
+    rw laws.first_map (laws.seeks_all c.loop-p.invariant (omega (arith, c.min.ensures, length-take c.min.result c.args.order, length-take c.args.n c.args.order, c.loop-p.invariant.long)))

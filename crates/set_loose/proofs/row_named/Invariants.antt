@@ -7,7 +7,4 @@ use Rattle.set_loose.proofs.Named as laws
 use Rattle.set_loose.proofs.row_named.Given as goal
 
 abbrev pub invariant-loop-k : goal.invariant-loop-k
-invariant-loop-k l = laws.Finds (two l.first l.second) l.name l.n l.keys l.k
-
-abbrev pub decreases-loop-k : goal.decreases-loop-k
-decreases-loop-k l = max_keys - l.k
+invariant-loop-k l = laws.Finds (two l.first l.second) l.name l.n l.row-items l.k

@@ -6,6 +6,3 @@ use Rattle.set_loose.proofs.rows_without.Given as goal
 
 abbrev pub invariant-loop-i : goal.invariant-loop-i
 invariant-loop-i l = laws.Moves l.keys l.n l.k l.out l.i
-
-abbrev pub decreases-loop-i : goal.decreases-loop-i
-decreases-loop-i l = l.n - l.i

@@ -10,12 +10,12 @@ use borrow.Author.Rules.{rules}
 use Rattle.set_merge.proofs.merge_attrs.Goals as goal
 
 pub returns-then-not-table_ok : goal.returns-then-not-table_ok
-returns-then-not-table_ok c = said (merge_no _ _ _) (whole.first_bad _ _ _ c.check_both.ensures.value c.in-Passed.is (sym c.table_ok.ensures ∙ c.if-not-table_ok.true) c.refusing-then-not-table_ok.ensures.value)
+returns-then-not-table_ok c = said (merge_no _ _ _) (whole.first_bad _ _ _ c.check_both.ensures.value c.in-Ok.is (sym c.table_ok.ensures ∙ c.if-not-table_ok.true) c.refusing-then-not-table_ok.ensures.value)
 
 pub returns-then-not-table_ok-2 : goal.returns-then-not-table_ok-2
 returns-then-not-table_ok-2 c =
-    said (merge_no _ _ _) (whole.second_bad _ _ _ c.check_both.ensures.value c.in-Passed.is (sym c.table_ok.ensures ∙ not-false _
-    (ap not c.if-not-table_ok.false)) (sym c.table_ok-in-Passed.ensures ∙ c.if-not-table_ok-2.true) c.refusing-then-not-table_ok-2.ensures.value)
+    said (merge_no _ _ _) (whole.second_bad _ _ _ c.check_both.ensures.value c.in-Ok.is (sym c.table_ok.ensures ∙ not-false _
+    (ap not c.if-not-table_ok.false)) (sym c.table_ok-in-Ok.ensures ∙ c.if-not-table_ok-2.true) c.refusing-then-not-table_ok-2.ensures.value)
 
 pub cleaned-requires : goal.cleaned-requires
 cleaned-requires c =
@@ -23,12 +23,12 @@ cleaned-requires c =
 
 pub merge_rows-requires : goal.merge_rows-requires
 merge_rows-requires c =
-    (whole.held_clean (two c.args.first.now c.args.second.now) _ (sym c.table_ok.ensures ∙ c.if-not-table_ok.false) c.cleaned.ensures, whole.sound (two c.args.first.now c.args.second.now) _ (sym c.table_ok-in-Passed.ensures ∙ c.if-not-table_ok-2.false))
+    (whole.held_clean (two c.args.first.now c.args.second.now) _ (sym c.table_ok.ensures ∙ c.if-not-table_ok.false) c.cleaned.ensures, whole.sound (two c.args.first.now c.args.second.now) _ (sym c.table_ok-in-Ok.ensures ∙ c.if-not-table_ok-2.false))
 
-pub returns-in-Refused : goal.returns-in-Refused
-returns-in-Refused c = said (merge_no _ _ _) (whole.by_check _ _ _ c.check_both.ensures.value c.in-Refused.is c.refusing.ensures.value)
+pub returns-in-Err : goal.returns-in-Err
+returns-in-Err c = said (merge_no _ _ _) (whole.by_check _ _ _ c.check_both.ensures.value c.in-Err.is c.refusing.ensures.value)
 
 pub returns-else-not-table_ok-2 : goal.returns-else-not-table_ok-2
 returns-else-not-table_ok-2 c =
-    said (merge_no _ _ _) (whole.both_good _ _ _ c.check_both.ensures.value c.in-Passed.is (sym c.table_ok.ensures ∙ c.if-not-table_ok.false) (sym
-    c.table_ok-in-Passed.ensures ∙ c.if-not-table_ok-2.false) c.cleaned.ensures c.merge_rows.ensures)
+    said (merge_no _ _ _) (whole.both_good _ _ _ c.check_both.ensures.value c.in-Ok.is (sym c.table_ok.ensures ∙ c.if-not-table_ok.false) (sym
+    c.table_ok-in-Ok.ensures ∙ c.if-not-table_ok-2.false) c.cleaned.ensures c.merge_rows.ensures)

@@ -29,9 +29,6 @@ pub returns-then-not-step : goal.returns-then-not-step
 returns-then-not-step c =
     rest.over_keys c.loop-i.invariant c.requires.1 (c.well_formed.1.1.1.0.1.1.1.1.1.1.1.1.1.0.1.0.1) c.loop-i-test.true c.put_slot-step.ensures (not-true _ c.if-not-step.true) c.refusing-then-not-step.ensures.value
 
-pub overflow_add-i : goal.overflow_add-i
-overflow_add-i c = omega (arith, c.requires.1.norder)
-
 pub loop-i-preserved : goal.loop-i-preserved
 loop-i-preserved c =
     rest.next c.loop-i.invariant c.requires.1 (c.well_formed.1.1.1.0.1.1.1.1.1.1.1.1.1.0.1.0.1) c.loop-i-test.true c.put_slot-step.ensures (not-false _ c.if-not-step.false)

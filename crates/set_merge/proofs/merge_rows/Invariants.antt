@@ -9,6 +9,3 @@ use Rattle.set_merge.proofs.merge_rows.Given as goal
 
 abbrev pub invariant-loop-i : goal.invariant-loop-i
 invariant-loop-i l = rest.Merges (two l.first l.second) l.initial.set l.b l.set l.i
-
-abbrev pub decreases-loop-i : goal.decreases-loop-i
-decreases-loop-i l = l.n - l.i

@@ -8,8 +8,5 @@ use Rattle.set_table.proofs.Holding as holding
 use Rattle.set_merge.proofs.Tables as tables
 use Rattle.set_merge.proofs.put_classes.Given as goal
 
-abbrev pub invariant-loop-i : goal.invariant-loop-i
-invariant-loop-i l = tables.Joins l.initial.set l.from l.m l.set l.i
-
-abbrev pub decreases-loop-i : goal.decreases-loop-i
-decreases-loop-i l = l.m - l.i
+abbrev pub invariant-loop-class : goal.invariant-loop-class
+invariant-loop-class l = tables.Joins l.initial.set l.fn.from l.m l.set l.class-index

@@ -9,7 +9,4 @@ use Rattle.set_table.proofs.find_key.Given as goal
 
 -- whatever name has the bytes
 abbrev pub invariant-loop-k : goal.invariant-loop-k
-invariant-loop-k l = (name : Name) → l.bytes ≡ name_bytes (two l.first l.second) name → laws.Finds (two l.first l.second) name l.n l.keys l.k
-
-abbrev pub decreases-loop-k : goal.decreases-loop-k
-decreases-loop-k l = max_keys - l.k
+invariant-loop-k l = (name : Name) → l.bytes ≡ name_bytes (two l.first l.second) name → laws.Finds (two l.first l.second) name l.n l.row-items l.k

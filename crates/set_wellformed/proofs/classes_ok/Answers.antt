@@ -1,23 +1,15 @@
-use mathlib.Core.Path.{sym, ◌∙◌}
-use Prim.Native.Nat.{◌-◌}
-use native.Mathlib.Omega.{arith}
-use borrow.Author.Tests.{not-true, not-false}
-use borrow.Author.Rules.{rules}
+use mathlib.Core.Path.{◌∙◌}
+use Rattle.std.proofs.Common.{rules, tests}
+use Rattle.std.proofs.lemmas.Iterator.{YieldsList-from_slice}
+use Rattle.std.proofs.lemmas.Iterator.Search.{all_from_yields_List}
 use lib.ListN.{take}
-use Rattle.base_lists.specs.Lists.{all}
-use Rattle.set_table.specs.Types.{two, zero_value}
+use Rattle.set_table.specs.Types.{two}
 use Rattle.set_values.specs.Values.{class_ok}
-use Rattle.base_lists.proofs.Each as each
+use Rattle.set_wellformed.proofs.Decide.{all_list}
 use Rattle.set_wellformed.proofs.classes_ok.Goals as goal
 
-pub loop-k-init : goal.loop-k-init
-loop-k-init c = each.each_start (class_ok (two _ _)) _ _ (omega (arith, c.requires, c.well_formed.1.1.0.1))
-
-pub returns-then-not-class_ok : goal.returns-then-not-class_ok
-returns-then-not-class_ok c = each.each_stop c.loop-k.invariant zero_value (omega arith) (sym c.class_ok.ensures ∙ c.if-not-class_ok.true)
-
-pub loop-k-preserved : goal.loop-k-preserved
-loop-k-preserved c = each.each_go c.loop-k.invariant zero_value (omega arith) (sym c.class_ok.ensures ∙ c.if-not-class_ok.false)
-
 pub returns : goal.returns
-returns c = each.each_end c.loop-k.invariant (omega arith)
+returns c =
+    let t = two c.args.first.now c.args.second.now in
+    all_from_yields_List (class_ok t) _ _ _ c.all.ensures.ran (YieldsList-from_slice (take c.args.n c.args.classes) (cc)) (λ x b q k. search (rules, tests))
+    ∙ all_list (class_ok t) (take c.args.n c.args.classes)

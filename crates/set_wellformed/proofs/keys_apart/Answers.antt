@@ -1,6 +1,4 @@
-use Prim.Native.Nat.{◌-◌}
 use native.Mathlib.Omega.{arith}
-use borrow.Author.Rules.{rules}
 use Rattle.set_table.specs.Types.{two}
 use Rattle.set_wellformed.proofs.Decide as laws
 use Rattle.set_wellformed.proofs.keys_apart.Goals as goal

@@ -1,20 +1,17 @@
-use native.Mathlib.Omega.{arith}
 use mathlib.Core.List.{map}
-use borrow.Author.Rules.{rules}
+use mathlib.Core.Path.{refl, ◌∙◌}
+use Rattle.std.proofs.Common.{arith, rules, tests}
+use Rattle.std.proofs.lemmas.Iterator.{YieldsList-from_range}
+use Rattle.std.proofs.lemmas.Iterator.Search.{all_from_yields_List}
+use lib.Dec.{eqb}
 use lib.ListN.{take}
 use Rattle.set_table.specs.Rows.{slot_in}
-use Rattle.set_wellformed.specs.Inner.{keys_in}
-use Rattle.set_wellformed.proofs.Decide as laws
+use Rattle.set_table.specs.Shape.{times}
+use Rattle.set_table.specs.declared.Slot.TheVariants.{Key}
+use Rattle.set_wellformed.proofs.Decide.{keys_list}
 use Rattle.set_wellformed.proofs.keys_once.Goals as goal
 
-pub loop-k-init : goal.loop-k-init
-loop-k-init c = laws.once_start _ _
-
-pub returns-then-times_in-ne1 : goal.returns-then-times_in-ne1
-returns-then-times_in-ne1 c = laws.once_stop c.loop-k.invariant (omega arith) (λ e. absurd (omega (arith, c.if-times_in-ne1.true, c.times_in.ensures, e)))
-
-pub loop-k-preserved : goal.loop-k-preserved
-loop-k-preserved c = laws.once_go c.loop-k.invariant (omega arith) (omega (arith, c.times_in.ensures, c.if-times_in-ne1.false))
-
 pub returns : goal.returns
-returns c = laws.once_end c.loop-k.invariant (omega arith)
+returns c =
+    let o = map slot_in (take c.args.n c.args.order) in
+    all_from_yields_List (λ k. eqb (times (Key k) o) 1) _ _ _ c.all.ensures.ran (YieldsList-from_range 0 c.args.keys c.args.keys refl (omega arith)) (λ x b q k. search (rules, tests)) ∙ keys_list o c.args.keys

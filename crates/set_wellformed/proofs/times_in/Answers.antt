@@ -1,19 +1,16 @@
+use mathlib.Core.Path.{◌∙◌}
+use Rattle.std.proofs.Common.{rules, tests}
+use Rattle.std.proofs.lemmas.Iterator.{YieldsList-from_slice}
+use Rattle.std.proofs.lemmas.Iterator.Consumers.{YieldsList-at, YieldsList-from_filter, count_from_yields_List}
 use lib.Dec.{eqb}
-use Prim.Native.Nat.{◌-◌}
-use native.Mathlib.Omega.{arith}
-use borrow.Author.Rules.{rules}
-use Rattle.set_table.proofs.Puts.{one_le}
-use Rattle.set_wellformed.proofs.Decide as laws
+use lib.ListN.{take}
+use Rattle.set_table.specs.Shape.{slot_number}
+use Rattle.set_wellformed.proofs.Decide.{times_filter}
 use Rattle.set_wellformed.proofs.times_in.Goals as goal
 
-pub loop-k-init : goal.loop-k-init
-loop-k-init c = laws.timed_start _ _ _ (omega (arith, c.requires, c.well_formed.0.1))
-
-pub overflow_add-c : goal.overflow_add-c
-overflow_add-c c = omega (arith, c.loop-k.invariant.few, one_le (eqb c.slot_number-a.result c.slot_number.result), c.one_if-c.ensures)
-
-pub loop-k-preserved : goal.loop-k-preserved
-loop-k-preserved c = laws.timed_go c.loop-k.invariant (omega arith) (rw (← c.slot_number.ensures) c.one_if-c.ensures)
-
 pub returns : goal.returns
-returns c = laws.timed_end c.loop-k.invariant _ c.slot_number-a.ensures (omega arith)
+returns c =
+    let places = take c.args.n c.args.order in
+    count_from_yields_List _ _ c.count.ensures.ran
+    (YieldsList-from_filter _ (λ p. eqb (slot_number c.args.x) (slot_number p.slot)) (YieldsList-at c.filter.ensures.source (YieldsList-from_slice places (cc))) c.filter.ensures.closure (λ x r q k. search (rules, tests)))
+    ∙ times_filter c.args.x places

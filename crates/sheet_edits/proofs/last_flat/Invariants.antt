@@ -4,6 +4,3 @@ use Rattle.sheet_edits.proofs.last_flat.Given as goal
 
 abbrev pub invariant-loop-i : goal.invariant-loop-i
 invariant-loop-i l = laws.Lasts l.text l.i
-
-abbrev pub decreases-loop-i : goal.decreases-loop-i
-decreases-loop-i l = l.i

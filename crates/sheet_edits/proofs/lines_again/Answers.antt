@@ -11,14 +11,14 @@ use Rattle.sheet_edits.proofs.lines_again.Goals as goal
 
 -- src/lib.rt:175:31
 pub again_in-requires : goal.again_in-requires
-again_in-requires c = (cuts.span_within _ _ _ (sym c.span_of.ensures ∙ c.in-At.is)).1
+again_in-requires c = (cuts.span_within _ _ _ (sym c.span_of.ensures ∙ c.in-Some.is)).1
 
 -- src/lib.rt:169:1
-pub returns-in-Missing : goal.returns-in-Missing
+pub returns-in-None : goal.returns-in-None
 unfolding again_of
-returns-in-Missing c = said again_paper refl (rw (← c.span_of.ensures, c.in-Missing.is))
+returns-in-None c = said again_paper refl (rw (← c.span_of.ensures, c.in-None.is))
 
 -- src/lib.rt:169:1
-pub returns-in-At : goal.returns-in-At
+pub returns-in-Some : goal.returns-in-Some
 unfolding again_of
-returns-in-At c = said again_paper refl (rw (← c.span_of.ensures, c.in-At.is) c.again_in.ensures)
+returns-in-Some c = said again_paper refl (rw (← c.span_of.ensures, c.in-Some.is) c.again_in.ensures)

@@ -14,16 +14,16 @@ pub returns-then-a-b : goal.returns-then-a-b
 unfolding span_of
 returns-then-a-b c =
     rw
-    (le-ltb c.args.b c.args.a (omega arith), ← c.line_of.ensures.value, c.in-At.is)
-    (laws.one_line _ _ _ (sym c.line_of.ensures.value ∙ c.in-At.is) c.if-a-b.true c.line_from-e.ensures)
+    (le-ltb c.args.b c.args.a (omega arith), ← c.line_of.ensures.value, c.in-Some.is)
+    (laws.one_line _ _ _ (sym c.line_of.ensures.value ∙ c.in-Some.is) c.if-a-b.true c.line_from-e.ensures)
 
-pub returns-in-Missing : goal.returns-in-Missing
+pub returns-in-None : goal.returns-in-None
 unfolding span_of
-returns-in-Missing c = rw (le-ltb c.args.b c.args.a (omega arith), ← c.line_of.ensures.value, c.in-Missing.is)
+returns-in-None c = rw (le-ltb c.args.b c.args.a (omega arith), ← c.line_of.ensures.value, c.in-None.is)
 
 pub returns-else-a-b : goal.returns-else-a-b
 unfolding span_of
 returns-else-a-b c =
     rw
-    (le-ltb c.args.b c.args.a (omega arith), ← c.line_of.ensures.value, c.in-At.is)
+    (le-ltb c.args.b c.args.a (omega arith), ← c.line_of.ensures.value, c.in-Some.is)
     c.span_to.ensures

@@ -7,11 +7,11 @@ use Rattle.text_lines.proofs.line_of.Reads as line-of-reads
 use Rattle.sheet_edits.proofs.span_to.Goals as goal
 
 -- src/lib.rt:25:1
-pub returns-in-Missing : goal.returns-in-Missing
+pub returns-in-None : goal.returns-in-None
 unfolding span_to
-returns-in-Missing c = rw (← c.line_of.ensures.value, c.in-Missing.is)
+returns-in-None c = rw (← c.line_of.ensures.value, c.in-None.is)
 
 -- src/lib.rt:25:1
-pub returns-in-At : goal.returns-in-At
+pub returns-in-Some : goal.returns-in-Some
 unfolding span_to
-returns-in-At c = rw (← c.line_of.ensures.value, c.in-At.is, c.line_from-e.ensures)
+returns-in-Some c = rw (← c.line_of.ensures.value, c.in-Some.is, c.line_from-e.ensures)

@@ -1,3 +1,4 @@
+use Rattle.std.specs.Prelude.{Some}
 use Rattle.sheet_findings.specs.Findings.{chain_finding}
 use borrow.Author.Rules.{rules}
 use Rattle.sheet_findings.proofs.chain_finding.Reads as reads
@@ -8,21 +9,21 @@ use Rattle.sheet_findings.proofs.open_finding.Reads as open-finding-reads
 use Rattle.sheet_findings.proofs.chain_finding.Goals as goal
 
 -- src/lib.rt:113:1
-pub returns-in-Good : goal.returns-in-Good
+pub returns-in-None : goal.returns-in-None
 unfolding chain_finding
-returns-in-Good c = rw (c.here.ensures, ← c.chain_fault.ensures.value, c.in-Good.is)
+returns-in-None c = rw (c.here.ensures, ← c.chain_fault.ensures.value, c.in-None.is)
 
 -- src/lib.rt:113:1
-pub returns-in-Behind : goal.returns-in-Behind
+pub returns-in-Some-Behind : goal.returns-in-Some-Behind
 unfolding chain_finding
-returns-in-Behind c = rw (c.here-in-Behind.ensures, ← c.chain_fault.ensures.value, c.in-Behind.is)
+returns-in-Some-Behind c = let e = (rw c.in-Some-Behind.field-0-is at c.in-Some-Behind.ensures.value) in rw (c.here-in-Some-Behind.ensures, ← e)
 
 -- src/lib.rt:113:1
-pub returns-in-Open : goal.returns-in-Open
+pub returns-in-Some-Open : goal.returns-in-Some-Open
 unfolding chain_finding
-returns-in-Open c = rw (c.open_finding.ensures, ← c.chain_fault.ensures.value, c.in-Open.is)
+returns-in-Some-Open c = let e = (rw c.in-Some-Open.field-0-is at c.in-Some-Open.ensures.value) in rw (c.open_finding.ensures, ← e)
 
 -- src/lib.rt:113:1
-pub returns-in-Wrong : goal.returns-in-Wrong
+pub returns-in-Some-Wrong : goal.returns-in-Some-Wrong
 unfolding chain_finding
-returns-in-Wrong c = rw (c.here-in-Wrong.ensures, ← c.chain_fault.ensures.value, c.in-Wrong.is)
+returns-in-Some-Wrong c = let e = (rw c.in-Some-Wrong.field-0-is at c.in-Some-Wrong.ensures.value) in rw (c.here-in-Some-Wrong.ensures, ← e)

@@ -6,9 +6,9 @@ use Rattle.sheet_findings.proofs.here.Reads as here_reads
 use Rattle.sheet_findings.proofs.limit_finding.Goals as goal
 
 -- src/lib.rt:232:1
-pub returns-in-Passed : goal.returns-in-Passed
-returns-in-Passed c = rw (c.here.ensures, c.in-Passed.is)
+pub returns-in-Ok : goal.returns-in-Ok
+returns-in-Ok c = rw (c.here.ensures, c.in-Ok.is)
 
 -- src/lib.rt:232:1
-pub returns-in-Refused : goal.returns-in-Refused
-returns-in-Refused c = rw (c.in-Refused.is, c.number.ensures)
+pub returns-in-Err : goal.returns-in-Err
+returns-in-Err c = rw (c.in-Err.is, c.number.ensures)

@@ -7,11 +7,11 @@ use Rattle.sheet_findings.proofs.here.Reads as here_reads
 use Rattle.sheet_findings.proofs.open_finding.Goals as goal
 
 -- src/lib.rt:103:1
-pub returns-in-Nothing : goal.returns-in-Nothing
+pub returns-in-None : goal.returns-in-None
 unfolding open_finding
-returns-in-Nothing c = rw (c.here.ensures, ← c.quote_left.ensures.value, c.in-Nothing.is)
+returns-in-None c = rw (c.here.ensures, ← c.quote_left.ensures.value, c.in-None.is)
 
 -- src/lib.rt:103:1
-pub returns-in-At : goal.returns-in-At
+pub returns-in-Some : goal.returns-in-Some
 unfolding open_finding
-returns-in-At c = rw (c.here-in-At.ensures, ← c.quote_left.ensures.value, c.in-At.is)
+returns-in-Some c = rw (c.here-in-Some.ensures, ← c.quote_left.ensures.value, c.in-Some.is)

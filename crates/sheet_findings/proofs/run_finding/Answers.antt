@@ -18,13 +18,13 @@ pub slice_bounds-joined_finding-end : goal.slice_bounds-joined_finding-end
 slice_bounds-joined_finding-end c = joined_in_lem c.args.text.now c.args.at 0 c.args.join.now c.join_run-j.ensures.value c.join_run-j.ensures.join_after
 
 -- src/lib.rt:193:62
-pub slice_bounds-joined_finding-end-in-Passed : goal.slice_bounds-joined_finding-end-in-Passed
-slice_bounds-joined_finding-end-in-Passed c = sym (joined_long c.args.text.now c.args.at 0 c.args.join.now c.join_run-j.ensures.value c.join_run-j.ensures.join_after)
+pub slice_bounds-joined_finding-end-in-Ok : goal.slice_bounds-joined_finding-end-in-Ok
+slice_bounds-joined_finding-end-in-Ok c = sym (joined_long c.args.text.now c.args.at 0 c.args.join.now c.join_run-j.ensures.value c.join_run-j.ensures.join_after)
 
 -- src/lib.rt:186:1
-pub returns-in-Passed : goal.returns-in-Passed
-returns-in-Passed c = let r = laws.run_closed c.args.text.now c.args.at c.args.from c.args.join.now c.join_run-j.ensures.value c.join_run-j.ensures.join_after c.in-Passed.is c.joined_finding.ensures in record { value = r.0; join_after = r.1 }
+pub returns-in-Ok : goal.returns-in-Ok
+returns-in-Ok c = let r = laws.run_closed c.args.text.now c.args.at c.args.from c.args.join.now c.join_run-j.ensures.value c.join_run-j.ensures.join_after c.in-Ok.is c.joined_finding.ensures in record { value = r.0; join_after = r.1 }
 
 -- src/lib.rt:186:1
-pub returns-in-Refused : goal.returns-in-Refused
-returns-in-Refused c = let r = laws.run-stopped c.args.text.now c.args.at c.args.from c.args.join.now c.join_run-j.ensures.value c.join_run-j.ensures.join_after c.in-Refused.is c.join-1.given c.run_stop-s.ensures.value c.refused_run_at-r.ensures.value c.refused_run_at-r.ensures.join_after c.left_kind.ensures c.stop_finding.ensures in record { value = r.0; join_after = r.1 }
+pub returns-in-Err : goal.returns-in-Err
+returns-in-Err c = let r = laws.run-stopped c.args.text.now c.args.at c.args.from c.args.join.now c.join_run-j.ensures.value c.join_run-j.ensures.join_after c.in-Err.is c.join-1.given c.run_stop-s.ensures.value c.refused_run_at-r.ensures.value c.refused_run_at-r.ensures.join_after c.left_kind.ensures c.stop_finding.ensures in record { value = r.0; join_after = r.1 }

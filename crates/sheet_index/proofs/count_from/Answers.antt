@@ -15,14 +15,14 @@ rows-init c = laws.counts_start _
 pub returns-then-index-at : goal.returns-then-index-at
 returns-then-index-at c = laws.counts_end c.rows.invariant (omega (arith, c.if-index-at.true))
 
-pub returns-in-Bad : goal.returns-in-Bad
-returns-in-Bad c = laws.counts_bad c.rows.invariant c.record_at.ensures.value (omega (arith, c.if-index-at.false)) c.in-Bad.is
+pub returns-in-None : goal.returns-in-None
+returns-in-None c = laws.counts_bad c.rows.invariant c.record_at.ensures.value (omega (arith, c.if-index-at.false)) c.in-None.is
 
 pub overflow_add-n : goal.overflow_add-n
 overflow_add-n c = omega (arith, c.rows.invariant.few, c.if-index-at.false)
 
 pub rows-smaller : goal.rows-smaller
-rows-smaller c = laws.row_less c.rows.invariant c.record_at.ensures.value (omega (arith, c.if-index-at.false)) c.in-Good.is
+rows-smaller c = laws.row_less c.rows.invariant c.record_at.ensures.value (omega (arith, c.if-index-at.false)) c.in-Some.is
 
 pub rows-preserved : goal.rows-preserved
-rows-preserved c = laws.counts_go c.rows.invariant c.record_at.ensures.value (omega (arith, c.if-index-at.false)) c.in-Good.is
+rows-preserved c = laws.counts_go c.rows.invariant c.record_at.ensures.value (omega (arith, c.if-index-at.false)) c.in-Some.is

@@ -35,20 +35,20 @@ pub overflow_add-line : goal.overflow_add-line
 overflow_add-line c =
     omega (arith, round.sum_le c.sheet.invariant.rounds c.next_block-next.ensures.value c.next_block-next.ensures.join_after c.if-block-eq0.false, round.next_within c.sheet.invariant.rounds c.next_block-next.ensures.value c.next_block-next.ensures.join_after c.if-block-eq0.false, c.sheet.invariant.rounds.fits)
 
-pub sheet-smaller-in-NoRoom : goal.sheet-smaller-in-NoRoom
-sheet-smaller-in-NoRoom c =
+pub sheet-smaller-in-None : goal.sheet-smaller-in-None
+sheet-smaller-in-None c =
     round.rounds_less c.sheet.invariant.rounds c.next_block-next.ensures.value c.next_block-next.ensures.join_after c.if-block-eq0.false
 
-pub sheet-preserved-in-NoRoom : goal.sheet-preserved-in-NoRoom
-sheet-preserved-in-NoRoom c =
-    laws.lays_pass c.sheet.invariant c.next_block-next.ensures.value c.next_block-next.ensures.join_after c.if-block-eq0.false c.put_block.ensures.value c.put_block.ensures.out_after c.in-NoRoom.is
+pub sheet-preserved-in-None : goal.sheet-preserved-in-None
+sheet-preserved-in-None c =
+    laws.lays_pass c.sheet.invariant c.next_block-next.ensures.value c.next_block-next.ensures.join_after c.if-block-eq0.false c.put_block.ensures.value c.put_block.ensures.out_after c.in-None.is
 
 pub overflow_add-i : goal.overflow_add-i
 overflow_add-i c =
     omega (arith, c.sheet.invariant.few, c.sheet.invariant.rounds.within, c.sheet.invariant.rounds.fits)
 
-pub overflow_add-line-in-Row : goal.overflow_add-line-in-Row
-overflow_add-line-in-Row c =
+pub overflow_add-line-in-Some : goal.overflow_add-line-in-Some
+overflow_add-line-in-Some c =
     omega (arith, round.sum_le c.sheet.invariant.rounds c.next_block-next.ensures.value c.next_block-next.ensures.join_after c.if-block-eq0.false, round.next_within c.sheet.invariant.rounds c.next_block-next.ensures.value c.next_block-next.ensures.join_after c.if-block-eq0.false, c.sheet.invariant.rounds.fits)
 
 pub sheet-smaller : goal.sheet-smaller
@@ -57,4 +57,4 @@ sheet-smaller c =
 
 pub sheet-preserved : goal.sheet-preserved
 sheet-preserved c =
-    laws.lays_go c.sheet.invariant c.next_block-next.ensures.value c.next_block-next.ensures.join_after c.if-block-eq0.false c.put_block.ensures.value c.put_block.ensures.out_after c.in-Row.is c.put_row.ensures
+    laws.lays_go c.sheet.invariant c.next_block-next.ensures.value c.next_block-next.ensures.join_after c.if-block-eq0.false c.put_block.ensures.value c.put_block.ensures.out_after c.in-Some.is c.put_row.ensures

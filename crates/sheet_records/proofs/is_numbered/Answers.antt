@@ -12,12 +12,12 @@ returns-then-not-same_bytes c = laws.numbered_no _ c.bytes_of-first.ensures c.sa
 
 pub returns-then-index-p : goal.returns-then-index-p
 returns-then-index-p c =
-    laws.numbered_past _ c.bytes_of-first.ensures c.same_bytes.ensures (c.if-not-same_bytes.false) (sym c.field_at-number.ensures ∙ c.in-Read.is) (omega (arith, c.if-index-p.true))
+    laws.numbered_past _ c.bytes_of-first.ensures c.same_bytes.ensures (c.if-not-same_bytes.false) (sym c.field_at-number.ensures ∙ c.in-Some.is) (omega (arith, c.if-index-p.true))
 
-pub returns-in-Unread : goal.returns-in-Unread
-returns-in-Unread c =
-    laws.numbered_bad _ c.bytes_of-first.ensures c.same_bytes.ensures (c.if-not-same_bytes.false) (sym c.field_at-number.ensures ∙ c.in-Unread.is)
+pub returns-in-None : goal.returns-in-None
+returns-in-None c =
+    laws.numbered_bad _ c.bytes_of-first.ensures c.same_bytes.ensures (c.if-not-same_bytes.false) (sym c.field_at-number.ensures ∙ c.in-None.is)
 
 pub returns-else-index-p : goal.returns-else-index-p
 returns-else-index-p c =
-    laws.numbered_byte _ c.bytes_of-first.ensures c.same_bytes.ensures (c.if-not-same_bytes.false) (sym c.field_at-number.ensures ∙ c.in-Read.is) (omega (arith, c.if-index-p.false))
+    laws.numbered_byte _ c.bytes_of-first.ensures c.same_bytes.ensures (c.if-not-same_bytes.false) (sym c.field_at-number.ensures ∙ c.in-Some.is) (omega (arith, c.if-index-p.false))

@@ -6,10 +6,10 @@ use Rattle.sheet_records.proofs.offset_at.Goals as goal
 
 -- `offset_at` reads the third number and goes on behind it. Assumes nothing.
 
-pub returns-in-Unread : goal.returns-in-Unread
+pub returns-in-None : goal.returns-in-None
 unfolding offset_at
-returns-in-Unread c = laws.field_bad _ _ (sym c.field_at-f.ensures ∙ c.in-Unread.is)
+returns-in-None c = laws.field_bad _ _ (sym c.field_at-f.ensures ∙ c.in-None.is)
 
-pub returns-in-Read : goal.returns-in-Read
+pub returns-in-Some : goal.returns-in-Some
 unfolding offset_at
-returns-in-Read c = laws.field_on _ _ _ _ _ (sym c.field_at-f.ensures ∙ c.in-Read.is) c.end_at.ensures
+returns-in-Some c = laws.field_on _ _ _ _ _ (sym c.field_at-f.ensures ∙ c.in-Some.is) c.end_at.ensures

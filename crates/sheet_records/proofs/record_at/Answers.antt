@@ -11,16 +11,16 @@ use Rattle.sheet_records.proofs.record_at.Goals as goal
 
 pub returns-then-index-p : goal.returns-then-index-p
 unfolding record_at
-returns-then-index-p c = let r = told row_paper (laws.field_on _ _ _ _ _ (sym c.field_at-line.ensures ∙ c.in-Read.is) (laws.tab_past _ _ _ (omega (arith, c.if-index-p.true)))) in record { value = r.0; result_value = r.1 }
+returns-then-index-p c = let r = told row_paper (laws.field_on _ _ _ _ _ (sym c.field_at-line.ensures ∙ c.in-Some.is) (laws.tab_past _ _ _ (omega (arith, c.if-index-p.true)))) in record { value = r.0; result_value = r.1 }
 
 pub returns-then-index-p-ne9 : goal.returns-then-index-p-ne9
 unfolding record_at
-returns-then-index-p-ne9 c = let r = told row_paper (laws.field_on _ _ _ _ _ (sym c.field_at-line.ensures ∙ c.in-Read.is) (laws.tab_other _ _ _ (omega arith) c.if-index-p-ne9.true)) in record { value = r.0; result_value = r.1 }
+returns-then-index-p-ne9 c = let r = told row_paper (laws.field_on _ _ _ _ _ (sym c.field_at-line.ensures ∙ c.in-Some.is) (laws.tab_other _ _ _ (omega arith) c.if-index-p-ne9.true)) in record { value = r.0; result_value = r.1 }
 
-pub returns-in-Unread : goal.returns-in-Unread
+pub returns-in-None : goal.returns-in-None
 unfolding record_at
-returns-in-Unread c = let r = told row_paper (laws.field_bad _ _ (sym c.field_at-line.ensures ∙ c.in-Unread.is)) in record { value = r.0; result_value = r.1 }
+returns-in-None c = let r = told row_paper (laws.field_bad _ _ (sym c.field_at-line.ensures ∙ c.in-None.is)) in record { value = r.0; result_value = r.1 }
 
 pub returns-else-index-p-ne9 : goal.returns-else-index-p-ne9
 unfolding record_at
-returns-else-index-p-ne9 c = let r = told row_paper (laws.field_on _ _ _ _ _ (sym c.field_at-line.ensures ∙ c.in-Read.is) (laws.tab_yes _ _ _ _ (omega arith) (omega (arith, c.if-index-p-ne9.false)) c.count_at.ensures)) in record { value = r.0; result_value = r.1 }
+returns-else-index-p-ne9 c = let r = told row_paper (laws.field_on _ _ _ _ _ (sym c.field_at-line.ensures ∙ c.in-Some.is) (laws.tab_yes _ _ _ _ (omega arith) (omega (arith, c.if-index-p-ne9.false)) c.count_at.ensures)) in record { value = r.0; result_value = r.1 }

@@ -9,58 +9,58 @@ use Rattle.sheet_report.proofs.Lays as lays
 use borrow.Author.Rules.{rules}
 use Rattle.sheet_report.proofs.lay_from.Goals as goal
 
-pub sheet-init : goal.sheet-init
-sheet-init c =
+pub loop-at-init : goal.loop-at-init
+loop-at-init c =
     lays.lays_start _ _ _ _ _ (omega (arith, c.requires)) (omega (arith, c.requires)) (omega (arith, c.requires)) (omega (arith, c.requires))
 
-pub shape_of-join-then-text-at : goal.shape_of-join-then-text-at
-shape_of-join-then-text-at c = c.sheet.invariant.walk.same
-
-pub shape_of-out-then-text-at : goal.shape_of-out-then-text-at
-shape_of-out-then-text-at c = lays.lays_long c.sheet.invariant
-
-pub returns-then-text-at : goal.returns-then-text-at
-returns-then-text-at c = let r = lays.lays_end c.sheet.invariant (omega (arith, c.if-text-at.true)) c.done.ensures in record { value = r.0; join_after = r.1.0; out_after = r.1.1 }
-
 pub overflow_sub-out : goal.overflow_sub-out
-overflow_sub-out c = omega (arith, lays.lays_long c.sheet.invariant, c.sheet.invariant.room)
+overflow_sub-out c = omega (arith, lays.lays_long c.loop-at.invariant, c.loop-at.invariant.room)
 
 pub shape_of-join-then-out-k-lt-LINE : goal.shape_of-join-then-out-k-lt-LINE
-shape_of-join-then-out-k-lt-LINE c = c.sheet.invariant.walk.same
+shape_of-join-then-out-k-lt-LINE c = c.loop-at.invariant.walk.same
 
 pub shape_of-out-then-out-k-lt-LINE : goal.shape_of-out-then-out-k-lt-LINE
-shape_of-out-then-out-k-lt-LINE c = lays.lays_long c.sheet.invariant
+shape_of-out-then-out-k-lt-LINE c = lays.lays_long c.loop-at.invariant
 
 pub returns-then-out-k-lt-LINE : goal.returns-then-out-k-lt-LINE
-returns-then-out-k-lt-LINE c = let r = lays.lays_stop c.sheet.invariant (omega (arith, c.if-text-at.false)) (omega (arith, c.if-out-k-lt-LINE.true)) c.more.ensures in record { value = r.0; join_after = r.1.0; out_after = r.1.1 }
+returns-then-out-k-lt-LINE c = let r = lays.lays_stop c.loop-at.invariant c.loop-at-test.true (omega (arith, c.if-out-k-lt-LINE.true)) c.more.ensures in record { value = r.0; join_after = r.1.0; out_after = r.1.1 }
 
 pub shape_of-join-then-block-eq0 : goal.shape_of-join-then-block-eq0
 shape_of-join-then-block-eq0 c =
-    walk_same c.sheet.invariant.walk c.next_block-next.ensures.value c.next_block-next.ensures.join_after
+    walk_same c.loop-at.invariant.walk c.next_block-next.ensures.value c.next_block-next.ensures.join_after
 
 pub shape_of-out-then-block-eq0 : goal.shape_of-out-then-block-eq0
-shape_of-out-then-block-eq0 c = lays.lays_long c.sheet.invariant
+shape_of-out-then-block-eq0 c = lays.lays_long c.loop-at.invariant
 
 pub returns-then-block-eq0 : goal.returns-then-block-eq0
 returns-then-block-eq0 c =
-    let w = c.sheet.invariant in let r = lays.lays_none w (omega (arith, c.if-out-k-lt-LINE.false)) (walk_ends w.walk c.next_block-next.ensures.value c.next_block-next.ensures.join_after c.if-block-eq0.true) c.done-then-block-eq0.ensures in record { value = r.0; join_after = r.1.0; out_after = r.1.1 }
+    let w = c.loop-at.invariant in let r = lays.lays_none w (omega (arith, c.if-out-k-lt-LINE.false)) (walk_ends w.walk c.next_block-next.ensures.value c.next_block-next.ensures.join_after c.if-block-eq0.true) c.done.ensures in record { value = r.0; join_after = r.1.0; out_after = r.1.1 }
 
 pub overflow_add-n : goal.overflow_add-n
 overflow_add-n c =
-    omega (arith, (walk_meets c.sheet.invariant.walk c.next_block-next.ensures.value c.next_block-next.ensures.join_after c.if-block-eq0.false).few)
+    omega (arith, (walk_meets c.loop-at.invariant.walk c.next_block-next.ensures.value c.next_block-next.ensures.join_after c.if-block-eq0.false).few)
 
 pub lay_block-k-requires : goal.lay_block-k-requires
-lay_block-k-requires c = omega (arith, c.if-out-k-lt-LINE.false, c.sheet.invariant.room, lays.lays_long c.sheet.invariant)
+lay_block-k-requires c = omega (arith, c.if-out-k-lt-LINE.false, c.loop-at.invariant.room, lays.lays_long c.loop-at.invariant)
 
 pub overflow_add-line : goal.overflow_add-line
 overflow_add-line c =
-    omega (arith, (walk_meets c.sheet.invariant.walk c.next_block-next.ensures.value c.next_block-next.ensures.join_after c.if-block-eq0.false).few)
+    omega (arith, (walk_meets c.loop-at.invariant.walk c.next_block-next.ensures.value c.next_block-next.ensures.join_after c.if-block-eq0.false).few)
 
-pub sheet-smaller : goal.sheet-smaller
-sheet-smaller c =
-    (walk_meets c.sheet.invariant.walk c.next_block-next.ensures.value c.next_block-next.ensures.join_after c.if-block-eq0.false).less
+pub loop-at-smaller : goal.loop-at-smaller
+loop-at-smaller c =
+    (walk_meets c.loop-at.invariant.walk c.next_block-next.ensures.value c.next_block-next.ensures.join_after c.if-block-eq0.false).less
 
-pub sheet-preserved : goal.sheet-preserved
-sheet-preserved c =
-    let w = c.sheet.invariant in
+pub loop-at-preserved : goal.loop-at-preserved
+loop-at-preserved c =
+    let w = c.loop-at.invariant in
     lays.lays_go w (omega (arith, c.if-out-k-lt-LINE.false)) (walk_meets w.walk c.next_block-next.ensures.value c.next_block-next.ensures.join_after c.if-block-eq0.false) c.lay_block-k.ensures
+
+pub shape_of-join : goal.shape_of-join
+shape_of-join c = c.loop-at.invariant.walk.same
+
+pub shape_of-out : goal.shape_of-out
+shape_of-out c = lays.lays_long c.loop-at.invariant
+
+pub returns : goal.returns
+returns c = let r = lays.lays_end c.loop-at.invariant c.loop-at-test.false c.done-2.ensures in record { value = r.0; join_after = r.1.0; out_after = r.1.1 }

@@ -9,8 +9,8 @@ use Rattle.sheet_report.proofs.Lays as lays
 use borrow.Author.Rules.{rules}
 use Rattle.sheet_report.proofs.lay_from.Given as goal
 
-abbrev pub invariant-sheet : goal.invariant-sheet
-invariant-sheet l = lays.Lays l.text l.initial.join l.initial.out (lay_from l.text (length l.initial.out) (tries_at l.text max_text l.first l.from)) l.join l.out l.at l.line l.k
+abbrev pub invariant-loop-at : goal.invariant-loop-at
+invariant-loop-at l = lays.Lays l.text l.initial.join l.initial.out (lay_from l.text (length l.initial.out) (tries_at l.text max_text l.first l.from)) l.join l.out l.at l.line l.k
 
-abbrev pub decreases-sheet : goal.decreases-sheet
-decreases-sheet l = length l.text - l.at
+abbrev pub decreases-loop-at : goal.decreases-loop-at
+decreases-loop-at l = length l.text - l.at

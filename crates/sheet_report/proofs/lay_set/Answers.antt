@@ -25,36 +25,36 @@ put_set-requires c =
 
 pub lay_refused-requires : goal.lay_refused-requires
 lay_refused-requires c =
-    laying.over_room c.args.n c.args.lines (canon (meaning_of (two c.args.text.now c.args.joined.now) c.args.set)) c.put_front-k.ensures c.put_set.ensures.value c.put_set.ensures.out_after c.in-Refused.is c.requires
+    laying.over_room c.args.n c.args.lines (canon (meaning_of (two c.args.text.now c.args.joined.now) c.args.set)) c.put_front-k.ensures c.put_set.ensures.value c.put_set.ensures.out_after c.in-Err.is c.requires
 
 pub overflow_add-e : goal.overflow_add-e
 overflow_add-e c =
     omega (arith, laying.front_room block_word c.args.n c.args.lines (omega arith) (omega arith) (omega arith) c.requires c.put_front-k.ensures)
 
-pub overflow_add-e-in-Bytes : goal.overflow_add-e-in-Bytes
-overflow_add-e-in-Bytes c =
-    omega (arith, laying.canon_room c.args.n c.args.lines (canon (meaning_of (two c.args.text.now c.args.joined.now) c.args.set)) c.put_front-k.ensures c.put_set.ensures.value c.put_set.ensures.out_after c.in-Bytes.is c.requires (omega arith) (omega arith))
+pub overflow_add-e-in-Ok : goal.overflow_add-e-in-Ok
+overflow_add-e-in-Ok c =
+    omega (arith, laying.canon_room c.args.n c.args.lines (canon (meaning_of (two c.args.text.now c.args.joined.now) c.args.set)) c.put_front-k.ensures c.put_set.ensures.value c.put_set.ensures.out_after c.in-Ok.is c.requires (omega arith) (omega arith))
 
 pub bounds-out-e : goal.bounds-out-e
 bounds-out-e c =
-    omega (arith, laying.canon_room c.args.n c.args.lines (canon (meaning_of (two c.args.text.now c.args.joined.now) c.args.set)) c.put_front-k.ensures c.put_set.ensures.value c.put_set.ensures.out_after c.in-Bytes.is c.requires (omega arith) (omega arith))
+    omega (arith, laying.canon_room c.args.n c.args.lines (canon (meaning_of (two c.args.text.now c.args.joined.now) c.args.set)) c.put_front-k.ensures c.put_set.ensures.value c.put_set.ensures.out_after c.in-Ok.is c.requires (omega arith) (omega arith))
 
 pub overflow_add-result : goal.overflow_add-result
 overflow_add-result c =
-    omega (arith, laying.canon_room c.args.n c.args.lines (canon (meaning_of (two c.args.text.now c.args.joined.now) c.args.set)) c.put_front-k.ensures c.put_set.ensures.value c.put_set.ensures.out_after c.in-Bytes.is c.requires (omega arith) (omega arith))
+    omega (arith, laying.canon_room c.args.n c.args.lines (canon (meaning_of (two c.args.text.now c.args.joined.now) c.args.set)) c.put_front-k.ensures c.put_set.ensures.value c.put_set.ensures.out_after c.in-Ok.is c.requires (omega arith) (omega arith))
 
-pub shape_of-out-in-Refused : goal.shape_of-out-in-Refused
-shape_of-out-in-Refused c =
-    laying.put_long (laying.over-put c.args.n c.args.lines (canon (meaning_of (two c.args.text.now c.args.joined.now) c.args.set)) c.put_front-k.ensures c.put_set.ensures.value c.put_set.ensures.out_after c.in-Refused.is c.requires (omega arith) (omega arith) c.lay_refused.ensures)
+pub shape_of-out-in-Err : goal.shape_of-out-in-Err
+shape_of-out-in-Err c =
+    laying.put_long (laying.over-put c.args.n c.args.lines (canon (meaning_of (two c.args.text.now c.args.joined.now) c.args.set)) c.put_front-k.ensures c.put_set.ensures.value c.put_set.ensures.out_after c.in-Err.is c.requires (omega arith) (omega arith) c.lay_refused.ensures)
 
-pub returns-in-Refused : goal.returns-in-Refused
-returns-in-Refused c =
-    laying.over-put c.args.n c.args.lines (canon (meaning_of (two c.args.text.now c.args.joined.now) c.args.set)) c.put_front-k.ensures c.put_set.ensures.value c.put_set.ensures.out_after c.in-Refused.is c.requires (omega arith) (omega arith) c.lay_refused.ensures
+pub returns-in-Err : goal.returns-in-Err
+returns-in-Err c =
+    laying.over-put c.args.n c.args.lines (canon (meaning_of (two c.args.text.now c.args.joined.now) c.args.set)) c.put_front-k.ensures c.put_set.ensures.value c.put_set.ensures.out_after c.in-Err.is c.requires (omega arith) (omega arith) c.lay_refused.ensures
 
-pub shape_of-out-in-Bytes : goal.shape_of-out-in-Bytes
-shape_of-out-in-Bytes c =
-    laying.put_long (laying.canon-put c.args.n c.args.lines (canon (meaning_of (two c.args.text.now c.args.joined.now) c.args.set)) c.put_front-k.ensures c.put_set.ensures.value c.put_set.ensures.out_after c.in-Bytes.is)
+pub shape_of-out-in-Ok : goal.shape_of-out-in-Ok
+shape_of-out-in-Ok c =
+    laying.put_long (laying.canon-put c.args.n c.args.lines (canon (meaning_of (two c.args.text.now c.args.joined.now) c.args.set)) c.put_front-k.ensures c.put_set.ensures.value c.put_set.ensures.out_after c.in-Ok.is)
 
-pub returns-in-Bytes : goal.returns-in-Bytes
-returns-in-Bytes c =
-    laying.canon-put c.args.n c.args.lines (canon (meaning_of (two c.args.text.now c.args.joined.now) c.args.set)) c.put_front-k.ensures c.put_set.ensures.value c.put_set.ensures.out_after c.in-Bytes.is
+pub returns-in-Ok : goal.returns-in-Ok
+returns-in-Ok c =
+    laying.canon-put c.args.n c.args.lines (canon (meaning_of (two c.args.text.now c.args.joined.now) c.args.set)) c.put_front-k.ensures c.put_set.ensures.value c.put_set.ensures.out_after c.in-Ok.is

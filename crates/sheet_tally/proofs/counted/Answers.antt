@@ -21,8 +21,8 @@ with_printed-requires c = low_more (low_run c.requires.low c.lines_within-joined
 pub with_refused-requires : goal.with_refused-requires
 with_refused-requires c = low_more (low_run c.requires.low c.lines_within-joined.result c.args.block.lookahead max_text (counting.joined_low c.args.text.now c.args.at c.args.block.lookahead c.lines_within-joined.ensures c.requires.text_len_bound.0) c.requires.text_len_bound.1.0 c.with_run-t.ensures) (max_count + max_text + max_text) (omega arith)
 
-pub returns-in-Passed : goal.returns-in-Passed
-returns-in-Passed c = record { value = laws.tried-printed c.args.block c.lines_within-joined.ensures c.args.totals.numbers c.with_run-t.ensures c.if-block-eq0.false c.verdict_of.ensures.value c.in-Passed.is c.with_printed.ensures.value; lows = λ k h. low_more (c.with_printed.ensures.lows (k + max_text) (low_run h c.lines_within-joined.result c.args.block.lookahead max_text (counting.joined_low c.args.text.now c.args.at c.args.block.lookahead c.lines_within-joined.ensures c.requires.text_len_bound.0) c.requires.text_len_bound.1.0 c.with_run-t.ensures)) (k + line_most) (omega (arith, c.requires.text_len_bound.1.1)) }
+pub returns-in-Ok : goal.returns-in-Ok
+returns-in-Ok c = record { value = laws.tried-printed c.args.block c.lines_within-joined.ensures c.args.totals.numbers c.with_run-t.ensures c.if-block-eq0.false c.verdict_of.ensures.value c.in-Ok.is c.with_printed.ensures.value; lows = λ k h. low_more (c.with_printed.ensures.lows (k + max_text) (low_run h c.lines_within-joined.result c.args.block.lookahead max_text (counting.joined_low c.args.text.now c.args.at c.args.block.lookahead c.lines_within-joined.ensures c.requires.text_len_bound.0) c.requires.text_len_bound.1.0 c.with_run-t.ensures)) (k + line_most) (omega (arith, c.requires.text_len_bound.1.1)) }
 
-pub returns-in-Refused : goal.returns-in-Refused
-returns-in-Refused c = record { value = laws.tried_refused c.args.block c.lines_within-joined.ensures c.args.totals.numbers c.with_run-t.ensures c.if-block-eq0.false c.verdict_of.ensures.value c.in-Refused.is c.with_refused.ensures; lows = λ k h. low_more (low_refused (low_run h c.lines_within-joined.result c.args.block.lookahead max_text (counting.joined_low c.args.text.now c.args.at c.args.block.lookahead c.lines_within-joined.ensures c.requires.text_len_bound.0) c.requires.text_len_bound.1.0 c.with_run-t.ensures) _ c.with_refused.ensures) (k + line_most) (omega arith) }
+pub returns-in-Err : goal.returns-in-Err
+returns-in-Err c = record { value = laws.tried_refused c.args.block c.lines_within-joined.ensures c.args.totals.numbers c.with_run-t.ensures c.if-block-eq0.false c.verdict_of.ensures.value c.in-Err.is c.with_refused.ensures; lows = λ k h. low_more (low_refused (low_run h c.lines_within-joined.result c.args.block.lookahead max_text (counting.joined_low c.args.text.now c.args.at c.args.block.lookahead c.lines_within-joined.ensures c.requires.text_len_bound.0) c.requires.text_len_bound.1.0 c.with_run-t.ensures) _ c.with_refused.ensures) (k + line_most) (omega arith) }

@@ -1,35 +1,41 @@
 use mathlib.Core.Path.{◌≡◌}
-use Prim.Native.Nat.{◌-◌}
-use lib.ListN.{length, length-map}
+use Prim.Native.Nat.{ℕ, ◌<◌}
+use lib.ListN.{length, take, length-take}
+use lib.Seq.{get_or-take}
 use native.Mathlib.Omega.{arith}
-use borrow.Author.Rules.{rules}
-use Rattle.set_table.specs.Types.{two, max_keys, max_slots}
+use Rattle.set_table.specs.Types.{max_keys, max_slots, zero_slot}
 use Rattle.sheet_valves.proofs.Keys as laws
 use Rattle.sheet_valves.proofs.key_rows.Goals as goal
+use Rattle.sheet_valves.proofs.key_rows.Goals.{in-0, in-1, in-2, in_default}
 
-pub slots-init : goal.slots-init
-slots-init c =
+pub loop-p-init : goal.loop-p-init
+loop-p-init c =
     let k : length c.args.set.keys ≡ max_keys = c.well_formed.1.1.0.1.1.1.1.1.1.1.1.0.1.0.1 in
     let o : length c.args.set.order ≡ max_slots = c.well_formed.1.1.0.1.1.1.1.1.1.1.1.1.0.1.0.1 in
     laws.walks_start _ _ k o
 
-pub returns-then-set-k : goal.returns-then-set-k
-returns-then-set-k c = laws.walks_end c.slots.invariant (omega arith)
+pub loop-p-preserved-then-i-ge-KEYS : goal.loop-p-preserved-then-i-ge-KEYS
+loop-p-preserved-then-i-ge-KEYS c =
+    let m = c.min-n.result in
+    let k : c.loop-p.p-index < m = omega (arith, length-take m c.args.set.order) in
+    let e = rw (get_or-take m c.args.set.order c.loop-p.p-index zero_slot k) at c.row_no-i.ensures in
+    laws.walks_pass c.loop-p.invariant (omega (arith, k, c.min-n.ensures)) (omega (arith, k, c.min-n.ensures)) e (omega arith)
 
-pub returns-then-k-ge-SLOTS : goal.returns-then-k-ge-SLOTS
-returns-then-k-ge-SLOTS c = laws.walks_out c.slots.invariant (omega arith)
+pub loop-p-preserved : goal.loop-p-preserved
+loop-p-preserved c =
+    let m = c.min-n.result in
+    let k : c.loop-p.p-index < m = omega (arith, length-take m c.args.set.order) in
+    let e = rw (get_or-take m c.args.set.order c.loop-p.p-index zero_slot k) at c.row_no-i.ensures in
+    let h : c.loop-p.p-index < max_slots = omega (arith, k, c.min-n.ensures) in
+    let n : c.loop-p.p-index < c.args.set.norder = omega (arith, k, c.min-n.ensures) in
+    elim c.match-key_no.branch [
+      | in-0 w ↦ rw (w.variant-is, w.wheel-is, w.valve-is) (laws.walks_variant c.loop-p.invariant h n e c.if-i-ge-KEYS.false c.key_no.ensures w.in-0.is w.earlier-variant.ensures)
+      | in-1 w ↦ rw (w.variant-is, w.wheel-is, w.valve-is) (laws.walks_wheel c.loop-p.invariant h n e c.if-i-ge-KEYS.false c.key_no.ensures w.in-1.is w.earlier-wheel.ensures)
+      | in-2 w ↦ rw (w.variant-is, w.wheel-is, w.valve-is) (laws.walks_valve c.loop-p.invariant h n e c.if-i-ge-KEYS.false c.key_no.ensures w.in-2.is w.earlier-valve.ensures)
+      | in_default w ↦
+          let o = w.in_default.in_default-own.rest in
+          rw (w.variant-is, w.wheel-is, w.valve-is) (laws.walks_other c.loop-p.invariant h n e c.if-i-ge-KEYS.false c.key_no.ensures o.0.0.1 o.0.1 o.1)
+    ]
 
-pub slots-preserved-then-i-ge-KEYS : goal.slots-preserved-then-i-ge-KEYS
-slots-preserved-then-i-ge-KEYS c = laws.walks_pass c.slots.invariant (omega arith) (omega arith) c.row_no-i.ensures (omega arith)
-
-pub slots-preserved-in-0 : goal.slots-preserved-in-0
-slots-preserved-in-0 c = laws.walks_variant c.slots.invariant (omega arith) (omega arith) c.row_no-i.ensures (omega arith) c.key_no.ensures c.in-0.is c.earlier-variant.ensures
-
-pub slots-preserved-in-1 : goal.slots-preserved-in-1
-slots-preserved-in-1 c = laws.walks_wheel c.slots.invariant (omega arith) (omega arith) c.row_no-i.ensures (omega arith) c.key_no.ensures c.in-1.is c.earlier-wheel.ensures
-
-pub slots-preserved-in-2 : goal.slots-preserved-in-2
-slots-preserved-in-2 c = laws.walks_valve c.slots.invariant (omega arith) (omega arith) c.row_no-i.ensures (omega arith) c.key_no.ensures c.in-2.is c.earlier-valve.ensures
-
-pub slots-preserved : goal.slots-preserved
-slots-preserved c = laws.walks_other c.slots.invariant (omega arith) (omega arith) c.row_no-i.ensures (omega arith) c.key_no.ensures c.in_default.in_default-own.rest.0.0.1 c.in_default.in_default-own.rest.0.1 c.in_default.in_default-own.rest.1
+pub returns : goal.returns
+returns c = laws.walks_end c.loop-p.invariant (omega (arith, c.min-n.ensures, length-take c.min-n.result c.args.set.order, length-take c.args.set.norder c.args.set.order, c.loop-p.invariant.variant.long))

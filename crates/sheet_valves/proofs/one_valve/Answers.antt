@@ -2,14 +2,14 @@ use Rattle.sheet_valves.specs.Pairs.{one_valve}
 use borrow.Author.Rules.{rules}
 use Rattle.sheet_valves.proofs.one_valve.Goals as goal
 
-pub returns-in-Unfilled : goal.returns-in-Unfilled
+pub returns-in-None : goal.returns-in-None
 unfolding one_valve
-returns-in-Unfilled c = rw (c.in-Unfilled.is)
+returns-in-None c = rw (c.in-None.is)
 
-pub returns-in-Unfilled-b : goal.returns-in-Unfilled-b
+pub returns-in-None-b : goal.returns-in-None-b
 unfolding one_valve
-returns-in-Unfilled-b c = rw (c.in-Fitted.is, c.in-Unfilled-b.is)
+returns-in-None-b c = rw (c.in-Some.is, c.in-None-b.is)
 
-pub returns-in-Fitted-b : goal.returns-in-Fitted-b
+pub returns-in-Some-b : goal.returns-in-Some-b
 unfolding one_valve
-returns-in-Fitted-b c = rw (c.in-Fitted.is, c.in-Fitted-b.is)
+returns-in-Some-b c = rw (c.in-Some.is, c.in-Some-b.is)

@@ -5,7 +5,7 @@ use borrow.Author.Rules.{rules}
 use Rattle.sheet_valves.proofs.read_setting.Goals as goal
 
 pub settle-requires : goal.settle-requires
-settle-requires c = (in_bound _ (c.value_number.ensures.value) (c.in-Is.is), in_bound _ (c.value_number-in-Is.ensures.value) (c.in-Is-value_number.is))
+settle-requires c = (in_bound _ (c.value_number.ensures.value) (c.in-Some.is), in_bound _ (c.value_number-in-Some.ensures.value) (c.in-Some-value_number.is))
 
 pub returns-in-None : goal.returns-in-None
 unfolding read_setting
@@ -13,8 +13,8 @@ returns-in-None c = rw (sym (c.value_number.ensures.value) ∙ c.in-None.is)
 
 pub returns-in-None-value_number : goal.returns-in-None-value_number
 unfolding read_setting
-returns-in-None-value_number c = rw (sym (c.value_number.ensures.value) ∙ c.in-Is.is, sym (c.value_number-in-Is.ensures.value) ∙ c.in-None-value_number.is)
+returns-in-None-value_number c = rw (sym (c.value_number.ensures.value) ∙ c.in-Some.is, sym (c.value_number-in-Some.ensures.value) ∙ c.in-None-value_number.is)
 
-pub returns-in-Is-value_number : goal.returns-in-Is-value_number
+pub returns-in-Some-value_number : goal.returns-in-Some-value_number
 unfolding read_setting
-returns-in-Is-value_number c = rw (sym (c.value_number.ensures.value) ∙ c.in-Is.is, sym (c.value_number-in-Is.ensures.value) ∙ c.in-Is-value_number.is, ← c.wheel_of.ensures) (c.settle.ensures)
+returns-in-Some-value_number c = rw (sym (c.value_number.ensures.value) ∙ c.in-Some.is, sym (c.value_number-in-Some.ensures.value) ∙ c.in-Some-value_number.is, ← c.wheel_of.ensures) (c.settle.ensures)

@@ -1,9 +1,13 @@
+use Rattle.std.proofs.lemmas.Result.{err_from_is_err_and}
 use Rattle.sheet_verdicts.proofs.Verdicts as laws
 use borrow.Author.Rules.{rules}
 use Rattle.sheet_verdicts.proofs.room_for.Goals as goal
 
-pub returns-in-Refused : goal.returns-in-Refused
-returns-in-Refused c = laws.room_none _ c.measure_set.ensures.value c.in-Refused.is
+pub returns-in_err-measure_set : goal.returns-in_err-measure_set
+returns-in_err-measure_set c =
+    let p = err_from_is_err_and c.from_residual.result c.from_residual.ensures.1 in
+    rw (p.1, p.2)
+    (laws.room_none _ c.measure_set.ensures.value c.in_err-measure_set.was)
 
-pub returns-in-Bytes : goal.returns-in-Bytes
-returns-in-Bytes c = laws.room_some _ c.measure_set.ensures.value c.in-Bytes.is
+pub returns : goal.returns
+returns c = laws.room_some _ c.measure_set.ensures.value c.in_ok-measure_set.was

@@ -1,9 +1,8 @@
-use Rattle.text_checks.proofs.Texts as texts
+use mathlib.Core.Path.{◌∙◌, ap}
+use Rattle.std.specs.Prelude.{is_ok}
+use Rattle.text_checks.proofs.Texts.{text_is}
 use borrow.Author.Rules.{rules}
 use Rattle.text_checks.proofs.is_text.Goals as goal
 
-pub returns-in-Passed : goal.returns-in-Passed
-returns-in-Passed c = texts.passed _ c.check_text.ensures.value c.in-Passed.is
-
-pub returns-in-Refused : goal.returns-in-Refused
-returns-in-Refused c = texts.refused _ c.check_text.ensures.value c.in-Refused.is
+pub returns : goal.returns
+returns c = c.is_ok.ensures.value ∙ ap is_ok c.check_text.ensures.value ∙ text_is c.args.s.now

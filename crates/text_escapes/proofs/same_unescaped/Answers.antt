@@ -16,18 +16,18 @@ pub overflow_add-k : goal.overflow_add-k
 overflow_add-k c = omega (arith, c.if-t-k.false)
 
 pub pieces-smaller : goal.pieces-smaller
-pieces-smaller c = omega (arith, byte_at c.piece_at.ensures.value c.in-Byte.is)
+pieces-smaller c = omega (arith, byte_at c.piece_at.ensures.value c.in-Some.is)
 
 pub pieces-preserved : goal.pieces-preserved
 pieces-preserved c =
-    laws.compares_go c.pieces.invariant (byte_at c.piece_at.ensures.value c.in-Byte.is) (omega (arith, c.if-t-k.false)) c.if-b-t.false
+    laws.compares_go c.pieces.invariant (byte_at c.piece_at.ensures.value c.in-Some.is) (omega (arith, c.if-t-k.false)) c.if-b-t.false
 
-pub returns-in-End : goal.returns-in-End
-returns-in-End c = laws.compares_end c.pieces.invariant (end_at c.piece_at.ensures.value c.in-End.is)
+pub returns-in-None : goal.returns-in-None
+returns-in-None c = laws.compares_end c.pieces.invariant (end_at c.piece_at.ensures.value c.in-None.is)
 
 pub returns-then-t-k : goal.returns-then-t-k
-returns-then-t-k c = laws.compares_short c.pieces.invariant (byte_at c.piece_at.ensures.value c.in-Byte.is) (omega (arith, c.if-t-k.true))
+returns-then-t-k c = laws.compares_short c.pieces.invariant (byte_at c.piece_at.ensures.value c.in-Some.is) (omega (arith, c.if-t-k.true))
 
 pub returns-then-b-t : goal.returns-then-b-t
 returns-then-b-t c =
-    laws.compares_stop c.pieces.invariant (byte_at c.piece_at.ensures.value c.in-Byte.is) (omega (arith, c.if-t-k.false)) c.if-b-t.true
+    laws.compares_stop c.pieces.invariant (byte_at c.piece_at.ensures.value c.in-Some.is) (omega (arith, c.if-t-k.false)) c.if-b-t.true

@@ -11,12 +11,12 @@ pub pieces-init : goal.pieces-init
 pieces-init c = rw c.start_tag-w.ensures (steps.pieces_start c.args.s.now)
 
 pub pieces-smaller : goal.pieces-smaller
-pieces-smaller c = let z = byte_at c.piece_at.ensures.value c.in-Byte.is in omega (arith, z.ahead, z.within)
+pieces-smaller c = let z = byte_at c.piece_at.ensures.value c.in-Some.is in omega (arith, z.ahead, z.within)
 
 pub pieces-preserved : goal.pieces-preserved
 pieces-preserved c =
-    let z = byte_at c.piece_at.ensures.value c.in-Byte.is in
+    let z = byte_at c.piece_at.ensures.value c.in-Some.is in
     rw c.step_tag-w.ensures (steps.pieces_go c.pieces.invariant z.within z.rest)
 
 pub returns : goal.returns
-returns c = c.allows_tag.ensures ∙ steps.pieces_end c.pieces.invariant (end_at c.piece_at.ensures.value c.in-End.is).rest
+returns c = c.allows_tag.ensures ∙ steps.pieces_end c.pieces.invariant (end_at c.piece_at.ensures.value c.in-None.is).rest

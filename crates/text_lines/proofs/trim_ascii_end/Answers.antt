@@ -1,20 +1,18 @@
-use mathlib.Core.Path.{sym, ◌∙◌}
-use native.Mathlib.Omega.{arith}
 use borrow.Author.Rules.{rules}
-use borrow.Author.Tests.{not-true, not-false}
+use borrow.Author.Tests.{tests}
+use Rattle.std.proofs.lemmas.Iterator.Adapters.{YieldsList-from_rev_slice}
+use Rattle.std.proofs.lemmas.Iterator.Consumers.{count_from_yields_List}
+use Rattle.std.proofs.lemmas.Iterator.Search.{YieldsList-from_take_while}
+use Rattle.base_bytes.specs.Bytes.{is_space}
 use Rattle.text_lines.proofs.Trim as laws
 use Rattle.text_lines.proofs.trim_ascii_end.Goals as goal
 
--- `trim_ascii_end` takes bytes from the end until one stays. Assumes nothing.
-
-pub loop-i-init : goal.loop-i-init
-loop-i-init c = laws.trims_start _
-
-pub returns-then-not-is_space : goal.returns-then-not-is_space
-returns-then-not-is_space c = laws.trims_stop c.loop-i.invariant (omega arith) (sym c.is_space.ensures ∙ c.if-not-is_space.true)
-
-pub loop-i-preserved : goal.loop-i-preserved
-loop-i-preserved c = laws.trims_go c.loop-i.invariant (omega arith) (sym c.is_space.ensures ∙ c.if-not-is_space.false)
+-- `trim_ascii_end` leaves out the whitespace that it counts from the end. Assumes nothing.
 
 pub returns : goal.returns
-returns c = laws.trims_end c.loop-i.invariant (omega arith)
+returns c =
+    let e =
+    count_from_yields_List c.take_while.result c.count-spaces.result c.count-spaces.ensures.ran
+    (YieldsList-from_take_while _ is_space (YieldsList-from_rev_slice c.args.s.now (cc)) (cc) (cc) (λ x b q k. search (rules, tests))) in
+    let q = laws.back_run c.args.s.now in
+    cc

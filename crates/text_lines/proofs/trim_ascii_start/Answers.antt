@@ -1,24 +1,17 @@
-use mathlib.Core.Path.{sym, ◌∙◌}
-use Prim.Native.Nat.{◌-◌}
-use native.Mathlib.Omega.{arith}
+use mathlib.Core.Path.{◌∙◌}
 use borrow.Author.Rules.{rules}
-use borrow.Author.Tests.{not-true, not-false}
-use lib.ListN.{length}
-use Rattle.base_lists.proofs.Scan as scan
-use Rattle.base_lists.proofs.Runs.{Runs, runs_start, runs_stop, runs_go, runs_end}
+use borrow.Author.Tests.{tests}
+use Rattle.std.proofs.lemmas.Iterator.{YieldsList-from_slice}
+use Rattle.std.proofs.lemmas.Iterator.Consumers.{count_from_yields_List}
+use Rattle.std.proofs.lemmas.Iterator.Search.{YieldsList-from_take_while}
 use Rattle.base_bytes.specs.Bytes.{is_space}
+use Rattle.text_lines.proofs.Trim as laws
 use Rattle.text_lines.proofs.trim_ascii_start.Goals as goal
 
 -- `trim_ascii_start` counts as `run` does. Assumes nothing.
 
-pub loop-i-init : goal.loop-i-init
-loop-i-init c = runs_start _ _
-
-pub returns-then-not-is_space : goal.returns-then-not-is_space
-returns-then-not-is_space c = runs_stop c.loop-i.invariant (omega arith) (sym c.is_space.ensures ∙ c.if-not-is_space.true)
-
-pub loop-i-preserved : goal.loop-i-preserved
-loop-i-preserved c = runs_go c.loop-i.invariant (omega arith) (sym c.is_space.ensures ∙ c.if-not-is_space.false)
-
 pub returns : goal.returns
-returns c = runs_end c.loop-i.invariant (omega arith)
+returns c =
+    count_from_yields_List c.take_while.result _ c.count.ensures.ran
+    (YieldsList-from_take_while _ is_space (YieldsList-from_slice c.args.s.now (cc)) (cc) (cc) (λ x b q k. search (rules, tests)))
+    ∙ laws.front_run c.args.s.now

@@ -1,13 +1,8 @@
 use mathlib.Core.Path.{sym, ◌∙◌}
-use Prim.Native.Nat.{◌-◌}
 use native.Mathlib.Omega.{arith}
-use borrow.Author.Rules.{rules}
-use lib.ListN.{length}
-use Rattle.base_letters.specs.Classes.{is_of}
-use Rattle.text_names.specs.Tested.{tested}
-use Rattle.text_names.specs.Computed.{tag_from, tag_passes}
 use Rattle.text_names.proofs.Tag as tag
 use Rattle.text_names.proofs.long_tag_by.Goals as goal
+use Rattle.text_names.proofs.long_tag_by.Goals.{else-b-eq45-via-then-b-eq45+else-k-ne0, else-b-eq45-via-else-b-eq45, then-is_of+else-k-eq8, else-is_of+then-b-eq45+then-k-ne0}
 
 pub loop-i-init : goal.loop-i-init
 loop-i-init c = tag.reads_start _ _
@@ -15,20 +10,19 @@ loop-i-init c = tag.reads_start _ _
 pub returns-then-k-eq8 : goal.returns-then-k-eq8
 returns-then-k-eq8 c = tag.reads_nine _ c.loop-i.invariant (omega arith) (sym c.is_of.ensures ∙ c.if-is_of.true) c.if-k-eq8.true
 
-pub overflow_add-k : goal.overflow_add-k
-overflow_add-k c = omega (arith, c.loop-i.invariant.few)
-
-pub loop-i-preserved-then-is_of : goal.loop-i-preserved-then-is_of
-loop-i-preserved-then-is_of c = tag.reads_more _ c.loop-i.invariant (omega arith) (sym c.is_of.ensures ∙ c.if-is_of.true) c.if-k-eq8.false
-
-pub returns-then-s-i-ne45 : goal.returns-then-s-i-ne45
-returns-then-s-i-ne45 c = tag.reads_other _ c.loop-i.invariant (omega arith) (sym c.is_of.ensures ∙ c.if-is_of.false) c.if-s-i-ne45.true
-
-pub returns-then-k-eq0 : goal.returns-then-k-eq0
-returns-then-k-eq0 c = tag.reads_empty _ c.loop-i.invariant (omega arith) (sym c.is_of.ensures ∙ c.if-is_of.false) c.if-k-eq0.true
+pub returns-else-b-eq45 : goal.returns-else-b-eq45
+returns-else-b-eq45 c =
+    elim c.else-b-eq45.branch [
+      | else-b-eq45-via-then-b-eq45+else-k-ne0 w ↦ tag.reads_empty _ c.loop-i.invariant (omega arith) (sym c.is_of.ensures ∙ c.if-is_of.false) w.if-k-ne0.false
+      | else-b-eq45-via-else-b-eq45 w ↦ tag.reads_other _ c.loop-i.invariant (omega arith) (sym c.is_of.ensures ∙ c.if-is_of.false) w.if-b-eq45.false
+    ]
 
 pub loop-i-preserved : goal.loop-i-preserved
-loop-i-preserved c = tag.reads_hyphen _ c.loop-i.invariant (omega arith) (sym c.is_of.ensures ∙ c.if-is_of.false) c.if-s-i-ne45.false c.if-k-eq0.false
+loop-i-preserved c =
+    elim c.if-is_of.branch [
+      | then-is_of+else-k-eq8 w ↦ rw w.k-is (tag.reads_more _ c.loop-i.invariant (omega arith) (sym c.is_of.ensures ∙ w.if-is_of.true) w.if-k-eq8.false)
+      | else-is_of+then-b-eq45+then-k-ne0 w ↦ rw w.k-is (tag.reads_hyphen _ c.loop-i.invariant (omega arith) (sym c.is_of.ensures ∙ w.if-is_of.false) w.if-b-eq45.true w.if-k-ne0.true)
+    ]
 
 pub returns : goal.returns
 returns c = c.whole_or_stops.ensures.value ∙ tag.reads_end _ c.loop-i.invariant (omega arith)

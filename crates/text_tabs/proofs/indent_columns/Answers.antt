@@ -1,22 +1,18 @@
 use mathlib.Core.Path.{refl, sym, ◌∙◌}
-use Prim.Native.Nat.{◌-◌}
-use lib.ListN.{length}
 use native.Mathlib.Omega.{arith}
-use borrow.Author.Rules.{rules}
-use borrow.Author.Tests.{not-true, not-false}
-use Rattle.text_tabs.specs.Columns.{indent_columns, capped}
+use Rattle.text_tabs.specs.Columns.{indent_columns}
 use Rattle.text_tabs.proofs.Laws as laws
 use Rattle.text_tabs.proofs.indent_columns.Goals as goal
 
-pub loop-i-init : goal.loop-i-init
+pub loop-b-init : goal.loop-b-init
 unfolding indent_columns
-loop-i-init c = record { small = omega arith; rest = refl }
+loop-b-init c = record { small = omega arith; rest = refl }
 
 pub returns-then-not-is_indent : goal.returns-then-not-is_indent
-returns-then-not-is_indent c = laws.indents_stop c.loop-i.invariant (omega arith) (sym c.is_indent.ensures ∙ c.if-not-is_indent.true)
+returns-then-not-is_indent c = laws.indents_stop c.loop-b.invariant (omega arith) (sym c.is_indent.ensures ∙ c.if-not-is_indent.true)
 
-pub loop-i-preserved : goal.loop-i-preserved
-loop-i-preserved c = laws.indents_go c.loop-i.invariant (omega arith) (sym c.is_indent.ensures ∙ c.if-not-is_indent.false) c.column_after-column.ensures
+pub loop-b-preserved : goal.loop-b-preserved
+loop-b-preserved c = laws.indents_go c.loop-b.invariant (omega arith) (sym c.is_indent.ensures ∙ c.if-not-is_indent.false) c.column_after-column.ensures
 
 pub returns : goal.returns
-returns c = laws.indents_end c.loop-i.invariant (omega arith)
+returns c = laws.indents_end c.loop-b.invariant (omega arith)

@@ -1,7 +1,5 @@
 use Rattle.text_utf8.proofs.Pieces as laws
 use native.Mathlib.Omega.{arith}
-use Prim.Native.Nat.{◌-◌, ◌≤◌}
-use Rattle.text_utf8.specs.Inner.{Judged}
 use Rattle.text_utf8.proofs.faults.Goals as goal
 
 pub loop-k-init : goal.loop-k-init

@@ -1,7 +1,4 @@
 use Rattle.text_utf8.proofs.Pieces as laws
-use native.Mathlib.Omega.{arith}
-use Prim.Native.Nat.{◌-◌}
-use Rattle.text_utf8.specs.Inner.{Lows}
 use Rattle.text_utf8.proofs.wides.Goals as goal
 
 pub loop-k-init : goal.loop-k-init

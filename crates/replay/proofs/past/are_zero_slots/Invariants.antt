@@ -1,6 +1,0 @@
-use Rattle.std.proofs.Common.{◌-◌}
-use Rattle.set_table.specs.Types.{max_slots}
-use Rattle.replay.proofs.past.are_zero_slots.Given as goal
-
-abbrev pub decreases-loop-k : goal.decreases-loop-k
-decreases-loop-k l = max_slots - l.k
