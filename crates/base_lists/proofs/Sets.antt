@@ -1,16 +1,16 @@
--- Bytes written into a list one behind the other, and as many of them copied as have room.
+-- Bytes written into a list one behind the other, and the loop that writes them.
 -- Assumes nothing.
-use mathlib.Core.Path.{◌≡◌, refl, ◌∙◌, sym, ap}
+use mathlib.Core.Path.{◌≡◌, refl, ◌∙◌}
 use mathlib.Core.Bool.{Bool, true, false}
-use mathlib.Core.List.{List, [], ◌∷◌, ◌++◌, append_assoc}
-use Prim.Native.Nat.{ℕ, suc, ◌+◌, ◌≤◌, ◌-◌, min}
+use mathlib.Core.List.{List, [], ◌∷◌, ◌++◌}
+use Prim.Native.Nat.{ℕ, suc, ◌+◌, ◌<◌, ◌≤◌, ◌-◌, min}
 use native.Mathlib.Nat.{add-zero, add-suc, suc-add}
+use native.Mathlib.Numerals.{add-one}
 use native.Mathlib.Omega.{arith}
-use lib.ListN.{length, drop, set, drop_of_length-le, length-append, length-drop, take, take-append-drop}
+use lib.ListN.{length, get_or, drop, set, length-set, drop_of_length-le, length-append, length-drop, take}
 use lib.Dec.{ltb}
 use borrow.Author.Tests.{ltb-true, ltb-false}
-use borrow.Rule.Slice.PartMut.{put_mid}
-use lib.Seq.{sets, set_out, sets-eq, length-take-le, length-sets, drop-drop, take-set-le, drop-set-lt}
+use lib.Seq.{sets, set_out, drop-cons, take-set-le, drop-set-lt}
 use Rattle.base_lists.specs.Lists.{over}
 
 pub sets-append : (l : List ℕ) (i : ℕ) (xs ys : List ℕ) → sets l i (xs ++ ys) ≡ sets (sets l i xs) (i + length xs) ys
@@ -22,23 +22,25 @@ pub sets_out : (l : List ℕ) (i : ℕ) (xs : List ℕ) → length l ≤ i → s
 sets_out l i [] h = refl
 sets_out l i (x ∷ xs) h = rw (set_out l i x h) (sets_out l (suc i) xs (omega arith))
 
-put_taken : (l : List ℕ) (at n : ℕ) (s : List ℕ) → at ≤ length l → n ≡ min (length s) (length l - at) → put_mid at n l (take n s) ≡ sets l at s
-put_taken l at n s h is =
-    let room : at + n ≤ length l = omega arith in
-    let part : length (take n s) ≡ n = length-take-le n s (omega arith) in
-    let fits : at + length (take n s) ≤ length l = omega arith in
-    let front : sets l at (take n s) ≡ put_mid at n l (take n s) = rw (sets-eq (take n s) l at fits, part, drop-drop n at l, append_assoc) in
-    let all : sets l at s ≡ sets (sets l at (take n s)) (at + n) (drop n s) =
-    ap (sets l at) (sym (take-append-drop n s)) ∙ (rw (sets-append l at (take n s) (drop n s), part)) in
-    sym (all ∙ left (ltb n (length s)) refl ∙ front)
-  where
-    left : (t : Bool) → ltb n (length s) ≡ t → sets (sets l at (take n s)) (at + n) (drop n s) ≡ sets l at (take n s)
-    left true e = sets_out (sets l at (take n s)) (at + n) (drop n s) (omega (arith, is, ltb-true, length-sets l at (take n s)))
-    left false e = rw (drop_of_length-le s {i = n} (ltb-false n (length s) e))
+-- the loop stands before byte i of s, which goes as far behind the place
+pub record Puts (buf₀ : List ℕ) (at : ℕ) (s buf : List ℕ) (i : ℕ) : Type 0 where
+  pub long : length buf ≡ length buf₀
+  pub rest : sets buf (at + i) (drop i s) ≡ sets buf₀ at s
 
--- as many of the bytes s as have room from a place on, copied there
-pub put_part : (l : List ℕ) (at n k : ℕ) (s t : List ℕ) → at ≤ length l → n ≡ min (length s) (length l - at) → k ≡ n → t ≡ take n s → put_mid at k l t ≡ sets l at s
-put_part l at n k s t h is long part = rw (long, part) (put_taken l at n s h is)
+pub puts-start : (buf : List ℕ) (at : ℕ) (s : List ℕ) → Puts buf at s buf 0
+puts-start buf at s = record { long = refl; rest = rw add-zero }
+
+module _ {buf₀ : List ℕ} {at : ℕ} {s buf : List ℕ} {i : ℕ} (inv : Puts buf₀ at s buf i) where
+  pub puts_go : i < length s → Puts buf₀ at s (set buf (at + i) (get_or s i 0)) (i + 1)
+  puts_go h = record { long = length-set buf (at + i) (get_or s i 0) ∙ inv.long; rest = rw (add-one i, add-suc) (rw (drop-cons s i 0 h) at inv.rest) }
+
+  -- it ends behind the last byte, or where the memory ends
+  pub puts_end : at < length buf₀ → i ≡ min (length s) (length buf₀ - at) → buf ≡ sets buf₀ at s
+  puts_end r e = left (ltb i (length s)) refl
+    where
+      left : (t : Bool) → ltb i (length s) ≡ t → buf ≡ sets buf₀ at s
+      left true g = rw (sets_out buf (at + i) (drop i s) (omega (arith, r, e, inv.long, ltb-true i (length s) g))) at inv.rest
+      left false g = rw (drop_of_length-le s {i = i} (ltb-false i (length s) g)) at inv.rest
 
 -- the joined text stands at its front, and the next line is written behind
 pub over_long : (xs buf : List ℕ) → length xs ≤ length buf → length (over xs buf) ≡ length buf

@@ -86,13 +86,12 @@ fn value_of(kind: Kind, from: usize, to: usize) -> Value
     }
 }
 
-// Behind the whitespace from `at` on.
+// Behind the whitespace from `at` on. The front is cut off and not skipped, since `skip` goes through it byte by byte.
 fn space_end(s: &[u8], at: usize) -> usize
     ensures { result ≡ at + run is_space (drop at s.now) }
 {
-    at + s
+    at + s[at.min(s.len())..]
         .iter()
-        .skip(at)
         .take_while(|b| base_bytes::is_space(**b))
         .count()
 }
@@ -101,9 +100,8 @@ fn space_end(s: &[u8], at: usize) -> usize
 fn piece_end(s: &[u8], at: usize) -> usize
     ensures { result ≡ at + run (λ b. not (is_space b)) (drop at s.now) }
 {
-    at + s
+    at + s[at.min(s.len())..]
         .iter()
-        .skip(at)
         .take_while(|b| !base_bytes::is_space(**b))
         .count()
 }

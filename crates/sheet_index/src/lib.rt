@@ -322,7 +322,7 @@ fn find_from<'a>(index: &'a [u8], id: &'a [u8]) -> Result<Option<(usize, usize, 
             return found;
         }
         match sheet_records::record_at(index, at) {
-            None => return Err(Refusal::NotAnIndex),
+            None => return Err(Refusal::NotAnIndex), // Behind the record found too.
             Some(e) => {
                 found = first_of(found, index, e, id);
                 at = e.next;

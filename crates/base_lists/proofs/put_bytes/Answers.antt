@@ -1,10 +1,16 @@
 use mathlib.Core.Path.{sym}
 use native.Mathlib.Omega.{arith}
-use Rattle.base_lists.proofs.Sets.{put_part, sets_out}
+use Rattle.base_lists.proofs.Sets as laws
 use Rattle.base_lists.proofs.put_bytes.Goals as goal
 
-pub returns-then-at-out : goal.returns-then-at-out
-returns-then-at-out c = put_part c.args.out.now c.args.at _ _ c.args.s.now _ (omega arith) c.min-n.ensures (omega arith) c.copy_from_slice.ensures.after
+pub loop-i-init : goal.loop-i-init
+loop-i-init c = laws.puts-start _ _ _
+
+pub loop-i-preserved : goal.loop-i-preserved
+loop-i-preserved c = laws.puts_go c.loop-i.invariant (omega arith)
+
+pub returns-after-loop-i : goal.returns-after-loop-i
+returns-after-loop-i c = laws.puts_end c.loop-i.invariant (omega arith) (omega arith)
 
 pub returns-else-at-out : goal.returns-else-at-out
-returns-else-at-out c = sym (sets_out c.args.out.now c.args.at c.args.s.now c.if-at-out.false)
+returns-else-at-out c = sym (laws.sets_out c.args.out.now c.args.at c.args.s.now c.if-at-out.false)
